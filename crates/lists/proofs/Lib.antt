@@ -1,0 +1,8 @@
+-- Laws of the words for lists, each said once, over variables.
+pub mod Cases
+pub mod Changed
+pub mod Sublists
+pub mod Places
+pub mod Blocks
+pub mod Keep
+pub mod Maps

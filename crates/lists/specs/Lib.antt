@@ -1,0 +1,2 @@
+-- Words for lists of numbers. Knows no revision, no client and no bytes.
+pub mod Lists

@@ -1,0 +1,1 @@
+// Lists of numbers, for the crates above: definitions and laws, no code.
