@@ -4,11 +4,11 @@ use mathlib.Core.Path.{_∙_, _≡_, refl, sym}
 use mathlib.Core.Logic.{_⊎_, inl, inr, ∥∥₁-elim}
 use mathlib.Core.HLevel.{⊥-prop}
 use mathlib.Core.List.{List, List·Memᴰ·append-cases, List·Memᴰ·cases-cons, List·Memᴰ·head, List·Memᴰ·not-nil, List·Memᴰ·tail, List·Nodup}
-use mathlib.Core.List.{Memᴰ·append-left, Memᴰ·append-right, Nodup·of-append-right, Sublistᴰ·cons, Sublistᴰ·cons-cons, [], _++_, _∷_}
+use mathlib.Core.List.{Memᴰ·append-left, Memᴰ·append-right, Nodup·of-append-left, Nodup·of-append-right, Sublistᴰ·cons, Sublistᴰ·cons-cons, [], _++_, _∷_}
 use mathlib.Core.List.{append-assoc, map, nodup-cons, nodup-nil}
 use Rattle.lists.proofs.Cases.{either}
 use Rattle.lists.proofs.Sublists.{nodup-apart, parts, ∈-⊑, ⊑-⊆}
-use Rattle.lists.specs.Lists.{_∈_, _⊑_, flat, flatBack}
+use Rattle.lists.specs.Lists.{Apart, _∈_, _⊑_, flat, flatBack}
 
 pub flat-++ : (f : ℕ → List ℕ) (a b : List ℕ) → flat f (a ++ b) ≡ flat f a ++ flat f b
 flat-++ f [] b = refl
@@ -96,3 +96,20 @@ flatBack-same f g (x ∷ l) h = rw (h x (List·Memᴰ·head refl), flatBack-same
 pub flatBack-map : (g : ℕ → List ℕ) (f : ℕ → ℕ) (l : List ℕ) → flatBack g (map f l) ≡ flatBack (λ x. g (f x)) l
 flatBack-map g f [] = refl
 flatBack-map g f (x ∷ l) = rw (flatBack-map g f l)
+
+pub flatBack-one : (hold : ℕ → List ℕ) (l : List ℕ) → List·Nodup (flatBack hold l) → (x z t : ℕ) → x ∈ l → z ∈ l → t ∈ hold x → t ∈ hold z → x ≡ z
+flatBack-one hold [] d x z t i j p q = absurd (List·Memᴰ·not-nil i)
+flatBack-one hold (u ∷ l) d x z t i j p q = pick (List·Memᴰ·cases-cons i) (List·Memᴰ·cases-cons j) (flatBack-one hold l (Nodup·of-append-left (hold u) d) x z t)
+  where
+    apart : Apart (flatBack hold l) (hold u)
+    apart = nodup-apart (flatBack hold l) (hold u) d
+
+    pick : (x ≡ u) ⊎ (x ∈ l) → (z ≡ u) ⊎ (z ∈ l) → (x ∈ l → z ∈ l → t ∈ hold x → t ∈ hold z → x ≡ z) → x ≡ z
+    pick (inl a) (inl b) k = a ∙ sym b
+    pick (inl a) (inr b) k = absurd (apart t (flatBack-in hold z t l b q) (rw a at p))
+    pick (inr a) (inl b) k = absurd (apart t (flatBack-in hold x t l a p) (rw b at q))
+    pick (inr a) (inr b) k = k a b p q
+
+pub flatBack-nodup : (hold : ℕ → List ℕ) (x : ℕ) (l : List ℕ) → x ∈ l → List·Nodup (flatBack hold l) → List·Nodup (hold x)
+flatBack-nodup hold x (z ∷ l) (List·Memᴰ·head q) d = rw q (Nodup·of-append-right (flatBack hold l) d)
+flatBack-nodup hold x (z ∷ l) (List·Memᴰ·tail j) d = flatBack-nodup hold x l j (Nodup·of-append-left (hold z) d)

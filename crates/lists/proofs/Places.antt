@@ -23,8 +23,8 @@ place b (x ∷ l) (List·Memᴰ·head e) = record { above = []; below = l; eq = 
 place b (x ∷ l) (List·Memᴰ·tail m) = let p = place b l m in record { above = x ∷ p .above; below = p .below; eq = ap (λ t. x ∷ t) (p .eq) }
 
 -- in a list with no duplicates, what stands before b stands in front of b's place
-pub after : {y b : ℕ} (r l : List ℕ) → List·Nodup (r ++ (b ∷ l)) → (y ∷ b ∷ []) ⊑ r ++ (b ∷ l) → y ∈ r
-after {y} {b} r l d s = let p = parts r (b ∷ l) s in go (p .one) (p .two) (p .whole) (p .fst) (p .snd)
+pub in-front : {y b : ℕ} (r l : List ℕ) → List·Nodup (r ++ (b ∷ l)) → (y ∷ b ∷ []) ⊑ r ++ (b ∷ l) → y ∈ r
+in-front {y} {b} r l d s = let p = parts r (b ∷ l) s in go (p .one) (p .two) (p .whole) (p .fst) (p .snd)
   where
     fresh : b ∈ l → ⊥
     fresh m = nodup-cons .0 (Nodup·of-append-right r d) .0 ∣ m ∣₁

@@ -1,7 +1,7 @@
 -- Ordered sublists, inclusion, lists that are apart and lists without duplicates.
 use Prim.Native.Nat.{ℕ}
 use mathlib.Core.Bool.{false, true}
-use mathlib.Core.Path.{_∙_, _≡_, ap, refl, sym}
+use mathlib.Core.Path.{_∙_, _≡_, ap, refl, subst, sym}
 use mathlib.Core.Logic.{_⊎_, inl, inr}
 use mathlib.Core.List.{List, List·Memᴰ·append-cases, List·Memᴰ·cases-cons, List·Memᴰ·head, List·Memᴰ·not-nil, List·Memᴰ·tail, List·Nodup}
 use mathlib.Core.List.{Memᴰ·append-left, Memᴰ·append-right, Memᴰ·cast, Sublistᴰ·append, Sublistᴰ·cases-cons, Sublistᴰ·cases-cons-cons}
@@ -10,7 +10,7 @@ use mathlib.Core.List.{_∷_, append-nil, nodup-append, nodup-cons}
 use lib.Dec.{eqb}
 use borrow.Author.Tests.{eqb-false, eqb-true}
 use Rattle.lists.proofs.Cases.{either, split}
-use Rattle.lists.specs.Lists.{Apart, _∈_, _⊆_, _⊑_}
+use Rattle.lists.specs.Lists.{Only, ends, keeps, drops, Apart, _∈_, _⊆_, _⊑_}
 
 pub ⊑-⊆ : {a b : List ℕ} → a ⊑ b → a ⊆ b
 ⊑-⊆ Sublistᴰ·slnil n m = m
@@ -124,3 +124,12 @@ pair-trans x y z (u ∷ l) d p q = pick (Sublistᴰ·cases-cons-cons p) (Sublist
 pub pair-self : (x : ℕ) (l : List ℕ) → List·Nodup l → (x ∷ x ∷ []) ⊑ l → ⊥
 pair-self x [] d p = List·Memᴰ·not-nil (⊑-⊆ p x (List·Memᴰ·head refl))
 pair-self x (u ∷ l) d p = either (Sublistᴰ·cases-cons-cons p) (pair-self x l (nodup-cons .0 d .1)) (λ a. nodup-cons .0 d .0 ∣ Memᴰ·cast (sym (a .0)) (⊑-⊆ (a .1) x (List·Memᴰ·head refl)) ∣₁)
+
+-- an ordered sublist of a list without duplicates, by what holds of its elements
+pub only : (P : ℕ → Type 0) {w l : List ℕ} → w ⊑ l → List·Nodup l → ((e : ℕ) → e ∈ w → P e) → ((e : ℕ) → e ∈ l → P e → e ∈ w) → Only P l w
+only P Sublistᴰ·slnil d f g = ends
+only P (Sublistᴰ·cons {a} {l₁} {l₂} s) d f g =
+    drops (λ p. nodup-cons .0 d .0 ∣ ⊑-⊆ s a (g a (List·Memᴰ·head refl) p) ∣₁) (only P s (nodup-cons .0 d .1) f (λ e i p. g e (List·Memᴰ·tail i) p))
+only P (Sublistᴰ·cons-cons {a} {b} {l₁} {l₂} q s) d f g =
+    subst (λ z. Only P (b ∷ l₂) (z ∷ l₁)) (sym q)
+    (keeps (subst P q (f a (List·Memᴰ·head refl))) (only P s (nodup-cons .0 d .1) (λ e i. f e (List·Memᴰ·tail i)) (λ e i p. either (List·Memᴰ·cases-cons (g e (List·Memᴰ·tail i) p)) (λ r. absurd (nodup-cons .0 d .0 ∣ Memᴰ·cast (sym (r ∙ q)) i ∣₁)) (λ h. h))))

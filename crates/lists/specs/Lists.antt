@@ -55,3 +55,9 @@ flatBack f (x ∷ l) = flatBack f l ++ f x
 -- a function changed at one place
 abbrev pub changed : {A : Type 0} → (ℕ → A) → ℕ → A → ℕ → A
 changed f a v x = cond (eqb x a) v (f x)
+
+-- w is l, in its order, when only that stays of which P holds
+pub data Only (P : ℕ → Type 0) : List ℕ → List ℕ → Type 0 where
+  ends : Only P [] []
+  keeps : {e : ℕ} {l w : List ℕ} → P e → Only P l w → Only P (e ∷ l) (e ∷ w)
+  drops : {e : ℕ} {l w : List ℕ} → (P e → ⊥) → Only P l w → Only P (e ∷ l) w

@@ -1,0 +1,208 @@
+-- One more vertex: how the layout follows the diagram.
+use Prim.Native.Nat.{_<_, ℕ}
+use mathlib.Core.Bool.{Bool, _||_, cond, false, false≢true, true}
+use mathlib.Core.Path.{_∙_, _≡_, ap, refl, sym}
+use mathlib.Core.Logic.{_⊎_, inl, inr}
+use mathlib.Core.Option.{Option, none, some}
+use mathlib.Core.List.{List, List·Memᴰ, List·Memᴰ·eq-of-singleton, Sublistᴰ·refl, [], _∷_}
+use native.Mathlib.Omega.{arith}
+use lib.ListN.{length}
+use lib.Dec.{eqb}
+use borrow.Author.Tests.{eqb-false, eqb-true}
+use Rattle.diagram.proofs.Arranged.Blocks.{Content, Contents}
+use Rattle.diagram.proofs.Arranged.Invariant.{Inv}
+use Rattle.diagram.proofs.Arranged.Joining.{blocks-same, carry-left}
+use Rattle.diagram.proofs.Arranged.Past.{Held}
+use Rattle.diagram.proofs.Graph.Events.{JoinOk, Joined, inh-from, inheritedEvents, inheritedStep, ownEventStep, ownEvents}
+use Rattle.diagram.proofs.Graph.Events.{view-split, viewEventStep, viewEvents}
+use Rattle.diagram.proofs.Graph.Paths.{Ordered, any-elim, any-intro, leads-new, leads-old, one-more}
+use Rattle.diagram.proofs.Graph.Tables.{tabulate-newest, tabulate-older}
+use Rattle.diagram.specs.Diagram.{Diagram, Vertex, any, fork, leads, sources}
+use Rattle.diagram.specs.Effects.{forkStep, forkVertex, tabulate}
+use Rattle.lists.proofs.Cases.{cases, either, or-cases, or-right, split}
+use Rattle.lists.proofs.Changed.{changed-other, changed-same}
+use Rattle.lists.specs.Lists.{_∈_, changed}
+
+abbrev pub contentAt : Diagram → ℕ → Content
+contentAt d x = record { inherited = inheritedEvents d x; own = ownEvents d x }
+
+abbrev pub contents : Diagram → (ℕ → ℕ) → Contents
+contents d tip x = contentAt d (tip x)
+
+abbrev reach : Diagram → Option ℕ → ℕ → Bool
+reach d none y = false
+reach d (some f) y = leads d f y
+
+-- a may join b: the fork that b started from leads to a, and b's own start (whose number is b) does not
+abbrev pub may : Diagram → (ℕ → ℕ) → ℕ → ℕ → Bool
+may d tip a b = cond (leads d b (tip a)) false (reach d (forkVertex d (tip b)) (tip a))
+
+pub record May (d : Diagram) (tip : ℕ → ℕ) (a b : ℕ) : Type 0 where
+  pub outside : leads d b (tip a) ≡ false
+  pub at : ℕ
+  pub start-of : forkVertex d (tip b) ≡ some at
+  pub leads : leads d at (tip a) ≡ true
+
+pub may-true : (d : Diagram) (tip : ℕ → ℕ) (a b : ℕ) → may d tip a b ≡ true → May d tip a b
+may-true d tip a b e = pick (split (leads d b (tip a)))
+  where
+    got : leads d b (tip a) ≡ false → (o : Option ℕ) → forkVertex d (tip b) ≡ o → reach d o (tip a) ≡ true → May d tip a b
+    got h none p q = absurd (false≢true q)
+    got h (some f) p q = record { outside = h; at = f; start-of = p; leads = q }
+
+    pick : (leads d b (tip a) ≡ true) ⊎ (leads d b (tip a) ≡ false) → May d tip a b
+    pick (inl q) = absurd (false≢true (rw q at e))
+    pick (inr q) = got q (forkVertex d (tip b)) refl (rw q at e)
+
+pub true-may : (d : Diagram) (tip : ℕ → ℕ) (a b : ℕ) → May d tip a b → may d tip a b ≡ true
+true-may d tip a b h = rw (h .outside, h .start-of) (h .leads)
+
+-- the invariant speaks only of revisions that are out, and of fewer joins as of more
+pub inv-same : (layout : List ℕ) (s t : Contents) (J K : ℕ → ℕ → Bool) → Inv layout s J → ((x : ℕ) → x ∈ layout → t x ≡ s x) → ((x y : ℕ) → x ∈ layout → y ∈ layout → K x y ≡ true → J x y ≡ true) → Inv layout t K
+inv-same layout s t J K inv e f = record {
+  distinct = inv .distinct;
+  once = rw (blocks-same s t layout e) (inv .once);
+  good = carry-left s t layout e (inv .good) .0;
+  joins = λ a b i k q. let h = inv .joins a b i k (f a b i k q) in (h .0, rw (e a i, e b k) (h .1));
+}
+
+pub held-same : (layout : List ℕ) (s t : Contents) (w : List ℕ) → ((x : ℕ) → x ∈ layout → t x ≡ s x) → Held layout s w → Held layout t w
+held-same layout s t w e h = (h .0, h .1, rw (e (h .0) (h .1)) (h .2))
+
+-- one revision goes on by a vertex
+module _ (d : Diagram) (v : Vertex) (tip : ℕ → ℕ) (bound : (x : ℕ) → tip x < length d) (b : ℕ) where
+  abbrev pub on : ℕ → ℕ
+  on = changed tip b (length d)
+
+  pub on-bound : (x : ℕ) → on x < length (v ∷ d)
+  on-bound x = cases (eqb x b) (λ e. rw e (omega arith)) (λ e. rw e (omega (arith, bound x)))
+
+  pub on-self : {A : Type 0} (step : Diagram → (ℕ → A) → Vertex → A) (z : A) → tabulate step z (v ∷ d) (on b) ≡ step d (tabulate step z d) v
+  on-self step z = rw (changed-same tip b (length d)) (tabulate-newest step z v d)
+
+  pub on-other : {A : Type 0} (step : Diagram → (ℕ → A) → Vertex → A) (z : A) (x : ℕ) → (x ≡ b → ⊥) → tabulate step z (v ∷ d) (on x) ≡ tabulate step z d (tip x)
+  on-other step z x h = rw (changed-other tip b (length d) x h) (tabulate-older step z v d (tip x) (bound x))
+
+  pub sees-on : (f : ℕ) → leads (v ∷ d) f (on b) ≡ (eqb f (length d) || any (λ p. leads d f p) (sources v))
+  sees-on f = rw (changed-same tip b (length d)) (leads-new v d f (length d) refl)
+
+  pub sees-other : (f x : ℕ) → (x ≡ b → ⊥) → leads (v ∷ d) f (on x) ≡ leads d f (tip x)
+  sees-other f x h = rw (changed-other tip b (length d) x h) (leads-old v d f (tip x) (bound x))
+
+  -- what leads to the new vertex leads to one before it, and what does not leads to none of them
+  pub sees-before : (f : ℕ) → f < length d → leads (v ∷ d) f (on b) ≡ true → (p : ℕ) × List·Memᴰ p (sources v) × (leads d f p ≡ true)
+  sees-before f h e = either (or-cases (eqb f (length d)) (any (λ p. leads d f p) (sources v)) (sym (sees-on f) ∙ e)) (λ q. let r = eqb-true f (length d) q in absurd (omega arith)) (λ q. any-elim (λ p. leads d f p) (sources v) q)
+
+  pub unseen-before : (f : ℕ) → leads (v ∷ d) f (on b) ≡ false → (p : ℕ) → List·Memᴰ p (sources v) → leads d f p ≡ false
+  unseen-before f e p i = cases (leads d f p) (λ q. absurd (false≢true (sym e ∙ sees-on f ∙ or-right (eqb f (length d)) _ (any-intro (λ p. leads d f p) p i q)))) (λ q. q)
+
+-- a vertex that changes nothing: a query, or a fork
+pub data Quiet (p : ℕ) : Vertex → Type 0 where
+  q-fork : Quiet p (fork p)
+
+quiet-box : (d : Diagram) (p : ℕ) (v : Vertex) → Quiet p v → record { inherited = inheritedStep d (inheritedEvents d) v; own = ownEventStep d (ownEvents d) v } ≡ contentAt d p
+quiet-box d p v q-fork = refl
+
+quiet-from : (d : Diagram) (p : ℕ) (v : Vertex) → Quiet p v → forkStep d (forkVertex d) v ≡ forkVertex d p
+quiet-from d p v q-fork = refl
+
+quiet-preds : (p : ℕ) (v : Vertex) → Quiet p v → sources v ≡ p ∷ []
+quiet-preds p v q-fork = refl
+
+quiet-ok : (d : Diagram) (p : ℕ) (v : Vertex) → Quiet p v → JoinOk d v
+quiet-ok d p v q-fork = tt
+
+-- what holds of a diagram as it is built: the terminals are a state of the machine
+pub record Linked (d : Diagram) (layout : List ℕ) (tip : ℕ → ℕ) : Type 0 where
+  pub ordered : Ordered d
+  pub joins-ok : Joined d
+  pub bound : (x : ℕ) → tip x < length d
+  pub ids : (x : ℕ) → x ∈ layout → x < length d
+  pub small : (x n : ℕ) → n ∈ ownEvents d x → n < length d
+  pub inv : Inv layout (contents d tip) (may d tip)
+  pub past : (x : ℕ) → x < length d → Held layout (contents d tip) (viewEvents d x)
+
+module _ (d : Diagram) (layout : List ℕ) (tip : ℕ → ℕ) (L : Linked d layout tip) (b : ℕ) (v : Vertex) (stays : forkStep d (forkVertex d) v ≡ forkVertex d (tip b)) where
+  abbrev pub next : ℕ → ℕ
+  next = on d v tip (L .bound) b
+
+  pub from-on : (y : ℕ) → forkVertex (v ∷ d) (next y) ≡ forkVertex d (tip y)
+  from-on y = cases (eqb y b) (λ e. let q = eqb-true y b e in rw q (on-self d v tip (L .bound) b forkStep none ∙ stays)) (λ e. on-other d v tip (L .bound) b forkStep none y (eqb-false y b e))
+
+  -- who may join after the step: one who might before, or b, through an edge to the new vertex
+  pub may-next : (x y : ℕ) → May (v ∷ d) next x y → May d tip x y ⊎ ((x ≡ b) × ((p : ℕ) → List·Memᴰ p (sources v) → leads d y p ≡ false) × ((p : ℕ) × List·Memᴰ p (sources v) × ((f : ℕ) × (forkVertex d (tip y) ≡ some f) × (leads d f p ≡ true))))
+  may-next x y h = pick (split (eqb x b))
+    where
+      began : forkVertex d (tip y) ≡ some (h .at)
+      began = sym (from-on y) ∙ h .start-of
+
+      pick : (eqb x b ≡ true) ⊎ (eqb x b ≡ false) → May d tip x y ⊎ ((x ≡ b) × ((p : ℕ) → List·Memᴰ p (sources v) → leads d y p ≡ false) × ((p : ℕ) × List·Memᴰ p (sources v) × ((f : ℕ) × (forkVertex d (tip y) ≡ some f) × (leads d f p ≡ true))))
+      pick (inl e) =
+          let q = eqb-true x b e in
+          let g = sees-before d v tip (L .bound) b (h .at) (inh-from (L .ordered) (tip y) (L .bound y) (h .at) began .0) (rw q at (h .leads)) in
+          inr (q, unseen-before d v tip (L .bound) b y (rw q at (h .outside)), (g .0, g .1, (h .at, began, g .2)))
+      pick (inr e) =
+          let q = eqb-false x b e in
+          inl (record { outside = sym (sees-other d v tip (L .bound) b y x q) ∙ h .outside; at = h .at; start-of = began; leads = sym (sees-other d v tip (L .bound) b (h .at) x q) ∙ h .leads })
+
+  module _ (layout′ : List ℕ) (s′ : Contents) (J′ : ℕ → ℕ → Bool) (older : (p : ℕ) → List·Memᴰ p (sources v) → p < length d) (ok : JoinOk d v) (sub : (x : ℕ) → x ∈ layout′ → x ∈ layout) (b-out : b ∈ layout′)
+      (b-box : s′ b ≡ record { inherited = inheritedStep d (inheritedEvents d) v; own = ownEventStep d (ownEvents d) v }) (other : (x : ℕ) → x ∈ layout′ → (x ≡ b → ⊥) → s′ x ≡ contents d tip x)
+      (inv′ : Inv layout′ s′ J′) (J-ok : (x y : ℕ) → x ∈ layout′ → y ∈ layout′ → May (v ∷ d) next x y → J′ x y ≡ true) (held : (w : List ℕ) → Held layout (contents d tip) w → Held layout′ s′ w)
+      (few : (n : ℕ) → n ∈ ownEventStep d (ownEvents d) v → n < length (v ∷ d)) where
+    same-box : (x : ℕ) → x ∈ layout′ → contents (v ∷ d) next x ≡ s′ x
+    same-box x i = cases (eqb x b) (λ e. let q = eqb-true x b e in rw (q, b-box, on-self d v tip (L .bound) b inheritedStep [], on-self d v tip (L .bound) b ownEventStep [])) (λ e. let q = eqb-false x b e in rw (other x i q, on-other d v tip (L .bound) b inheritedStep [] x q, on-other d v tip (L .bound) b ownEventStep [] x q))
+
+    small′ : (x n : ℕ) → n ∈ ownEvents (v ∷ d) x → n < length (v ∷ d)
+    unfolding tabulate
+    small′ x n i = cases (eqb x (length d)) (λ e. few n (rw e at i)) (λ e. omega (arith, L .small x n (rw e at i)))
+
+    past′ : (x : ℕ) → x < length (v ∷ d) → Held layout′ (contents (v ∷ d) next) (viewEvents (v ∷ d) x)
+    past′ x h = pick (split (eqb x (length d)))
+      where
+        pick : (eqb x (length d) ≡ true) ⊎ (eqb x (length d) ≡ false) → Held layout′ (contents (v ∷ d) next) (viewEvents (v ∷ d) x)
+        pick (inl e) =
+            let q : next b ≡ x = changed-same tip b (length d) ∙ sym (eqb-true x (length d) e) in
+            let o : Ordered (v ∷ d) = one-more older (L .ordered) in
+            (b, b-out, rw (q, view-split o x h) (Sublistᴰ·refl _))
+        pick (inr e) =
+            let q = eqb-false x (length d) e in
+            let l : x < length d = omega arith in
+            held-same layout′ s′ (contents (v ∷ d) next) _ same-box (rw (tabulate-older viewEventStep [] v d x l) (held _ (L .past x l)))
+
+    pub advance : Linked (v ∷ d) layout′ next
+    advance = record {
+      ordered = one-more older (L .ordered);
+      joins-ok = (ok, L .joins-ok);
+      bound = on-bound d v tip (L .bound) b;
+      ids = λ x i. omega (arith, L .ids x (sub x i));
+      small = small′;
+      inv = inv-same layout′ s′ (contents (v ∷ d) next) J′ (may (v ∷ d) next) inv′ same-box (λ x y i k e. J-ok x y i k (may-true (v ∷ d) next x y e));
+      past = past′;
+    }
+
+-- a step with one edge, from where b was
+module _ (d : Diagram) (layout : List ℕ) (tip : ℕ → ℕ) (L : Linked d layout tip) (b : ℕ) (b-in : b ∈ layout) (v : Vertex) (stays : forkStep d (forkVertex d) v ≡ forkVertex d (tip b)) (edge : sources v ≡ tip b ∷ []) where
+  pub one-edge : (p : ℕ) → List·Memᴰ p (sources v) → p ≡ tip b
+  one-edge p i = List·Memᴰ·eq-of-singleton (rw edge at i)
+
+  pub one-older : (p : ℕ) → List·Memᴰ p (sources v) → p < length d
+  one-older p i = rw (one-edge p i) (L .bound b)
+
+  pub one-may : (x y : ℕ) → x ∈ layout → y ∈ layout → May (v ∷ d) (next d layout tip L b v stays) x y → may d tip x y ≡ true
+  one-may x y i k h = pick (may-next d layout tip L b v stays x y h)
+    where
+      pick : May d tip x y ⊎ ((x ≡ b) × ((p : ℕ) → List·Memᴰ p (sources v) → leads d y p ≡ false) × ((p : ℕ) × List·Memᴰ p (sources v) × ((f : ℕ) × (forkVertex d (tip y) ≡ some f) × (leads d f p ≡ true)))) → may d tip x y ≡ true
+      pick (inl m) = true-may d tip x y m
+      pick (inr m) =
+          let t = m .2 in
+          let e : t .0 ≡ tip x = one-edge (t .0) (t .1) ∙ ap tip (sym (m .0)) in
+          true-may d tip x y (record { outside = rw e at (m .1 (t .0) (t .1)); at = t .2 .0; start-of = t .2 .1; leads = rw e at (t .2 .2) })
+
+-- a query, or a fork
+pub linked-quiet : (d : Diagram) (layout : List ℕ) (tip : ℕ → ℕ) → Linked d layout tip → (b : ℕ) → b ∈ layout → (v : Vertex) → Quiet (tip b) v → Linked (v ∷ d) layout (changed tip b (length d))
+linked-quiet d layout tip L b i v q =
+    advance d layout tip L b v (quiet-from d (tip b) v q) layout (contents d tip) (may d tip) (one-older d layout tip L b i v (quiet-from d (tip b) v q) (quiet-preds (tip b) v q)) (quiet-ok d (tip b) v q) (λ x k. k) i
+    (sym (quiet-box d (tip b) v q)) (λ x k h. refl) (L .inv) (one-may d layout tip L b i v (quiet-from d (tip b) v q) (quiet-preds (tip b) v q)) (λ w h. h) (quiet-few v q)
+  where
+    quiet-few : (v : Vertex) → Quiet (tip b) v → (n : ℕ) → n ∈ ownEventStep d (ownEvents d) v → n < length (v ∷ d)
+    quiet-few v q-fork n k = omega (arith, L .small (tip b) n k)

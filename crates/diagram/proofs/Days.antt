@@ -1,0 +1,9 @@
+-- The day after every run of accepted steps: its diagram has a layout, and its transactions are whole.
+pub mod Moves
+pub mod Real
+pub mod Sound
+pub mod Outside
+pub mod Entering
+pub mod Yielding
+pub mod Forking
+pub mod Joining

@@ -1,0 +1,382 @@
+-- An event keeps the day sound.
+use Prim.Native.Nat.{_<_, _≤_, suc, ℕ}
+use mathlib.Core.Bool.{Bool, cond, false, false≢true, true}
+use mathlib.Core.Path.{_∙_, _≡_, ap, refl, subst, sym}
+use mathlib.Core.Logic.{_⊎_, inl, inr}
+use mathlib.Core.Option.{Option, none, some}
+use mathlib.Core.List.{List, List·Memᴰ·append-cases, List·Memᴰ·eq-of-singleton, List·Memᴰ·head, List·Memᴰ·not-nil, Memᴰ·append-left}
+use mathlib.Core.List.{Memᴰ·append-right, Memᴰ·cast, [], _++_, _∷_, append-assoc, append-nil}
+use native.Mathlib.Omega.{arith}
+use lib.ListN.{length}
+use lib.Dec.{eqb}
+use borrow.Author.Tests.{eq-eqb, eqb-false, eqb-true}
+use Rattle.diagram.proofs.Days.Moves.{CanEnter}
+use Rattle.diagram.proofs.Days.Real.{real-enter}
+use Rattle.diagram.proofs.Days.Sound.{Filed, Runs, Seal, Sessions, Sound, Whole, ev-low, leads-low, link, order-once, some≢none}
+use Rattle.diagram.proofs.Graph.Events.{ownEventStep, ownEvents}
+use Rattle.diagram.proofs.Graph.Paths.{leads-down, leads-newest, leads-old, leads-start, leads-trans, leads-up}
+use Rattle.diagram.proofs.Graph.Tables.{tabulate-newest, tabulate-older}
+use Rattle.diagram.specs.Arbitration.{eventsOf}
+use Rattle.diagram.specs.Day.{Day, IsOut, Transaction}
+use Rattle.diagram.specs.Diagram.{Diagram, Vertex, event, leads}
+use Rattle.diagram.specs.Steps.{countedWith, enter, entersInto, eventsBefore}
+use Rattle.lists.proofs.Blocks.{flat-++, flat-same, flatBack-nodup, flatBack-one}
+use Rattle.lists.proofs.Cases.{cases, either, split}
+use Rattle.lists.proofs.Changed.{changed-other, changed-same}
+use Rattle.lists.proofs.Sublists.{mem?, nodup-apart}
+use Rattle.lists.specs.Lists.{_∈_, changed, flat}
+
+module _ (y : Day) (layout : List ℕ) (at : ℕ → ℕ) (hold : ℕ → List ℕ) (S : Sound y layout at hold) (c r : ℕ) (u : Bool) (E : CanEnter y c r) where
+  abbrev d : Diagram
+  d = y .diagram
+
+  abbrev b : ℕ
+  b = y .startOf r
+
+  b-in : b ∈ layout
+  b-in = S .real .out r (E .out) .0
+
+  tip-low : y .terminal r < length d
+  tip-low = S .real .term-bound r (E .out .0)
+
+  -- an event of c's leads to where c goes on
+  mine-sees : (t e : ℕ) → t < y .transactions → y .transaction t .client ≡ c → e ∈ eventsOf y t → leads d e (y .terminal r) ≡ true
+  mine-sees t e h q i =
+      let l = S .sessions .last-sees t e h i in
+      leads-trans (link y layout at hold S .ordered) e (l .0) (y .terminal r) (l .2) (E .caught-up (l .0) (rw q at (l .1)))
+
+  -- where the event goes: into the open transaction, or into a new one
+  record Entry (o : Option ℕ) : Type 0 where
+    init : List ℕ
+    block : ownEvents d (y .terminal r) ≡ flat (eventsOf y) init ++ eventsBefore y o
+    not-init : entersInto y o ∈ init → ⊥
+    not-other : (x : ℕ) → x ∈ layout → (x ≡ b → ⊥) → entersInto y o ∈ hold x → ⊥
+    init-in : (s : ℕ) → s ∈ init → s ∈ hold b
+    held : (s : ℕ) → s ∈ hold b → (s ∈ init) ⊎ (s ≡ entersInto y o)
+    known : entersInto y o < countedWith y o
+    more : y .transactions ≤ countedWith y o
+    fewer : (s : ℕ) → s < countedWith y o → (s ≡ entersInto y o → ⊥) → s < y .transactions
+    lone : (a s : ℕ) → y .openBy a ≡ some s → (a ≡ c → ⊥) → s ≡ entersInto y o → ⊥
+    mine : (s : ℕ) → y .openBy c ≡ some s → s ≡ entersInto y o
+    before-sees : (e : ℕ) → e ∈ eventsBefore y o → leads d e (y .terminal r) ≡ true
+    before-later : (s e f : ℕ) → s < entersInto y o → y .transaction s .client ≡ c → e ∈ eventsOf y s → f ∈ eventsBefore y o → leads d e f ≡ true
+    before-low : (e : ℕ) → e ∈ eventsBefore y o → e < length d
+    quiet : (x e : ℕ) → x < length d → (x ∈ eventsBefore y o → ⊥) → e ∈ eventsBefore y o → leads d e x ≡ true → ⊥
+    tips : (s : ℕ) → IsOut y s → (s ≡ r → ⊥) → y .terminal s ∈ eventsBefore y o → ⊥
+    latest : (s : ℕ) → entersInto y o < s → s < y .transactions → y .transaction s .client ≡ c → ⊥
+
+  own-b : ownEvents d (y .terminal r) ≡ flat (eventsOf y) (hold b)
+  own-b = subst (λ z. ownEvents d z ≡ flat (eventsOf y) (hold b)) (S .real .out r (E .out) .1) (S .filed .blocks-ok b b-in)
+
+  facts : (o : Option ℕ) → y .openBy c ≡ o → Entry o
+  facts none q = record {
+    init = hold b;
+    block = own-b ∙ sym (append-nil (flat (eventsOf y) (hold b)));
+    not-init = λ i. omega (arith, S .filed .low b (y .transactions) b-in i);
+    not-other = λ x j n i. omega (arith, S .filed .low x (y .transactions) j i);
+    init-in = λ s i. i;
+    held = λ s i. inl i;
+    known = omega arith;
+    more = omega arith;
+    fewer = λ s h n. omega arith;
+    lone = λ a s e n k. omega (arith, S .runs a s e .known);
+    mine = λ s e. absurd (some≢none (y .openBy c) e q);
+    before-sees = λ e i. absurd (List·Memᴰ·not-nil i);
+    before-later = λ s e f l k i j. absurd (List·Memᴰ·not-nil j);
+    before-low = λ e i. absurd (List·Memᴰ·not-nil i);
+    quiet = λ x e h n i k. List·Memᴰ·not-nil i;
+    tips = λ s o n i. List·Memᴰ·not-nil i;
+    latest = λ s l k e. omega arith;
+  }
+  facts (some t) q = record {
+    init = R .at-end .0;
+    block = own-b ∙ ap (flat (eventsOf y)) ends ∙ flat-++ (eventsOf y) (R .at-end .0) (t ∷ []) ∙ ap (λ z. flat (eventsOf y) (R .at-end .0) ++ z) (append-nil (eventsOf y t));
+    not-init = λ i. nodup-apart (R .at-end .0) (t ∷ []) (rw ends at (flatBack-nodup hold b layout b-in (order-once y layout at hold S))) t i (List·Memᴰ·head refl);
+    not-other = λ x j n i. n (flatBack-one hold layout (order-once y layout at hold S) x b t j b-in i (rw ends (Memᴰ·append-right (R .at-end .0) (List·Memᴰ·head refl))));
+    init-in = λ s i. rw ends (Memᴰ·append-left (t ∷ []) i);
+    held = λ s i. either (List·Memᴰ·append-cases (R .at-end .0) (rw ends at i)) (λ j. inl j) (λ j. inr (List·Memᴰ·eq-of-singleton j));
+    known = R .known;
+    more = omega arith;
+    fewer = λ s h n. h;
+    lone = λ a s e n k. n (sym (S .runs a s e .client) ∙ ap (λ z. y .transaction z .client) k ∙ R .client);
+    mine = λ s e. let z : s ≡ t = cc in z;
+    before-sees = λ e i. mine-sees t e (R .known) (R .client) i;
+    before-later = λ s e f l k i j. S .sessions .later s t e f l (R .known) (k ∙ sym (R .client)) i j;
+    before-low = λ e i. ev-low y layout at hold S t e (R .known) i;
+    quiet = λ x e h n i k. some≢none (y .transaction t .closed) (S .whole .outside t x e (R .known) h n i k .is) (R .unshut);
+    tips = λ s o n i. n (sym (S .whole .own-revision s t o (R .known) i (R .unshut)) ∙ E .same-revision t q);
+    latest = λ s l k e. R .latest s l k e;
+  }
+    where
+      R : Runs y hold c t
+      R = S .runs c t q
+
+      ends : hold b ≡ R .at-end .0 ++ (t ∷ [])
+      ends = subst (λ z. hold (y .startOf z) ≡ R .at-end .0 ++ (t ∷ [])) (E .same-revision t q) (R .at-end .1)
+
+  abbrev o : Option ℕ
+  o = y .openBy c
+
+  X : Entry o
+  X = facts o refl
+
+  abbrev t0 : ℕ
+  t0 = entersInto y o
+
+  abbrev x0 : ℕ
+  x0 = length d
+
+  abbrev k0 : Option ℕ
+  k0 = cond u (some (y .updates)) none
+
+  abbrev v : Vertex
+  v = event (y .terminal r) c k0
+
+  abbrev y′ : Day
+  y′ = enter y c r u
+
+  abbrev at′ : ℕ → ℕ
+  at′ = changed at b x0
+
+  abbrev hold′ : ℕ → List ℕ
+  hold′ = changed hold b (X .init ++ (t0 ∷ []))
+
+  abbrev T0 : Transaction
+  T0 = record { client = c; revision = r; events = eventsBefore y o ++ (x0 ∷ []); closed = none }
+
+  w-new : y′ .transaction t0 ≡ T0
+  w-new = changed-same (y .transaction) t0 T0
+
+  w-old : (t : ℕ) → (t ≡ t0 → ⊥) → y′ .transaction t ≡ y .transaction t
+  w-old t n = changed-other (y .transaction) t0 T0 t n
+
+  e-new : eventsOf y′ t0 ≡ eventsBefore y o ++ (x0 ∷ [])
+  e-new = ap (λ w. w .events) w-new
+
+  e-old : (t : ℕ) → (t ≡ t0 → ⊥) → eventsOf y′ t ≡ eventsOf y t
+  e-old t n = ap (λ w. w .events) (w-old t n)
+
+  -- one of the transactions: the event's own, or an old one
+  side : (t : ℕ) → t < y′ .transactions → (t ≡ t0) ⊎ ((t ≡ t0 → ⊥) × (t < y .transactions))
+  side t h = cases (eqb t t0) (λ e. inl (eqb-true t t0 e)) (λ e. inr (eqb-false t t0 e, X .fewer t h (eqb-false t t0 e)))
+
+  new-cases : (e : ℕ) → e ∈ eventsOf y′ t0 → (e ∈ eventsBefore y o) ⊎ (e ≡ x0)
+  new-cases e i = either (List·Memᴰ·append-cases (eventsBefore y o) (rw e-new at i)) (λ j. inl j) (λ j. inr (List·Memᴰ·eq-of-singleton j))
+
+  up : (e : ℕ) → leads d e (y .terminal r) ≡ true → leads (v ∷ d) e x0 ≡ true
+  up e h = leads-up v d e (y .terminal r) (List·Memᴰ·head refl) h
+
+  old-sees : (e x : ℕ) → x < length d → leads d e x ≡ true → leads (v ∷ d) e x ≡ true
+  old-sees e x h q = leads-old v d e x h ∙ q
+
+  filed′ : Filed y′ layout at′ hold′
+  filed′ = record { blocks-ok = blocks′; all = all′; low = low′; first = first′ }
+    where
+      other : (x : ℕ) → x ∈ layout → (x ≡ b → ⊥) → ownEvents (v ∷ d) (at′ x) ≡ flat (eventsOf y′) (hold′ x)
+      other x i n =
+          rw (changed-other at b x0 x n, changed-other hold b (X .init ++ (t0 ∷ [])) x n, tabulate-older ownEventStep [] v d (at x) (link y layout at hold S .bound x))
+          (S .filed .blocks-ok x i ∙ flat-same (eventsOf y) (eventsOf y′) (hold x) (λ t j. sym (e-old t (λ q. X .not-other x i n (Memᴰ·cast (sym q) j)))))
+
+      this : ownEvents (v ∷ d) x0 ≡ flat (eventsOf y′) (X .init ++ (t0 ∷ []))
+      this =
+          tabulate-newest ownEventStep [] v d ∙ ap (λ z. z ++ (x0 ∷ [])) (X .block) ∙ append-assoc (flat (eventsOf y) (X .init)) (eventsBefore y o) (x0 ∷ [])
+          ∙ ap (λ z. z ++ (eventsBefore y o ++ (x0 ∷ []))) (flat-same (eventsOf y) (eventsOf y′) (X .init) (λ t j. sym (e-old t (λ q. X .not-init (Memᴰ·cast (sym q) j)))))
+          ∙ ap (λ z. flat (eventsOf y′) (X .init) ++ z) (sym e-new ∙ sym (append-nil (eventsOf y′ t0)))
+          ∙ sym (flat-++ (eventsOf y′) (X .init) (t0 ∷ []))
+
+      blocks′ : (x : ℕ) → x ∈ layout → ownEvents (v ∷ d) (at′ x) ≡ flat (eventsOf y′) (hold′ x)
+      blocks′ x i = cases (eqb x b) (λ e. rw e this) (λ e. other x i (eqb-false x b e))
+
+      all′ : (t : ℕ) → t < y′ .transactions → (x : ℕ) × (x ∈ layout) × (t ∈ hold′ x)
+      all′ t h = pick (side t h)
+        where
+          keep : (t ≡ t0 → ⊥) → (x : ℕ) → x ∈ layout → t ∈ hold x → t ∈ hold′ x
+          keep n x i j = cases (eqb x b) (λ e. rw e (either (X .held t (rw (eqb-true x b e) at j)) (λ k. Memᴰ·append-left (t0 ∷ []) k) (λ k. absurd (n k)))) (λ e. rw e j)
+
+          pick : (t ≡ t0) ⊎ ((t ≡ t0 → ⊥) × (t < y .transactions)) → (x : ℕ) × (x ∈ layout) × (t ∈ hold′ x)
+          pick (inl e) = (b, b-in, rw (changed-same hold b (X .init ++ (t0 ∷ []))) (Memᴰ·append-right (X .init) (List·Memᴰ·head e)))
+          pick (inr p) = let q = S .filed .all t (p .1) in (q .0, q .1, keep (p .0) (q .0) (q .1) (q .2))
+
+      low′ : (x t : ℕ) → x ∈ layout → t ∈ hold′ x → t < y′ .transactions
+      low′ x t i j = pick (split (eqb x b))
+        where
+          more : t < y .transactions → t < countedWith y o
+          more h = omega (arith, X .more)
+
+          pick : (eqb x b ≡ true) ⊎ (eqb x b ≡ false) → t < countedWith y o
+          pick (inl e) = either (List·Memᴰ·append-cases (X .init) (rw e at j)) (λ k. more (S .filed .low b t b-in (X .init-in t k))) (λ k. rw (List·Memᴰ·eq-of-singleton k) (X .known))
+          pick (inr e) = more (S .filed .low x t i (rw e at j))
+
+      first′ : (t : ℕ) → t < y′ .transactions → (e : ℕ) × (e ∈ eventsOf y′ t)
+      first′ t h = pick (side t h)
+        where
+          pick : (t ≡ t0) ⊎ ((t ≡ t0 → ⊥) × (t < y .transactions)) → (e : ℕ) × (e ∈ eventsOf y′ t)
+          pick (inl e) = (x0, rw (e, e-new) (Memᴰ·append-right (eventsBefore y o) (List·Memᴰ·head refl)))
+          pick (inr p) = let q = S .filed .first t (p .1) in (q .0, rw (e-old t (p .0)) (q .1))
+
+  runs′ : (a s : ℕ) → y′ .openBy a ≡ some s → Runs y′ hold′ a s
+  runs′ a s q = pick (split (eqb a c))
+    where
+      same : a ≡ c → s ≡ t0 → Runs y′ hold′ a s
+      same e f = record {
+        known = rw f (X .known);
+        client = rw (f, w-new) (sym e);
+        unshut = rw (f, w-new);
+        client-ok = rw e (E .client-ok);
+        out = rw (f, w-new) (E .out);
+        last-is = rw (f, w-new, e, changed-same (y .lastEvent) c (some x0), changed-same (y .terminal) r x0);
+        last-in = rw (f, w-new, e-new, changed-same (y .terminal) r x0) (Memᴰ·append-right (eventsBefore y o) (List·Memᴰ·head refl));
+        at-end = (X .init, rw (f, w-new, changed-same hold b (X .init ++ (t0 ∷ []))));
+        latest = λ z l h g. either (side z h) (λ k. omega arith) (λ k. X .latest z (rw f at l) (k .1) (subst (λ w. w .client ≡ c) (w-old z (k .0)) (g ∙ e)));
+      }
+
+      differ : (a ≡ c → ⊥) → y .openBy a ≡ some s → Runs y′ hold′ a s
+      differ n p = record {
+        known = omega (arith, R .known, X .more);
+        client = rw w (R .client);
+        unshut = rw w (R .unshut);
+        client-ok = R .client-ok;
+        out = rw w (R .out);
+        last-is = rw (w, changed-other (y .lastEvent) c (some x0) a n, changed-other (y .terminal) r x0 bx far) (R .last-is);
+        last-in = rw (w, e-old s (X .lone a s p n), changed-other (y .terminal) r x0 bx far) (R .last-in);
+        at-end = (R .at-end .0, rw (w, changed-other hold b (X .init ++ (t0 ∷ [])) (y .startOf bx) (λ e. far (S .real .inj bx r (R .out .0) (E .out .0) e))) (R .at-end .1));
+        latest = λ z l h g. either (side z h) (λ k. n (sym g ∙ ap (λ i. y′ .transaction i .client) k ∙ ap (λ i. i .client) w-new)) (λ k. R .latest z l (k .1) (subst (λ i. i .client ≡ a) (w-old z (k .0)) g));
+      }
+        where
+          R : Runs y hold a s
+          R = S .runs a s p
+
+          bx : ℕ
+          bx = y .transaction s .revision
+
+          w : y′ .transaction s ≡ y .transaction s
+          w = w-old s (X .lone a s p n)
+
+          far : bx ≡ r → ⊥
+          far e = false≢true (sym (rw p at (E .idle a (R .client-ok) n)) ∙ eq-eqb bx r e)
+
+      pick : (eqb a c ≡ true) ⊎ (eqb a c ≡ false) → Runs y′ hold′ a s
+      pick (inl e) = let p : some t0 ≡ some s = rw e at q in let f : s ≡ t0 = cc in same (eqb-true a c e) f
+      pick (inr e) = differ (eqb-false a c e) (rw e at q)
+
+  unshut′ : (t : ℕ) → t < y′ .transactions → y′ .transaction t .closed ≡ none → y′ .openBy (y′ .transaction t .client) ≡ some t
+  unshut′ t h q = pick (side t h)
+    where
+      pick : (t ≡ t0) ⊎ ((t ≡ t0 → ⊥) × (t < y .transactions)) → y′ .openBy (y′ .transaction t .client) ≡ some t
+      pick (inl e) = rw (e, w-new) (changed-same (y .openBy) c (some t0))
+      pick (inr p) =
+          let w = w-old t (p .0) in
+          let f : y .openBy (y .transaction t .client) ≡ some t = S .unshut t (p .1) (rw w at q) in
+          rw w (changed-other (y .openBy) c (some t0) (y .transaction t .client) (λ e. p .0 (X .mine t (subst (λ z. y .openBy z ≡ some t) e f))) ∙ f)
+
+  sessions′ : Sessions y′
+  sessions′ = record { last-low = last-low′; last-sees = last′; later = later′ }
+    where
+      last-low′ : (a l : ℕ) → changed (y .lastEvent) c (some x0) a ≡ some l → l < suc (length d)
+      last-low′ a l q = cases (eqb a c) (λ e. let p : some x0 ≡ some l = rw e at q in let z : x0 ≡ l = cc in omega arith) (λ e. omega (arith, S .sessions .last-low a l (rw e at q)))
+
+      last-c : (a e : ℕ) → a ≡ c → leads (v ∷ d) e x0 ≡ true → (l : ℕ) × (changed (y .lastEvent) c (some x0) a ≡ some l) × (leads (v ∷ d) e l ≡ true)
+      last-c a e q h = (x0, rw q (changed-same (y .lastEvent) c (some x0)), h)
+
+      last-old : (t e : ℕ) → t < y .transactions → e ∈ eventsOf y t → (l : ℕ) × (changed (y .lastEvent) c (some x0) (y .transaction t .client) ≡ some l) × (leads (v ∷ d) e l ≡ true)
+      last-old t e h i = pick (split (eqb (y .transaction t .client) c))
+        where
+          pick : (eqb (y .transaction t .client) c ≡ true) ⊎ (eqb (y .transaction t .client) c ≡ false) → (l : ℕ) × (changed (y .lastEvent) c (some x0) (y .transaction t .client) ≡ some l) × (leads (v ∷ d) e l ≡ true)
+          pick (inl q) = let g = eqb-true (y .transaction t .client) c q in last-c (y .transaction t .client) e g (up e (mine-sees t e h g i))
+          pick (inr q) = let l = S .sessions .last-sees t e h i in (l .0, rw q (l .1), old-sees e (l .0) (leads-low y layout at hold S e (l .0) (l .2)) (l .2))
+
+      last′ : (t e : ℕ) → t < y′ .transactions → e ∈ eventsOf y′ t → (l : ℕ) × (y′ .lastEvent (y′ .transaction t .client) ≡ some l) × (leads (v ∷ d) e l ≡ true)
+      last′ t e h i = pick (side t h)
+        where
+          pick : (t ≡ t0) ⊎ ((t ≡ t0 → ⊥) × (t < y .transactions)) → (l : ℕ) × (y′ .lastEvent (y′ .transaction t .client) ≡ some l) × (leads (v ∷ d) e l ≡ true)
+          pick (inl q) = last-c (y′ .transaction t .client) e (ap (λ z. y′ .transaction z .client) q ∙ ap (λ w. w .client) w-new) (either (new-cases e (subst (λ z. e ∈ eventsOf y′ z) q i)) (λ j. up e (X .before-sees e j)) (λ j. rw j (leads-newest v d)))
+          pick (inr p) = rw (w-old t (p .0)) (last-old t e (p .1) (rw (e-old t (p .0)) at i))
+
+      later′ : (s t e f : ℕ) → s < t → t < y′ .transactions → y′ .transaction s .client ≡ y′ .transaction t .client → e ∈ eventsOf y′ s → f ∈ eventsOf y′ t → leads (v ∷ d) e f ≡ true
+      later′ s t e f l h q i j = pick (side s (omega arith)) (side t h)
+        where
+          to-new : (s ≡ t0 → ⊥) → s < y .transactions → t ≡ t0 → leads (v ∷ d) e f ≡ true
+          to-new n hs g =
+              let qc : y .transaction s .client ≡ c = sym (ap (λ w. w .client) (w-old s n)) ∙ q ∙ ap (λ z. y′ .transaction z .client) g ∙ ap (λ w. w .client) w-new in
+              let ie : e ∈ eventsOf y s = rw (e-old s n) at i in
+              either (new-cases f (subst (λ z. f ∈ eventsOf y′ z) g j)) (λ k. old-sees e f (X .before-low f k) (X .before-later s e f (rw g at l) qc ie k)) (λ k. rw k (up e (mine-sees s e hs qc ie)))
+
+          pick : (s ≡ t0) ⊎ ((s ≡ t0 → ⊥) × (s < y .transactions)) → (t ≡ t0) ⊎ ((t ≡ t0 → ⊥) × (t < y .transactions)) → leads (v ∷ d) e f ≡ true
+          pick (inl a) (inl g) = absurd (omega arith)
+          pick (inl a) (inr g) = absurd (X .latest t (rw a at l) (g .1) (sym (ap (λ w. w .client) (w-old t (g .0))) ∙ sym q ∙ ap (λ z. y′ .transaction z .client) a ∙ ap (λ w. w .client) w-new))
+          pick (inr a) (inl g) = to-new (a .0) (a .1) g
+          pick (inr a) (inr g) =
+              let jf : f ∈ eventsOf y t = rw (e-old t (g .0)) at j in
+              old-sees e f (ev-low y layout at hold S t f (g .1) jf) (S .sessions .later s t e f l (g .1) (sym (ap (λ w. w .client) (w-old s (a .0))) ∙ q ∙ ap (λ w. w .client) (w-old t (g .0))) (rw (e-old s (a .0)) at i) jf)
+
+  whole′ : Whole y′
+  whole′ = record { outside = outside′; at-tip = tip′; own-revision = own′; closed-low = closed′ }
+    where
+      raise : (t x z : ℕ) → (t ≡ t0 → ⊥) → Seal d (y .transaction t) x → x ≤ z → ((e : ℕ) → leads d e x ≡ true → leads (v ∷ d) e z ≡ true) → Seal (v ∷ d) (y′ .transaction t) z
+      raise t x z n s h f = record { at = s .at; is = rw (w-old t n) (s .is); before = omega (arith, s .before); whole = λ e i. f e (s .whole e (rw (e-old t n) at i)) }
+
+      -- of another transaction whose event is the line end of r, the yield came
+      closedNow : (t : ℕ) → (t ≡ t0 → ⊥) → t < y .transactions → y .terminal r ∈ eventsOf y t → (q : Option ℕ) → y .transaction t .closed ≡ q → Seal (v ∷ d) (y′ .transaction t) x0
+      closedNow t n h i none q =
+          let bx = S .whole .own-revision r t (E .out) h i q in
+          let f = S .unshut t h q in
+          absurd (cases (eqb (y .transaction t .client) c) (λ e. n (X .mine t (subst (λ z. y .openBy z ≡ some t) (eqb-true _ c e) f))) (λ e. false≢true (sym (rw f at (E .idle (y .transaction t .client) (S .runs _ t f .client-ok) (eqb-false _ c e))) ∙ eq-eqb (y .transaction t .revision) r bx)))
+      closedNow t n h i (some z) q = record { at = z; is = rw (w-old t n) q; before = S .whole .closed-low t z h q; whole = λ e j. up e (S .whole .at-tip r t (E .out) h i e (rw (e-old t n) at j)) }
+
+      at-new : (t e : ℕ) → (t ≡ t0 → ⊥) → t < y .transactions → e ∈ eventsOf y t → leads (v ∷ d) e x0 ≡ true → Seal (v ∷ d) (y′ .transaction t) x0
+      at-new t e n h i q =
+          let p = leads-down v d e (ev-low y layout at hold S t e h i) q in
+          let g : leads d e (y .terminal r) ≡ true = rw (List·Memᴰ·eq-of-singleton (p .1)) at (p .2) in
+          either (mem? (y .terminal r) (eventsOf y t)) (λ j. closedNow t n h j (y .transaction t .closed) refl) (λ j. raise t (y .terminal r) x0 n (S .whole .outside t (y .terminal r) e h tip-low j i g) (omega (arith, tip-low)) up)
+
+      outside′ : (t x e : ℕ) → t < y′ .transactions → x < length (v ∷ d) → (x ∈ eventsOf y′ t → ⊥) → e ∈ eventsOf y′ t → leads (v ∷ d) e x ≡ true → Seal (v ∷ d) (y′ .transaction t) x
+      outside′ t x e h l n i q = pick (side t h) (split (eqb x x0))
+        where
+          low : eqb x x0 ≡ false → x < length d
+          low g = let z = eqb-false x x0 g in omega arith
+
+          pick : (t ≡ t0) ⊎ ((t ≡ t0 → ⊥) × (t < y .transactions)) → (eqb x x0 ≡ true) ⊎ (eqb x x0 ≡ false) → Seal (v ∷ d) (y′ .transaction t) x
+          pick (inl a) (inl g) = absurd (n (rw (a, e-new, eqb-true x x0 g) (Memᴰ·append-right (eventsBefore y o) (List·Memᴰ·head refl))))
+          pick (inl a) (inr g) =
+              let q′ : leads d e x ≡ true = sym (leads-old v d e x (low g)) ∙ q in
+              absurd (either (new-cases e (subst (λ z. e ∈ eventsOf y′ z) a i)) (λ j. X .quiet x e (low g) (λ k. n (rw (a, e-new) (Memᴰ·append-left (x0 ∷ []) k))) j q′) (λ j. omega (arith, leads-start d e x q′)))
+          pick (inr a) (inl g) = rw (eqb-true x x0 g) (at-new t e (a .0) (a .1) (rw (e-old t (a .0)) at i) (rw (eqb-true x x0 g) at q))
+          pick (inr a) (inr g) =
+              let n′ : x ∈ eventsOf y t → ⊥ = λ k. n (rw (e-old t (a .0)) k) in
+              raise t x x (a .0) (S .whole .outside t x e (a .1) (low g) n′ (rw (e-old t (a .0)) at i) (sym (leads-old v d e x (low g)) ∙ q)) (omega arith) (λ z p. old-sees z x (low g) p)
+
+      tip′ : (s t : ℕ) → IsOut y′ s → t < y′ .transactions → y′ .terminal s ∈ eventsOf y′ t → (e : ℕ) → e ∈ eventsOf y′ t → leads (v ∷ d) e (y′ .terminal s) ≡ true
+      tip′ s t os h i e j = pick (side t h) (split (eqb s r))
+        where
+          pick : (t ≡ t0) ⊎ ((t ≡ t0 → ⊥) × (t < y .transactions)) → (eqb s r ≡ true) ⊎ (eqb s r ≡ false) → leads (v ∷ d) e (changed (y .terminal) r x0 s) ≡ true
+          pick (inl a) (inl g) = rw g (either (new-cases e (subst (λ z. e ∈ eventsOf y′ z) a j)) (λ k. up e (X .before-sees e k)) (λ k. rw k (leads-newest v d)))
+          pick (inl a) (inr g) =
+              let i′ : y .terminal s ∈ eventsOf y′ t = rw g at i in
+              absurd (either (new-cases (y .terminal s) (subst (λ z. y .terminal s ∈ eventsOf y′ z) a i′)) (λ k. X .tips s os (eqb-false s r g) k) (λ k. omega (arith, S .real .term-bound s (os .0))))
+          pick (inr a) (inl g) = let i′ : x0 ∈ eventsOf y t = rw (g, e-old t (a .0)) at i in absurd (omega (arith, ev-low y layout at hold S t x0 (a .1) i′))
+          pick (inr a) (inr g) =
+              let i′ : y .terminal s ∈ eventsOf y t = rw (g, e-old t (a .0)) at i in
+              rw g (old-sees e (y .terminal s) (S .real .term-bound s (os .0)) (S .whole .at-tip s t os (a .1) i′ e (rw (e-old t (a .0)) at j)))
+
+      own′ : (s t : ℕ) → IsOut y′ s → t < y′ .transactions → y′ .terminal s ∈ eventsOf y′ t → y′ .transaction t .closed ≡ none → y′ .transaction t .revision ≡ s
+      own′ s t os h i q = pick (side t h) (split (eqb s r))
+        where
+          pick : (t ≡ t0) ⊎ ((t ≡ t0 → ⊥) × (t < y .transactions)) → (eqb s r ≡ true) ⊎ (eqb s r ≡ false) → y′ .transaction t .revision ≡ s
+          pick (inl a) (inl g) = rw (a, w-new) (sym (eqb-true s r g))
+          pick (inl a) (inr g) =
+              let i′ : y .terminal s ∈ eventsOf y′ t = rw g at i in
+              absurd (either (new-cases (y .terminal s) (subst (λ z. y .terminal s ∈ eventsOf y′ z) a i′)) (λ k. X .tips s os (eqb-false s r g) k) (λ k. omega (arith, S .real .term-bound s (os .0))))
+          pick (inr a) (inl g) = let i′ : x0 ∈ eventsOf y t = rw (g, e-old t (a .0)) at i in absurd (omega (arith, ev-low y layout at hold S t x0 (a .1) i′))
+          pick (inr a) (inr g) =
+              let i′ : y .terminal s ∈ eventsOf y t = rw (g, e-old t (a .0)) at i in
+              ap (λ w. w .revision) (w-old t (a .0)) ∙ S .whole .own-revision s t os (a .1) i′ (sym (ap (λ w. w .closed) (w-old t (a .0))) ∙ q)
+
+      closed′ : (t n : ℕ) → t < y′ .transactions → y′ .transaction t .closed ≡ some n → n ≤ length (v ∷ d)
+      closed′ t n h q = pick (side t h)
+        where
+          pick : (t ≡ t0) ⊎ ((t ≡ t0 → ⊥) × (t < y .transactions)) → n ≤ suc (length d)
+          pick (inl a) = absurd (some≢none (y′ .transaction t .closed) q (ap (λ z. y′ .transaction z .closed) a ∙ ap (λ w. w .closed) w-new))
+          pick (inr a) = omega (arith, S .whole .closed-low t n (a .1) (sym (ap (λ w. w .closed) (w-old t (a .0))) ∙ q))
+
+  pub sound-enter : (H : ℕ → List ℕ) × Sound (enter y c r u) layout (changed at (y .startOf r) (length (y .diagram))) H
+  sound-enter = (hold′, record { real = real-enter y layout at (S .real) c r u E; filed = filed′; runs = runs′; unshut = unshut′; whole = whole′; sessions = sessions′ })

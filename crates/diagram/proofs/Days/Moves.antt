@@ -1,0 +1,133 @@
+-- What is known when a step is accepted: the checks are unpacked here, and nowhere else.
+use Prim.Native.Nat.{ℕ, zero, suc, _<_}
+use mathlib.Core.Bool.{Bool, true, false, not, _||_, _&&_}
+use mathlib.Core.Path.{_≡_, refl}
+use mathlib.Core.Logic.{_⊎_, inl, inr}
+use mathlib.Core.Option.{some}
+use native.Mathlib.Omega.{arith}
+use lib.Dec.{eqb, ltb}
+use borrow.Author.Tests.{eqb-true, eqb-false, ne-eqb, ltb-true, not-true, not-false}
+use Rattle.lists.proofs.Cases.{split, or-false, and-true}
+use Rattle.diagram.specs.Sizes.{clientLimit}
+use Rattle.diagram.specs.Diagram.{leads}
+use Rattle.diagram.specs.Day.{Day, IsOut}
+use Rattle.diagram.specs.Checks.{strange, isOn, isElsewhere, anyBelow, openElsewhere, busyByOther, busy, missing, stale, notJoinable}
+use Rattle.diagram.specs.Steps.{Step, Event, Yield, Fork, Join, notGiven, accepted, enter, yield, send, takeOver, after}
+
+pub any-below : (n : ℕ) (f : ℕ → Bool) → anyBelow n f ≡ false → (c : ℕ) → c < n → f c ≡ false
+any-below zero f e c h = absurd (omega arith)
+any-below (suc n) f e c h = let q = or-false (f n) (anyBelow n f) e in pick (split (eqb c n)) (any-below n f (q .1) c)
+  where
+    pick : (eqb c n ≡ true) ⊎ (eqb c n ≡ false) → (c < n → f c ≡ false) → f c ≡ false
+    pick (inl p) k = let q = or-false (f n) (anyBelow n f) e in rw (eqb-true c n p) (q .0)
+    pick (inr p) k = let o = eqb-false c n p in k (omega arith)
+
+-- no transaction of a client that P names is open on r
+abbrev pub Idle : Day → (ℕ → Type 0) → ℕ → Type 0
+Idle y P r = (c : ℕ) → c < clientLimit → P c → isOn y (y .openBy c) r ≡ false
+
+pub record CanEnter (y : Day) (c r : ℕ) : Type 0 where
+  pub client-ok : c < clientLimit
+  pub out : IsOut y r
+  pub same-revision : (t : ℕ) → y .openBy c ≡ some t → y .transaction t .revision ≡ r
+  pub idle : Idle y (λ o. o ≡ c → ⊥) r
+  pub caught-up : (l : ℕ) → y .lastEvent c ≡ some l → leads (y .diagram) l (y .terminal r) ≡ true
+
+pub record CanFork (y : Day) (r : ℕ) : Type 0 where
+  pub out : IsOut y r
+  pub idle : Idle y (λ o. Unit {0}) r
+
+pub record CanJoin (y : Day) (a b : ℕ) : Type 0 where
+  pub out-a : IsOut y a
+  pub out-b : IsOut y b
+  pub idle-a : Idle y (λ o. Unit {0}) a
+  pub idle-b : Idle y (λ o. Unit {0}) b
+  pub not-main : b ≡ 0 → ⊥
+  pub not-self : b ≡ a → ⊥
+  pub fork-seen : leads (y .diagram) (y .forkOf b) (y .terminal a) ≡ true
+  pub start-unseen : leads (y .diagram) (y .startOf b) (y .terminal a) ≡ false
+
+pub data Moves (y : Day) : Day → Type 0 where
+  enters : (c r : ℕ) (u : Bool) → CanEnter y c r → Moves y (enter y c r u)
+  yields : (c : ℕ) → c < clientLimit → Moves y (yield y c (y .openBy c))
+  sends : (r : ℕ) → CanFork y r → Moves y (send y r)
+  hands : (a b : ℕ) → CanJoin y a b → Moves y (takeOver y a b)
+
+-- the first of some tests does not apply, and none of the others
+none-of : (b rest : Bool) → (not b && rest) ≡ true → (b ≡ false) × (rest ≡ true)
+none-of b rest e = let p = and-true (not b) rest e in (not-true b (p .0), p .1)
+
+module _ (y : Day) where
+  given : (r : ℕ) → notGiven y r ≡ false → r < y .revisions
+  given r e = ltb-true r (y .revisions) (not-false _ e)
+
+  known : (c : ℕ) → strange c ≡ false → c < clientLimit
+  unfolding strange
+  known c e = ltb-true c clientLimit (not-false _ e)
+
+  same-revision : (c r : ℕ) → openElsewhere y c r ≡ false → (t : ℕ) → y .openBy c ≡ some t → y .transaction t .revision ≡ r
+  unfolding openElsewhere
+  same-revision c r e t q =
+      let f : not (eqb (y .transaction t .revision) r) ≡ false = rw q at e in
+      eqb-true _ _ (not-false _ f)
+
+  idle-for : (c r : ℕ) → busyByOther y c r ≡ false → Idle y (λ o. o ≡ c → ⊥) r
+  unfolding busyByOther
+  idle-for c r e o h n =
+      let f = any-below clientLimit (λ o. not (eqb o c) && isOn y (y .openBy o) r) e o h in
+      rw (ne-eqb o c n) at f
+
+  pub idle-all : (r : ℕ) → busy y r ≡ false → Idle y (λ o. Unit {0}) r
+  unfolding busy
+  idle-all r e o h n = any-below clientLimit (λ o. isOn y (y .openBy o) r) e o h
+
+  caught-up : (c r : ℕ) → stale y c r ≡ false → (l : ℕ) → y .lastEvent c ≡ some l → leads (y .diagram) l (y .terminal r) ≡ true
+  unfolding stale
+  caught-up c r e l q =
+      let f : not (leads (y .diagram) l (y .terminal r)) ≡ false = rw q at e in
+      not-false _ f
+
+  -- the four parts of code 11
+  pub joinable : (a b : ℕ) → notJoinable y a b ≡ false
+      → (eqb b 0 ≡ false) × (eqb b a ≡ false) × (leads (y .diagram) (y .forkOf b) (y .terminal a) ≡ true) × (leads (y .diagram) (y .startOf b) (y .terminal a) ≡ false)
+  unfolding notJoinable
+  joinable a b e =
+      let p = or-false (eqb b 0) _ e in
+      let q = or-false (eqb b a) _ (p .1) in
+      let s = or-false (not (leads (y .diagram) (y .forkOf b) (y .terminal a))) _ (q .1) in
+      (p .0, q .0, not-false _ (s .0), s .1)
+
+  pub step-moves : (s : Step) → accepted y s ≡ true → Moves y (after y s)
+  unfolding accepted after
+  step-moves (Event c r u) e =
+      let e2 = none-of (strange c) _ e in
+      let e3 = none-of (notGiven y r) _ (e2 .1) in
+      let e4 = none-of (y .joined r) _ (e3 .1) in
+      let e6 = none-of (openElsewhere y c r) _ (e4 .1) in
+      let e7 = none-of (busyByOther y c r) _ (e6 .1) in
+      let e8 = none-of (stale y c r) _ (e7 .1) in
+      enters c r u (record { client-ok = known c (e2 .0); out = (given r (e3 .0), e4 .0); same-revision = same-revision c r (e6 .0); idle = idle-for c r (e7 .0); caught-up = caught-up c r (e8 .0) })
+  step-moves (Yield c) e = yields c (known c (none-of (strange c) _ e .0))
+  step-moves (Fork r) e =
+      let e3 = none-of (notGiven y r) _ e in
+      let e4 = none-of (y .joined r) _ (e3 .1) in
+      let e7 = none-of (busy y r) _ (e4 .1) in
+      sends r (record { out = (given r (e3 .0), e4 .0); idle = idle-all r (e7 .0) })
+  step-moves (Join a b) e =
+      let a3 = none-of (notGiven y a) _ e in
+      let b3 = none-of (notGiven y b) _ (a3 .1) in
+      let a4 = none-of (y .joined a) _ (b3 .1) in
+      let b4 = none-of (y .joined b) _ (a4 .1) in
+      let a7 = none-of (busy y a) _ (b4 .1) in
+      let b7 = none-of (busy y b) _ (a7 .1) in
+      let q = joinable a b (none-of (notJoinable y a b) _ (b7 .1) .0) in
+      hands a b (record {
+        out-a = (given a (a3 .0), a4 .0);
+        out-b = (given b (b3 .0), b4 .0);
+        idle-a = idle-all a (a7 .0);
+        idle-b = idle-all b (b7 .0);
+        not-main = eqb-false b 0 (q .0);
+        not-self = eqb-false b a (q .1);
+        fork-seen = q .2;
+        start-unseen = q .3;
+      })

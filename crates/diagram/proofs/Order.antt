@@ -1,0 +1,4 @@
+-- One arbitration order for every run of accepted steps.
+pub mod Numbered
+pub mod Inherited
+pub mod Growth

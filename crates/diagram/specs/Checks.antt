@@ -1,0 +1,59 @@
+-- 01, "Codes of the desk": each check that the day alone decides, as a test that is true where its code applies.
+-- Code 3 is `meant`, and code 4 the day's `joined`; 5 and 12 need what this crate does not know.
+use Prim.Native.Nat.{ℕ, zero, suc}
+use mathlib.Core.Bool.{Bool, false, not, _||_, _&&_}
+use mathlib.Core.Option.{Option, none, some}
+use lib.Dec.{eqb, ltb}
+use Rattle.diagram.specs.Sizes.{revisionLimit, clientLimit, updateLimit}
+use Rattle.diagram.specs.Diagram.{Diagram, leads}
+use Rattle.diagram.specs.Day.{Day}
+
+-- 2: "tablet above 15"
+unfoldable pub strange : ℕ → Bool
+strange c = not (ltb c clientLimit)
+
+-- whether a client's open transaction, if any, is on revision r, and whether it is on another
+abbrev pub isOn : Day → Option ℕ → ℕ → Bool
+isOn y none r = false
+isOn y (some t) r = eqb (y .transaction t .revision) r
+
+abbrev pub isElsewhere : Day → Option ℕ → ℕ → Bool
+isElsewhere y none r = false
+isElsewhere y (some t) r = not (eqb (y .transaction t .revision) r)
+
+abbrev pub anyBelow : ℕ → (ℕ → Bool) → Bool
+anyBelow zero f = false
+anyBelow (suc n) f = f n || anyBelow n f
+
+-- 6: "the tablet's open transaction is on another box"
+unfoldable pub openElsewhere : Day → ℕ → ℕ → Bool
+openElsewhere y c r = isElsewhere y (y .openBy c) r
+
+-- 7: "update, query: another tablet has the box busy"
+unfoldable pub busyByOther : Day → ℕ → ℕ → Bool
+busyByOther y c r = anyBelow clientLimit (λ o. not (eqb o c) && isOn y (y .openBy o) r)
+
+-- 7: "Fork, list, join: the box, or either box, is busy"
+unfoldable pub busy : Day → ℕ → Bool
+busy y r = anyBelow clientLimit (λ o. isOn y (y .openBy o) r)
+
+-- 8: "the path from the tablet's last event is missing"; a client without events may start anywhere
+abbrev pub missing : Diagram → Option ℕ → ℕ → Bool
+missing d none x = false
+missing d (some e) x = not (leads d e x)
+
+unfoldable pub stale : Day → ℕ → ℕ → Bool
+stale y c r = missing (y .diagram) (y .lastEvent c) (y .terminal r)
+
+-- 9: "4,096 updates taken"
+unfoldable pub logFull : Day → Bool
+logFull y = not (ltb (y .updates) updateLimit)
+
+-- 10: "64 boxes started"
+unfoldable pub noneLeft : Day → Bool
+noneLeft y = not (ltb (y .revisions) revisionLimit)
+
+-- 11: "joinee is box 0, is the joiner, its fork isn't seen, or its start is"
+unfoldable pub notJoinable : Day → ℕ → ℕ → Bool
+notJoinable y a b =
+    eqb b 0 || (eqb b a || (not (leads (y .diagram) (y .forkOf b) (y .terminal a)) || leads (y .diagram) (y .startOf b) (y .terminal a)))

@@ -1,0 +1,64 @@
+-- The plain day of revisions: what 01, "The plain day and its line-up", keeps on paper. No bibs, no times, no bytes.
+use Prim.Native.Nat.{ℕ, _<_}
+use mathlib.Core.Bool.{Bool, false, cond}
+use mathlib.Core.Path.{_≡_}
+use mathlib.Core.Option.{Option, none, some}
+use mathlib.Core.List.{List, [], _∷_}
+use lib.Dec.{ltb}
+use Rattle.diagram.specs.Diagram.{root, Diagram}
+
+-- 01, "Words": "A tablet's events between yields form one transaction", in the order entered. `closed` says how many
+-- vertices there were at its yield; a transaction is open until then.
+pub record Transaction : Type 0 where
+  pub client : ℕ
+  pub revision : ℕ
+  pub events : List ℕ
+  pub closed : Option ℕ
+
+-- "It keeps the diagram, which boxes are handed in, the updates taken, numbered from 0, and each tablet's last event and
+-- open transaction, if any." Revisions (01: boxes) and transactions are numbered by creation, without bound.
+pub record Day : Type 0 where
+  pub diagram : Diagram
+  -- how many revisions have been started; the start vertex, fork vertex and terminal (01: line end) of each
+  pub revisions : ℕ
+  pub startOf : ℕ → ℕ
+  pub forkOf : ℕ → ℕ
+  pub terminal : ℕ → ℕ
+  -- 01: handed in
+  pub joined : ℕ → Bool
+  -- how many updates have been taken
+  pub updates : ℕ
+  -- of each client (01: tablet): its last event and its open transaction
+  pub lastEvent : ℕ → Option ℕ
+  pub openBy : ℕ → Option ℕ
+  -- how many transactions there are, and each of them
+  pub transactions : ℕ
+  pub transaction : ℕ → Transaction
+
+-- "It begins with box 0 out, at the root."
+abbrev pub fresh : Day
+fresh = record {
+  diagram = root ∷ [];
+  revisions = 1;
+  startOf = λ r. 0;
+  forkOf = λ r. 0;
+  terminal = λ r. 0;
+  joined = λ r. false;
+  updates = 0;
+  lastEvent = λ c. none;
+  openBy = λ c. none;
+  transactions = 0;
+  transaction = λ t. record { client = 0; revision = 0; events = []; closed = none };
+}
+
+-- the revision that a number means: none if it is not yet given out (code 3). Numbers are given once, in order.
+unfoldable pub meant : Day → ℕ → Option ℕ
+meant y n = cond (ltb n (y .revisions)) (some n) none
+
+-- the number that the next fork gives
+unfoldable pub nextNumber : Day → ℕ
+nextNumber y = y .revisions
+
+-- 01, "Words": "A box is out until it is handed in by a join"
+abbrev pub IsOut : Day → ℕ → Type 0
+IsOut y r = (r < y .revisions) × (y .joined r ≡ false)

@@ -1,0 +1,72 @@
+-- Revision diagrams and their paths: 002, section 3.1.
+-- A diagram is the list of its vertices, newest first. A vertex is named by the number of vertices older than it.
+use Prim.Native.Nat.{ℕ, _<_}
+use mathlib.Core.Bool.{Bool, false, cond, _||_}
+use mathlib.Core.Path.{_≡_}
+use mathlib.Core.Option.{Option}
+use mathlib.Core.List.{List, [], _∷_, _++_, List·Memᴰ}
+use lib.ListN.{length}
+use lib.Dec.{eqb}
+
+-- "five types of vertices (start, fork, join, update, and query vertices)"; the root is the initial start vertex.
+-- A vertex says where its edges come from. An event is entered by a client: an update has its number, a query has none.
+pub data Vertex : Type 0 where
+  root : Vertex
+  start : (from : ℕ) → Vertex
+  event : (before client : ℕ) (update : Option ℕ) → Vertex
+  fork : (before : ℕ) → Vertex
+  join : (joiner joinee : ℕ) → Vertex
+
+abbrev pub Diagram : Type 0
+Diagram = List Vertex
+
+-- "three types of edges (successor, fork, and join edges, or s-, f- and j-edges for short)": where a vertex's edges of
+-- each type come from
+abbrev pub s-sources : Vertex → List ℕ
+s-sources root = []
+s-sources (start f) = []
+s-sources (event p c u) = p ∷ []
+s-sources (fork p) = p ∷ []
+s-sources (join p q) = p ∷ []
+
+abbrev pub f-sources : Vertex → List ℕ
+f-sources root = []
+f-sources (start f) = f ∷ []
+f-sources (event p c u) = []
+f-sources (fork p) = []
+f-sources (join p q) = []
+
+abbrev pub j-sources : Vertex → List ℕ
+j-sources root = []
+j-sources (start f) = []
+j-sources (event p c u) = []
+j-sources (fork p) = []
+j-sources (join p q) = q ∷ []
+
+abbrev pub sources : Vertex → List ℕ
+sources v = s-sources v ++ f-sources v ++ j-sources v
+
+-- an edge from x to y, by the sources of the vertices
+pub data Edge (from : Vertex → List ℕ) (x y : ℕ) : Diagram → Type 0 where
+  newest : {v : Vertex} {d : Diagram} → y ≡ length d → List·Memᴰ x (from v) → Edge from x y (v ∷ d)
+  older : {v : Vertex} {d : Diagram} → Edge from x y d → Edge from x y (v ∷ d)
+
+-- 01, "Words": "Path: as in 002, along any edges; from a vertex to itself there always is one"
+pub data Path (d : Diagram) (x : ℕ) : ℕ → Type 0 where
+  stay : {y : ℕ} → x ≡ y → x < length d → Path d x y
+  go : {y z : ℕ} → Path d x y → Edge sources y z d → Path d x z
+
+-- "We call a vertex with no outgoing s- or j-edges a terminal" (01: a line end)
+pub record Terminal (d : Diagram) (x : ℕ) : Type 0 where
+  pub vertex : x < length d
+  pub no-s : (y : ℕ) → Edge s-sources x y d → ⊥
+  pub no-j : (y : ℕ) → Edge j-sources x y d → ⊥
+
+-- whether a path leads from x to y, as a test: `leads-iff-path` shows that it is `Path`
+abbrev pub any : (ℕ → Bool) → List ℕ → Bool
+any f [] = false
+any f (p ∷ ps) = f p || any f ps
+
+unfoldable pub leads : Diagram → ℕ → ℕ → Bool
+leads [] x y = false
+leads (v ∷ d) x y = cond (eqb y (length d)) (eqb x y || any (λ p. leads d x p) (sources v)) (leads d x y)

@@ -1,0 +1,10 @@
+-- What a reader has to believe, in the order of 002 and 01: diagrams, paths, effects, the day, its checks and steps, and
+-- the claim about every run of accepted steps. Last the machine that a table follows. No bibs, values or bytes.
+pub mod Sizes
+pub mod Diagram
+pub mod Effects
+pub mod Construction
+pub mod Day
+pub mod Checks
+pub mod Steps
+pub mod Arbitration

@@ -1,0 +1,144 @@
+-- The steps of the day: when one is accepted and what it does. 01, "The plain day and its line-up": "When taken: ..".
+use Prim.Native.Nat.{ℕ, suc}
+use mathlib.Core.Bool.{Bool, true, false, cond, not, _&&_}
+use mathlib.Core.Path.{_≡_}
+use mathlib.Core.Option.{Option, none, some}
+use mathlib.Core.List.{List, [], _∷_, _++_}
+use lib.ListN.{length}
+use lib.Dec.{ltb}
+use Rattle.lists.specs.Lists.{changed}
+use Rattle.diagram.specs.Diagram.{start, event, fork, join}
+use Rattle.diagram.specs.Day.{Transaction, Day, fresh}
+use Rattle.diagram.specs.Checks.{strange, openElsewhere, busyByOther, busy, stale, logFull, noneLeft, notJoinable}
+
+-- a step names clients and revisions; an event is an update or a query
+pub data Step : Type 0 where
+  Event : (client revision : ℕ) (isUpdate : Bool) → Step
+  Yield : (client : ℕ) → Step
+  Fork : (revision : ℕ) → Step
+  Join : (joiner joinee : ℕ) → Step
+
+-- 3, of a revision
+abbrev pub notGiven : Day → ℕ → Bool
+notGiven y r = not (ltb r (y .revisions))
+
+abbrev pub noneOf : List Bool → Bool
+noneOf [] = true
+noneOf (b ∷ bs) = not b && noneOf bs
+
+-- a step is accepted exactly if none of its codes applies: "Update: 1 to 9. Query: 1 to 8 .. Yield: 1, 2. Fork: 1, 3, 4,
+-- 7, 10. Join: 1, 3, 4, 7, 11." (1 and 5 are not of this crate)
+unfoldable pub accepted : Day → Step → Bool
+accepted y (Event c r u) =
+    noneOf (strange c ∷ notGiven y r ∷ y .joined r ∷ openElsewhere y c r ∷ busyByOther y c r ∷ stale y c r ∷ (u && logFull y) ∷ [])
+accepted y (Yield c) = noneOf (strange c ∷ [])
+accepted y (Fork r) = noneOf (notGiven y r ∷ y .joined r ∷ busy y r ∷ noneLeft y ∷ [])
+accepted y (Join a b) = noneOf (notGiven y a ∷ notGiven y b ∷ y .joined a ∷ y .joined b ∷ busy y a ∷ busy y b ∷ notJoinable y a b ∷ [])
+
+-- "Update, query: a vertex at the box's line end. It goes into the tablet's open transaction or opens one, and is the
+-- tablet's last event."
+abbrev pub entersInto : Day → Option ℕ → ℕ
+entersInto y none = y .transactions
+entersInto y (some t) = t
+
+abbrev pub eventsBefore : Day → Option ℕ → List ℕ
+eventsBefore y none = []
+eventsBefore y (some t) = y .transaction t .events
+
+abbrev pub countedWith : Day → Option ℕ → ℕ
+countedWith y none = suc (y .transactions)
+countedWith y (some t) = y .transactions
+
+abbrev pub newUpdate : Day → Bool → Option ℕ
+newUpdate y u = cond u (some (y .updates)) none
+
+abbrev pub enter : Day → ℕ → ℕ → Bool → Day
+enter y c r u = record {
+  diagram = event (y .terminal r) c (newUpdate y u) ∷ y .diagram;
+  revisions = y .revisions;
+  startOf = y .startOf;
+  forkOf = y .forkOf;
+  terminal = changed (y .terminal) r (length (y .diagram));
+  joined = y .joined;
+  updates = cond u (suc (y .updates)) (y .updates);
+  lastEvent = changed (y .lastEvent) c (some (length (y .diagram)));
+  openBy = changed (y .openBy) c (some (entersInto y (y .openBy c)));
+  transactions = countedWith y (y .openBy c);
+  transaction = changed (y .transaction) (entersInto y (y .openBy c)) (record { client = c; revision = r; events = eventsBefore y (y .openBy c) ++ (length (y .diagram) ∷ []); closed = none });
+}
+
+-- "Yield: the open transaction, if any, is closed."
+abbrev pub closedNow : Day → Transaction → Transaction
+closedNow y t = record { client = t .client; revision = t .revision; events = t .events; closed = some (length (y .diagram)) }
+
+abbrev pub close : Day → ℕ → ℕ → Day
+close y c t = record {
+  diagram = y .diagram;
+  revisions = y .revisions;
+  startOf = y .startOf;
+  forkOf = y .forkOf;
+  terminal = y .terminal;
+  joined = y .joined;
+  updates = y .updates;
+  lastEvent = y .lastEvent;
+  openBy = changed (y .openBy) c none;
+  transactions = y .transactions;
+  transaction = changed (y .transaction) t (closedNow y (y .transaction t));
+}
+
+abbrev pub yield : Day → ℕ → Option ℕ → Day
+yield y c none = y
+yield y c (some t) = close y c t
+
+-- "Fork: the fork vertex and a new box."
+abbrev pub send : Day → ℕ → Day
+send y r = record {
+  diagram = start (length (y .diagram)) ∷ fork (y .terminal r) ∷ y .diagram;
+  revisions = suc (y .revisions);
+  startOf = changed (y .startOf) (y .revisions) (suc (length (y .diagram)));
+  forkOf = changed (y .forkOf) (y .revisions) (length (y .diagram));
+  terminal = changed (changed (y .terminal) r (length (y .diagram))) (y .revisions) (suc (length (y .diagram)));
+  joined = changed (y .joined) (y .revisions) false;
+  updates = y .updates;
+  lastEvent = y .lastEvent;
+  openBy = y .openBy;
+  transactions = y .transactions;
+  transaction = y .transaction;
+}
+
+-- "Join: the join vertex, and the joinee is handed in."
+abbrev pub takeOver : Day → ℕ → ℕ → Day
+takeOver y a b = record {
+  diagram = join (y .terminal a) (y .terminal b) ∷ y .diagram;
+  revisions = y .revisions;
+  startOf = y .startOf;
+  forkOf = y .forkOf;
+  terminal = changed (y .terminal) a (length (y .diagram));
+  joined = changed (y .joined) b true;
+  updates = y .updates;
+  lastEvent = y .lastEvent;
+  openBy = y .openBy;
+  transactions = y .transactions;
+  transaction = y .transaction;
+}
+
+unfoldable pub after : Day → Step → Day
+after y (Event c r u) = enter y c r u
+after y (Yield c) = yield y c (y .openBy c)
+after y (Fork r) = send y r
+after y (Join a b) = takeOver y a b
+
+-- a run from a day, and from the start; each of its steps is accepted
+unfoldable pub runFrom : Day → List Step → Day
+runFrom y [] = y
+runFrom y (s ∷ ss) = runFrom (after y s) ss
+
+unfoldable pub run : List Step → Day
+run ss = runFrom fresh ss
+
+abbrev pub AcceptedFrom : Day → List Step → Type 0
+AcceptedFrom y [] = Unit {0}
+AcceptedFrom y (s ∷ ss) = (accepted y s ≡ true) × AcceptedFrom (after y s) ss
+
+abbrev pub Accepted : List Step → Type 0
+Accepted ss = AcceptedFrom fresh ss
