@@ -2,3 +2,4 @@
 pub mod Numbered
 pub mod Inherited
 pub mod Growth
+pub mod Theorem

@@ -92,9 +92,9 @@ pub older-trans : {d e f : Diagram} → Older d e → Older e f → Older d f
 older-trans o same = o
 older-trans o (next p) = next (older-trans o p)
 
-pub listing-stays : {d e : Diagram} → Older d e → (x : ℕ) → x < length d → view e x ≡ view d x
-listing-stays same x h = refl
-listing-stays (next {v} {e} o) x h = tabulate-older viewStep [] v e x (omega (arith, older-length o)) ∙ listing-stays o x h
+pub view-stays : {d e : Diagram} → Older d e → (x : ℕ) → x < length d → view e x ≡ view d x
+view-stays same x h = refl
+view-stays (next {v} {e} o) x h = tabulate-older viewStep [] v e x (omega (arith, older-length o)) ∙ view-stays o x h
 
 pub older-moves : (y z : Day) → Moves y z → Older (y .diagram) (z .diagram)
 older-moves y z (enters c r u E) = next same

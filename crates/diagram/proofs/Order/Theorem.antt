@@ -1,0 +1,236 @@
+-- The theorem: every run of accepted steps has one arbitration order.
+use Prim.Native.Nat.{_<_, ℕ}
+use mathlib.Core.Bool.{false, true}
+use mathlib.Core.Path.{_∙_, _≡_, ap, refl, subst, sym}
+use mathlib.Core.Logic.{_↔_, _⊎_, inl, inr}
+use mathlib.Core.List.{List, List·Memᴰ·append-cases, List·Memᴰ·eq-of-singleton, List·Memᴰ·head, Sublistᴰ·append, Sublistᴰ·cons-cons}
+use mathlib.Core.List.{Sublistᴰ·refl, Sublistᴰ·trans, [], _++_, _∷_, append-assoc}
+use native.Mathlib.Omega.{arith}
+use lib.ListN.{length}
+use Rattle.diagram.proofs.Arranged.Advance.{Linked, contents, may}
+use Rattle.diagram.proofs.Arranged.Blocks.{seen}
+use Rattle.diagram.proofs.Arranged.Past.{held-order}
+use Rattle.diagram.proofs.Days.Moves.{idle-all, step-moves}
+use Rattle.diagram.proofs.Days.Outside.{idle-past}
+use Rattle.diagram.proofs.Days.Sound.{Sound, flat-blocks, flat-once, link, order-once}
+use Rattle.diagram.proofs.Graph.Events.{ownEvents, viewEventStep, viewEvents}
+use Rattle.diagram.proofs.Graph.Paths.{leads-path}
+use Rattle.diagram.proofs.Graph.Tables.{tabulate-newest, tabulate-older}
+use Rattle.diagram.proofs.Graph.Visible.{self, view-numbers, view-paths, visible}
+use Rattle.diagram.proofs.Order.Growth.{Fine, Older, extends, fine-fresh, fine-moves, older-length, older-moves, older-trans, same}
+use Rattle.diagram.proofs.Order.Growth.{view-stays, whole-of}
+use Rattle.diagram.proofs.Order.Inherited.{entry-is, numbers-nodup, numbers-sub}
+use Rattle.diagram.proofs.Order.Numbered.{number-event, numbered-fresh, numbered-moves}
+use Rattle.diagram.specs.Arbitration.{Arbitration, ExtendsEach, IsEvent, Numbered, Sees, SeesTransaction, Shows, WholeAt, eventsOf}
+use Rattle.diagram.specs.Arbitration.{newest-is, older-is}
+use Rattle.diagram.specs.Checks.{busy}
+use Rattle.diagram.specs.Construction.{entered}
+use Rattle.diagram.specs.Day.{Day, IsOut, fresh}
+use Rattle.diagram.specs.Diagram.{Diagram, event}
+use Rattle.diagram.specs.Effects.{entry, number, numbers, view}
+use Rattle.diagram.specs.Steps.{Accepted, AcceptedFrom, Event, Step, accepted, after, run, runFrom}
+use Rattle.lists.proofs.Blocks.{flat-from, flat-in, flat-pair, flatBack-from, flatBack-in, same-block}
+use Rattle.lists.proofs.Cases.{either}
+use Rattle.lists.proofs.Sublists.{mem?, only, ∈-⊑, ⊑-⊆}
+use Rattle.lists.specs.Lists.{_∈_, _⊑_, flat, flatBack}
+
+-- a run in two parts, and what is accepted of it
+pub run-both : (a b : List Step) (y : Day) → runFrom y (a ++ b) ≡ runFrom (runFrom y a) b
+unfolding runFrom
+run-both [] b y = refl
+run-both (s ∷ a) b y = run-both a b (after y s)
+
+pub run-append : (a b : List Step) → run (a ++ b) ≡ runFrom (run a) b
+unfolding run
+run-append a b = run-both a b fresh
+
+pub run-step : (a : List Step) (s : Step) → run (a ++ (s ∷ [])) ≡ after (run a) s
+unfolding runFrom
+run-step a s = run-append a (s ∷ [])
+
+first-from : (a b : List Step) (y : Day) → AcceptedFrom y (a ++ b) → AcceptedFrom y a
+first-from [] b y A = tt
+first-from (s ∷ a) b y A = (A .0, first-from a b (after y s) (A .1))
+
+rest-from : (a b : List Step) (y : Day) → AcceptedFrom y (a ++ b) → AcceptedFrom (runFrom y a) b
+unfolding runFrom
+rest-from [] b y A = A
+rest-from (s ∷ a) b y A = rest-from a b (after y s) (A .1)
+
+pub accepted-first : (a b : List Step) → Accepted (a ++ b) → Accepted a
+accepted-first a b = first-from a b fresh
+
+pub accepted-rest : (a b : List Step) → Accepted (a ++ b) → AcceptedFrom (run a) b
+unfolding run
+accepted-rest a b = rest-from a b fresh
+
+-- what each step keeps holds after every run
+pub along : (P : Day → Type 0) → ((y : Day) (s : Step) → accepted y s ≡ true → P y → P (after y s)) → (ss : List Step) (y : Day) → AcceptedFrom y ss → P y → P (runFrom y ss)
+unfolding runFrom
+along P keep [] y A p = p
+along P keep (s ∷ ss) y A p = along P keep ss (after y s) (A .1) (keep y s (A .0) p)
+
+fine-step : (y : Day) (s : Step) → accepted y s ≡ true → Fine y → Fine (after y s)
+fine-step y s e F = fine-moves y (after y s) F (step-moves y s e)
+
+pub fine-run : (ss : List Step) → Accepted ss → Fine (run ss)
+unfolding run
+fine-run ss A = along Fine fine-step ss fresh A fine-fresh
+
+numbered-run : (ss : List Step) → Accepted ss → Numbered (run ss .diagram) (run ss .updates)
+unfolding run
+numbered-run ss A = along (λ y. Numbered (y .diagram) (y .updates)) (λ y s e N. numbered-moves y (after y s) N (step-moves y s e)) ss fresh A numbered-fresh
+
+older-from : (ss : List Step) (y : Day) → AcceptedFrom y ss → Older (y .diagram) (runFrom y ss .diagram)
+older-from ss y A = along (λ z. Older (y .diagram) (z .diagram)) (λ z s e o. older-trans o (older-moves z (after z s) (step-moves z s e))) ss y A same
+
+grows-from : (ss : List Step) (y : Day) → Fine y → AcceptedFrom y ss → ExtendsEach y ss
+grows-from [] y F A = tt
+grows-from (s ∷ ss) y F A = (extends y (after y s) F (step-moves y s (A .0)), grows-from ss (after y s) (fine-step y s (A .0) F) (A .1))
+
+-- a revision that is not busy shows a transaction whole or not at all
+whole-idle : (y : Day) → Fine y → (t r : ℕ) → t < y .transactions → IsOut y r → busy y r ≡ false → WholeAt y t (y .terminal r) (length (y .diagram))
+whole-idle y F t r h o b = pick (mem? (y .terminal r) (eventsOf y t))
+  where
+    low : y .terminal r < length (y .diagram)
+    low = F .sound .real .term-bound r (o .0)
+
+    pick : (y .terminal r ∈ eventsOf y t) ⊎ (y .terminal r ∈ eventsOf y t → ⊥) → WholeAt y t (y .terminal r) (length (y .diagram))
+    pick (inl i) =
+        let p = idle-past y (F .layout) (F .at) (F .hold) (F .sound) r t o (idle-all y r b) h i in
+        inr (λ e j. leads-path (y .diagram) e (y .terminal r) (p .3 e j), record { at = p .0; is = p .1; soon = p .2 })
+    pick (inr n) = either (whole-of y F t (y .terminal r) h low n) (λ k. inl k) (λ k. inr (k .0, record { at = k .1 .at; is = k .1 .is; soon = omega (arith, k .1 .soon, low) }))
+
+module _ (ss : List Step) (A : Accepted ss) (F : Fine (run ss)) where
+  abbrev y : Day
+  y = run ss
+
+  abbrev d : Diagram
+  d = y .diagram
+
+  abbrev layout : List ℕ
+  layout = F .layout
+
+  abbrev at : ℕ → ℕ
+  at = F .at
+
+  abbrev hold : ℕ → List ℕ
+  hold = F .hold
+
+  S : Sound y layout at hold
+  S = F .sound
+
+  L : Linked d layout at
+  L = link y layout at hold S
+
+  abbrev order : List ℕ
+  order = flatBack hold layout
+
+  complete : (t : ℕ) → (t ∈ order) ↔ (t < y .transactions)
+  complete t = (λ i. let p = flatBack-from hold t layout i in S .filed .low (p .0) t (p .1) (p .2), λ h. let p = S .filed .all t h in flatBack-in hold (p .0) t layout (p .1) (p .2))
+
+  -- what a vertex sees is a part of the order
+  in-order : (x : ℕ) → x < length d → viewEvents d x ⊑ flat (eventsOf y) order
+  in-order x h = rw (flat-blocks y layout at hold (S .filed)) (held-order layout (contents d at) (may d at) (viewEvents d x) (L .inv) (L .past x h))
+
+  event-in : (x : ℕ) → IsEvent x d → (t : ℕ) × (t < y .transactions) × (x ∈ eventsOf y t)
+  event-in x i =
+      let s = self i in
+      let p = flat-from (eventsOf y) x order (⊑-⊆ (in-order x (s .0)) x (s .1)) in
+      (p .0, complete (p .0) .0 (p .1), p .2)
+
+  in-event : (x t : ℕ) → t < y .transactions → x ∈ eventsOf y t → IsEvent x d
+  in-event x t h i =
+      let p = S .filed .all t h in
+      let j : x ∈ ownEvents d (at (p .0)) = rw (S .filed .blocks-ok (p .0) (p .1)) (flat-in (eventsOf y) t x (hold (p .0)) (p .2) i) in
+      view-paths (L .ordered) (at (p .0)) (L .bound (p .0)) .0 x j .0
+
+  shows : (x : ℕ) → x < length d → Shows y order x (view d x)
+  shows x h = record {
+    seen = viewEvents d x;
+    exactly = only (Sees y x) (in-order x h) (flat-once y layout at hold S) (λ e i. visible (L .ordered) (L .joins-ok) e x h .0 i .1) back;
+    are = view-numbers (L .ordered) x h .1;
+  }
+    where
+      back : (e : ℕ) → e ∈ flat (eventsOf y) order → Sees y x e → e ∈ viewEvents d x
+      back e i p = let t = flat-from (eventsOf y) e order i in visible (L .ordered) (L .joins-ok) e x h .1 (in-event e (t .0) (complete (t .0) .0 (t .1)) (t .2), p)
+
+  -- an event stands last of what it sees
+  last-of : {d : Diagram} (e f : ℕ) → IsEvent f d → (e ≡ f → ⊥) → e ∈ viewEvents d f → (e ∷ f ∷ []) ⊑ viewEvents d f
+  last-of e f (newest-is {p} {c} {u = k} {d} q) n i =
+      let w : viewEvents (event p c k ∷ d) f ≡ viewEvents d p ++ (length d ∷ []) = ap (viewEvents (event p c k ∷ d)) q ∙ tabulate-newest viewEventStep [] (event p c k) d in
+      rw w (Sublistᴰ·append (∈-⊑ e (viewEvents d p) (either (List·Memᴰ·append-cases (viewEvents d p) (rw w at i)) (λ j. j) (λ j. absurd (n (List·Memᴰ·eq-of-singleton j ∙ sym q))))) (Sublistᴰ·cons-cons q (Sublistᴰ·refl [])))
+  last-of e f (older-is {v} {d} u) n i =
+      let w = tabulate-older viewEventStep [] v d f (self u .0) in
+      rw w (last-of e f u n (rw w at i))
+
+  after-seen : (s t : ℕ) → s < y .transactions → t < y .transactions → (s ≡ t → ⊥) → SeesTransaction y t s → (s ∷ t ∷ []) ⊑ order
+  after-seen s t hs ht n T =
+      let fe : IsEvent (T .later) d = in-event (T .later) t ht (T .later-in) in
+      let ee : IsEvent (T .earlier) d = in-event (T .earlier) s hs (T .earlier-in) in
+      let low : T .later < length d = self fe .0 in
+      let i : T .earlier ∈ viewEvents d (T .later) = visible (L .ordered) (L .joins-ok) (T .earlier) (T .later) low .1 (ee, T .path) in
+      flat-pair (eventsOf y) order s t (T .earlier) (T .later) (flat-once y layout at hold S) (complete s .1 hs) (complete t .1 ht) n (T .earlier-in) (T .later-in) (Sublistᴰ·trans (last-of (T .earlier) (T .later) fe notJoinable i) (in-order (T .later) low))
+    where
+      notJoinable : T .earlier ≡ T .later → ⊥
+      notJoinable e = n (both (S .filed .all s hs) (S .filed .all t ht))
+        where
+          both : (x : ℕ) × (x ∈ layout) × (s ∈ hold x) → (x : ℕ) × (x ∈ layout) × (t ∈ hold x) → s ≡ t
+          both a b = same-block (eventsOf y) order (flat-once y layout at hold S) s t (T .later) (complete s .1 hs) (complete t .1 ht) (subst (λ z. z ∈ eventsOf y s) e (T .earlier-in)) (T .later-in)
+
+  -- what a vertex showed at any time of the run
+  ever : (before rest : List Step) → ss ≡ before ++ rest → (x : ℕ) → x < length (run before .diagram) → Shows y order x (view (run before .diagram) x)
+  ever before rest e x h =
+      let o : Older (run before .diagram) d = subst (λ z. Older (run before .diagram) (z .diagram)) (sym (ap run e ∙ run-append before rest)) (older-from rest (run before) (accepted-rest before rest (subst Accepted e A))) in
+      subst (λ z. Shows y order x z) (view-stays o x h) (shows x (omega (arith, older-length o)))
+
+  queries : (before rest : List Step) (c r : ℕ) → ss ≡ before ++ (Event c r false ∷ rest)
+      → Shows y order (length (run before .diagram)) (view (after (run before) (Event c r false) .diagram) (length (run before .diagram)))
+  unfolding after
+  queries before rest c r e =
+      let q : run (before ++ (Event c r false ∷ [])) ≡ after (run before) (Event c r false) = run-step before (Event c r false) in
+      let w : ss ≡ (before ++ (Event c r false ∷ [])) ++ rest = e ∙ sym (append-assoc before (Event c r false ∷ []) rest) in
+      let k : length (run before .diagram) < length (after (run before) (Event c r false) .diagram) = omega arith in
+      subst (λ z. Shows y order (length (run before .diagram)) (view (z .diagram) (length (run before .diagram)))) q
+      (ever (before ++ (Event c r false ∷ [])) rest w (length (run before .diagram)) (subst (λ z. length (run before .diagram) < length (z .diagram)) (sym q) k))
+
+  lists : (before rest : List Step) → ss ≡ before ++ rest → (r : ℕ) → IsOut (run before) r → busy (run before) r ≡ false
+      → (t : ℕ) → t < run before .transactions → WholeAt (run before) t (run before .terminal r) (length (run before .diagram))
+  lists before rest e r o b t h = whole-idle (run before) (fine-run before (accepted-first before rest (subst Accepted e A))) t r h o b
+
+  numbered : Numbered d (y .updates)
+  numbered = numbered-run ss A
+
+  updates-all : (n : ℕ) → (n ∈ numbers d (flat (eventsOf y) order)) ↔ (n < y .updates)
+  updates-all n = (
+    λ i. let e = flat-from (λ e. entry (number d e)) n (flat (eventsOf y) order) i in numbered .low (e .0) n (entry-is (number d (e .0)) n (e .2)),
+    λ h.
+        let e = numbered .all n h in
+        let t = event-in (e .0) (number-event d (e .0) n (e .1)) in
+        flat-in (λ e. entry (number d e)) (e .0) n (flat (eventsOf y) order) (flat-in (eventsOf y) (t .0) (e .0) order (complete (t .0) .1 (t .1)) (t .2)) (rw (e .1) (List·Memᴰ·head refl)),
+  )
+
+  pub arbitrated : Arbitration ss
+  arbitrated = record {
+    order = order;
+    once = order-once y layout at hold S;
+    complete = complete;
+    entered = λ x. (event-in x, λ p. in-event x (p .0) (p .1) (p .2));
+    one-each = flat-once y layout at hold S;
+    numbered = numbered;
+    updates-once = numbers-nodup d (y .updates) (flat (eventsOf y) order) numbered (flat-once y layout at hold S);
+    updates-all = updates-all;
+    after-seen = after-seen;
+    listed = λ r o. shows (y .terminal r) (S .real .term-bound r (o .0));
+    in-order = λ r o. let h = S .real .term-bound r (o .0) in subst (λ z. z ⊑ numbers d (flat (eventsOf y) order)) (sym (view-numbers (L .ordered) (y .terminal r) h .1)) (numbers-sub d (in-order (y .terminal r) h));
+    queries = queries;
+    ever = ever;
+    grows = grows-from ss fresh fine-fresh A;
+    whole = whole-of y F;
+    lists = lists;
+    sessions = λ s t e f l h q i j. leads-path d e f (S .sessions .later s t e f l h q i j);
+  }
+
+-- the theorem: every run of accepted steps has one arbitration order
+pub arbitration : (ss : List Step) → Accepted ss → Arbitration ss
+arbitration ss A = arbitrated ss A (fine-run ss A)
