@@ -3,3 +3,5 @@ pub mod Graph
 pub mod Arranged
 pub mod Days
 pub mod Order
+pub mod Marks
+pub mod Follow

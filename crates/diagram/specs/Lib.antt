@@ -8,3 +8,4 @@ pub mod Day
 pub mod Checks
 pub mod Steps
 pub mod Arbitration
+pub mod Machine

@@ -1,7 +1,9 @@
 -- A list's elements renamed one to one.
 use Prim.Native.Nat.{ℕ}
 use mathlib.Core.Path.{_∙_, _≡_, ap, refl, sym}
-use mathlib.Core.List.{List, List·Memᴰ·head, List·Memᴰ·tail, [], _∷_, map}
+use mathlib.Core.Logic.{_⊎_, inl, inr, ∥∥₁-elim}
+use mathlib.Core.HLevel.{⊥-prop}
+use mathlib.Core.List.{List, List·Memᴰ·cases-cons, List·Memᴰ·head, List·Memᴰ·not-nil, List·Memᴰ·tail, List·Nodup, [], _∷_, map, nodup-cons, nodup-nil}
 use lib.Dec.{eqb}
 use borrow.Author.Tests.{eq-eqb, eqb-false, eqb-true, ne-eqb}
 use Rattle.lists.proofs.Cases.{cases}
@@ -33,3 +35,16 @@ module _ (f : ℕ → ℕ) (r : ℕ) where
   unfolding insert
   map-insert n [] h = refl
   map-insert n (x ∷ l) h = rw (same-test x (h x (List·Memᴰ·head refl)), map-insert n l (λ z i. h z (List·Memᴰ·tail i))) (cases (eqb x r) (λ e. rw e) (λ e. rw e))
+
+pub map-from : (f : ℕ → ℕ) (z : ℕ) (l : List ℕ) → z ∈ map f l → (x : ℕ) × (x ∈ l) × (z ≡ f x)
+map-from f z [] i = absurd (List·Memᴰ·not-nil i)
+map-from f z (y ∷ l) i = pick (List·Memᴰ·cases-cons i) (map-from f z l)
+  where
+    pick : (z ≡ f y) ⊎ (z ∈ map f l) → (z ∈ map f l → (x : ℕ) × (x ∈ l) × (z ≡ f x)) → (x : ℕ) × (x ∈ (y ∷ l)) × (z ≡ f x)
+    pick (inl e) k = (y, List·Memᴰ·head refl, e)
+    pick (inr j) k = let h = k j in (h .0, List·Memᴰ·tail (h .1), h .2)
+
+pub map-nodup : (f : ℕ → ℕ) (l : List ℕ) → List·Nodup (map f l) → List·Nodup l
+map-nodup f [] D = nodup-nil
+map-nodup f (x ∷ l) D =
+    nodup-cons .1 (λ i. ∥∥₁-elim i ⊥-prop (λ j. nodup-cons .0 D .0 ∣ map-in f x l j ∣₁), map-nodup f l (nodup-cons .0 D .1))
