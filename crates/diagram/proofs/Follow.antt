@@ -3,3 +3,4 @@ pub mod Agrees
 pub mod Entering
 pub mod Forking
 pub mod Joining
+pub mod Shown

@@ -97,23 +97,38 @@ module _ (y : Day) where
       let s = or-false (not (leads (y .diagram) (y .forkOf b) (y .terminal a))) _ (q .1) in
       (p .0, q .0, not-false _ (s .0), s .1)
 
-  pub step-moves : (s : Step) → accepted y s ≡ true → Moves y (after y s)
-  unfolding accepted after
-  step-moves (Event c r u) e =
+  pub can-enter : (c r : ℕ) (u : Bool) → accepted y (Event c r u) ≡ true → CanEnter y c r
+  unfolding accepted
+  can-enter c r u e =
       let e2 = none-of (strange c) _ e in
       let e3 = none-of (notGiven y r) _ (e2 .1) in
       let e4 = none-of (y .joined r) _ (e3 .1) in
       let e6 = none-of (openElsewhere y c r) _ (e4 .1) in
       let e7 = none-of (busyByOther y c r) _ (e6 .1) in
       let e8 = none-of (stale y c r) _ (e7 .1) in
-      enters c r u (record { client-ok = known c (e2 .0); out = (given r (e3 .0), e4 .0); same-revision = same-revision c r (e6 .0); idle = idle-for c r (e7 .0); caught-up = caught-up c r (e8 .0) })
-  step-moves (Yield c) e = yields c (known c (none-of (strange c) _ e .0))
-  step-moves (Fork r) e =
+      record {
+        client-ok = known c (e2 .0);
+        out = (given r (e3 .0), e4 .0);
+        same-revision = same-revision c r (e6 .0);
+        idle = idle-for c r (e7 .0);
+        caught-up = caught-up c r (e8 .0);
+      }
+
+  pub can-yield : (c : ℕ) → accepted y (Yield c) ≡ true → c < clientLimit
+  unfolding accepted
+  can-yield c e = known c (none-of (strange c) _ e .0)
+
+  pub can-fork : (r : ℕ) → accepted y (Fork r) ≡ true → CanFork y r
+  unfolding accepted
+  can-fork r e =
       let e3 = none-of (notGiven y r) _ e in
       let e4 = none-of (y .joined r) _ (e3 .1) in
       let e7 = none-of (busy y r) _ (e4 .1) in
-      sends r (record { out = (given r (e3 .0), e4 .0); idle = idle-all r (e7 .0) })
-  step-moves (Join a b) e =
+      record { out = (given r (e3 .0), e4 .0); idle = idle-all r (e7 .0) }
+
+  pub can-join : (a b : ℕ) → accepted y (Join a b) ≡ true → CanJoin y a b
+  unfolding accepted
+  can-join a b e =
       let a3 = none-of (notGiven y a) _ e in
       let b3 = none-of (notGiven y b) _ (a3 .1) in
       let a4 = none-of (y .joined a) _ (b3 .1) in
@@ -121,7 +136,7 @@ module _ (y : Day) where
       let a7 = none-of (busy y a) _ (b4 .1) in
       let b7 = none-of (busy y b) _ (a7 .1) in
       let q = joinable a b (none-of (notJoinable y a b) _ (b7 .1) .0) in
-      hands a b (record {
+      record {
         out-a = (given a (a3 .0), a4 .0);
         out-b = (given b (b3 .0), b4 .0);
         idle-a = idle-all a (a7 .0);
@@ -130,4 +145,11 @@ module _ (y : Day) where
         not-self = eqb-false b a (q .1);
         fork-seen = q .2;
         start-unseen = q .3;
-      })
+      }
+
+  pub step-moves : (s : Step) → accepted y s ≡ true → Moves y (after y s)
+  unfolding after
+  step-moves (Event c r u) e = enters c r u (can-enter c r u e)
+  step-moves (Yield c) e = yields c (can-yield c e)
+  step-moves (Fork r) e = sends r (can-fork r e)
+  step-moves (Join a b) e = hands a b (can-join a b e)
