@@ -3,3 +3,4 @@ pub mod Numbered
 pub mod Inherited
 pub mod Growth
 pub mod Theorem
+pub mod Constructed

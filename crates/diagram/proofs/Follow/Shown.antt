@@ -74,6 +74,7 @@ module _ (y : Day) (k : Machine) (A : Agree y k) where
 
       once : List·Nodup left
       once = subst List·Nodup left-is (numbers-nodup d (y .updates) _ (A .numbered) (Nodup·sublist ∣ blocks-left (contents d at) (F .layout) (y .startOf r) ∣₁ (linked (F .sound .real .built) .inv .once)))
+
   pub follows : Follows y k
   unfolding stale
   follows = record {

@@ -70,7 +70,7 @@ unfolding runFrom
 along P keep [] y A p = p
 along P keep (s ∷ ss) y A p = along P keep ss (after y s) (A .1) (keep y s (A .0) p)
 
-fine-step : (y : Day) (s : Step) → accepted y s ≡ true → Fine y → Fine (after y s)
+pub fine-step : (y : Day) (s : Step) → accepted y s ≡ true → Fine y → Fine (after y s)
 fine-step y s e F = fine-moves y (after y s) F (step-moves y s e)
 
 pub fine-run : (ss : List Step) → Accepted ss → Fine (run ss)

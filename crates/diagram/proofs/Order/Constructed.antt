@@ -1,0 +1,193 @@
+-- Every run makes a revision diagram of 002's Definition 6: the revisions that are out end in its terminals.
+use Prim.Native.Nat.{_<_, suc, ℕ}
+use mathlib.Core.Bool.{Bool, false, false≢true, true}
+use mathlib.Core.Path.{_∙_, _≡_, ap, refl, sym}
+use mathlib.Core.Option.{Option, none, some}
+use mathlib.Core.List.{List, List·Memᴰ, List·Memᴰ·eq-of-singleton, List·Memᴰ·head, List·Memᴰ·not-nil, List·Memᴰ·tail, Memᴰ·append-left}
+use mathlib.Core.List.{Memᴰ·append-right, [], _++_, _∷_}
+use native.Mathlib.Omega.{arith}
+use lib.ListN.{length}
+use lib.Dec.{eqb}
+use borrow.Author.Tests.{eqb-false, eqb-true}
+use Rattle.diagram.proofs.Arranged.Built.{linked}
+use Rattle.diagram.proofs.Days.Moves.{CanEnter, CanFork, CanJoin, can-enter, can-fork, can-join}
+use Rattle.diagram.proofs.Graph.Paths.{Ordered, edge-bounds, leads-path, no-vertex, one-more, path-leads}
+use Rattle.diagram.proofs.Graph.Tables.{tabulate-newest, tabulate-older}
+use Rattle.diagram.proofs.Order.Growth.{Fine, fine-fresh}
+use Rattle.diagram.proofs.Order.Theorem.{along, fine-step}
+use Rattle.diagram.specs.Construction.{Constructed, Joinable, entered, forked, joined, rooted}
+use Rattle.diagram.specs.Day.{Day, IsOut, fresh}
+use Rattle.diagram.specs.Diagram.{Diagram, Edge, Terminal, Vertex, event, f-sources, fork, j-sources, join, newest, older, root}
+use Rattle.diagram.specs.Diagram.{s-sources, sources, start}
+use Rattle.diagram.specs.Effects.{startStep, startVertex, tabulate}
+use Rattle.diagram.specs.Steps.{Accepted, Event, Fork, Join, Step, Yield, accepted, after, close, enter, newUpdate, run, send, takeOver, yield}
+use Rattle.lists.proofs.Cases.{cases}
+use Rattle.lists.proofs.Changed.{changed-other, changed-same}
+use Rattle.lists.specs.Lists.{changed}
+
+-- an s- or j-edge is an edge
+s-any : (v : Vertex) (x : ℕ) → List·Memᴰ x (s-sources v) → List·Memᴰ x (sources v)
+s-any v x i = Memᴰ·append-left (j-sources v) (Memᴰ·append-left (f-sources v) i)
+
+j-any : (v : Vertex) (x : ℕ) → List·Memᴰ x (j-sources v) → List·Memᴰ x (sources v)
+j-any v x i = Memᴰ·append-right (s-sources v ++ f-sources v) i
+
+edge-any : {from : Vertex → List ℕ} → ((v : Vertex) (x : ℕ) → List·Memᴰ x (from v) → List·Memᴰ x (sources v)) → {x y : ℕ} {d : Diagram} → Edge from x y d → Edge sources x y d
+edge-any f (newest {v} {d} e i) = newest e (f v _ i)
+edge-any f (older e) = older (edge-any f e)
+
+-- the newest vertex has no edge out
+none-out : {from : Vertex → List ℕ} → ((v : Vertex) (x : ℕ) → List·Memᴰ x (from v) → List·Memᴰ x (sources v)) → {v : Vertex} {d : Diagram} → Ordered (v ∷ d) → (y : ℕ) → Edge from (length d) y (v ∷ d) → ⊥
+none-out f {v} {d} o y e = omega (arith, edge-bounds o (edge-any f e))
+
+terminal-newest : {v : Vertex} {d : Diagram} → Ordered (v ∷ d) → Terminal (v ∷ d) (length d)
+terminal-newest {v} {d} o = record { vertex = omega arith; no-s = none-out s-any o; no-j = none-out j-any o }
+
+-- an older terminal stays one, if the new vertex has no s- or j-edge from it
+keeps-out : {from : Vertex → List ℕ} {v : Vertex} {d : Diagram} {x : ℕ} → (List·Memᴰ x (from v) → ⊥) → ((y : ℕ) → Edge from x y d → ⊥) → (y : ℕ) → Edge from x y (v ∷ d) → ⊥
+keeps-out n f y (newest e i) = n i
+keeps-out n f y (older e) = f y e
+
+terminal-older : {v : Vertex} {d : Diagram} {x : ℕ} → (List·Memᴰ x (s-sources v) → ⊥) → (List·Memᴰ x (j-sources v) → ⊥) → Terminal d x → Terminal (v ∷ d) x
+terminal-older n m T = record { vertex = omega (arith, T .vertex); no-s = keeps-out n (T .no-s); no-j = keeps-out m (T .no-j) }
+
+pub record Made (y : Day) : Type 0 where
+  pub constructed : Constructed (y .diagram)
+  pub starts : (r : ℕ) → r < y .revisions → startVertex (y .diagram) (y .terminal r) ≡ y .startOf r
+  pub terminals : (r : ℕ) → IsOut y r → Terminal (y .diagram) (y .terminal r)
+
+made-fresh : Made fresh
+unfolding tabulate
+made-fresh = record {
+  constructed = rooted;
+  starts = λ r h. refl;
+  terminals = λ r o. terminal-newest (one-more {v = root} (λ p i. absurd (List·Memᴰ·not-nil i)) no-vertex);
+}
+
+module _ (y : Day) (F : Fine y) (M : Made y) where
+  abbrev d : Diagram
+  d = y .diagram
+
+  low : (r : ℕ) → r < y .revisions → y .terminal r < length d
+  low r h = F .sound .real .term-bound r h
+
+  ordered : Ordered d
+  ordered = linked (F .sound .real .built) .ordered
+
+  -- no two revisions have one terminal
+  apart : (r s : ℕ) → r < y .revisions → s < y .revisions → (r ≡ s → ⊥) → List·Memᴰ (y .terminal r) (y .terminal s ∷ []) → ⊥
+  apart r s h k n i =
+      n (F .sound .real .inj r s h k (sym (M .starts r h) ∙ ap (startVertex d) (List·Memᴰ·eq-of-singleton i) ∙ M .starts s k))
+
+  -- a vertex that goes on from a revision's terminal
+  module _ (v : Vertex) (r : ℕ) (hr : r < y .revisions) (on-line : startStep d (startVertex d) v ≡ startVertex d (y .terminal r)) where
+    starts-on : (s : ℕ) → s < y .revisions → startVertex (v ∷ d) (changed (y .terminal) r (length d) s) ≡ y .startOf s
+    starts-on s h =
+        cases (eqb s r)
+        (λ e. rw (e, tabulate-newest startStep 0 v d, eqb-true s r e) (on-line ∙ M .starts r hr))
+        (λ e. rw (e, tabulate-older startStep 0 v d (y .terminal s) (low s h)) (M .starts s h))
+
+    terminals-on : Ordered (v ∷ d) → s-sources v ≡ y .terminal r ∷ [] → (s : ℕ) → IsOut y s → (List·Memᴰ (y .terminal s) (j-sources v) → ⊥) → Terminal (v ∷ d) (changed (y .terminal) r (length d) s)
+    terminals-on o q s os n =
+        cases (eqb s r)
+        (λ e. rw e (terminal-newest o))
+        (λ e. rw e (terminal-older (λ i. apart s r (os .0) hr (eqb-false s r e) (rw q at i)) n (M .terminals s os)))
+
+  one-source : (v : Vertex) (r : ℕ) → r < y .revisions → sources v ≡ y .terminal r ∷ [] → Ordered (v ∷ d)
+  one-source v r h q = one-more {v = v} {d = d} (λ p i. rw (List·Memᴰ·eq-of-singleton (rw q at i)) (low r h)) ordered
+
+  made-enter : (c r : ℕ) (u : Bool) → CanEnter y c r → Made (enter y c r u)
+  made-enter c r u E = record {
+    constructed = entered (M .constructed) (M .terminals r (E .out)) c (newUpdate y u);
+    starts = starts-on v r (E .out .0) refl;
+    terminals = λ s o. terminals-on v r (E .out .0) refl (one-source v r (E .out .0) refl) refl s o (λ i. List·Memᴰ·not-nil i);
+  }
+    where
+      v : Vertex
+      v = event (y .terminal r) c (newUpdate y u)
+
+  made-close : (c t : ℕ) → Made (close y c t)
+  made-close c t = record { constructed = M .constructed; starts = M .starts; terminals = M .terminals }
+
+  made-send : (r : ℕ) → CanFork y r → Made (send y r)
+  made-send r N = record {
+    constructed = forked (M .constructed) (M .terminals r (N .out));
+    starts = λ s h. cases (eqb s n) (λ e. rw e (tabulate-newest startStep 0 sv (fv ∷ d))) (λ e. rw e (starts′ s (was s h e)));
+    terminals = λ s o. cases (eqb s n) (λ e. rw e (terminal-newest ordered2)) (λ e. rw e (terminals′ s (was s (o .0) e, rw e at (o .1))));
+  }
+    where
+      n : ℕ
+      n = y .revisions
+
+      fv : Vertex
+      fv = fork (y .terminal r)
+
+      sv : Vertex
+      sv = start (length d)
+
+      ordered1 : Ordered (fv ∷ d)
+      ordered1 = one-source fv r (N .out .0) refl
+
+      ordered2 : Ordered (sv ∷ fv ∷ d)
+      ordered2 = one-more {v = sv} {d = fv ∷ d} (λ p i. omega (arith, List·Memᴰ·eq-of-singleton i)) ordered1
+
+      was : (s : ℕ) → s < suc n → eqb s n ≡ false → s < n
+      was s h e = let k = eqb-false s n e in omega arith
+
+      fork-low : (s : ℕ) → s < n → changed (y .terminal) r (length d) s < length (fv ∷ d)
+      fork-low s h = cases (eqb s r) (λ e. rw e (omega arith)) (λ e. rw e (omega (arith, low s h)))
+
+      starts′ : (s : ℕ) → s < n → startVertex (sv ∷ fv ∷ d) (changed (y .terminal) r (length d) s) ≡ y .startOf s
+      starts′ s h = tabulate-older startStep 0 sv (fv ∷ d) (changed (y .terminal) r (length d) s) (fork-low s h) ∙ starts-on fv r (N .out .0) refl s h
+
+      terminals′ : (s : ℕ) → IsOut y s → Terminal (sv ∷ fv ∷ d) (changed (y .terminal) r (length d) s)
+      terminals′ s o =
+          terminal-older (λ i. List·Memᴰ·not-nil i) (λ i. List·Memᴰ·not-nil i)
+          (terminals-on fv r (N .out .0) refl ordered1 refl s o (λ i. List·Memᴰ·not-nil i))
+
+  made-join : (a b : ℕ) → CanJoin y a b → Made (takeOver y a b)
+  made-join a b H = record {
+    constructed = joined (M .constructed) (M .terminals a (H .out-a)) (M .terminals b (H .out-b)) rule;
+    starts = starts-on jv a (H .out-a .0) refl;
+    terminals = λ s o. let p = was s o in terminals-on jv a (H .out-a .0) refl two-sources refl s p (apart s b (p .0) (H .out-b .0) (not-b s o));
+  }
+    where
+      jv : Vertex
+      jv = join (y .terminal a) (y .terminal b)
+
+      two-sources : Ordered (jv ∷ d)
+      two-sources = one-more {v = jv} {d = d} older-both ordered
+        where
+          older-both : (p : ℕ) → List·Memᴰ p (y .terminal a ∷ y .terminal b ∷ []) → p < length d
+          older-both p (List·Memᴰ·head e) = rw e (low a (H .out-a .0))
+          older-both p (List·Memᴰ·tail i) = rw (List·Memᴰ·eq-of-singleton i) (low b (H .out-b .0))
+
+      not-b : (s : ℕ) → IsOut (takeOver y a b) s → s ≡ b → ⊥
+      not-b s o e = false≢true (sym (o .1) ∙ ap (changed (y .joined) b true) e ∙ changed-same (y .joined) b true)
+
+      was : (s : ℕ) → IsOut (takeOver y a b) s → IsOut y s
+      was s o = (o .0, sym (changed-other (y .joined) b true s (not-b s o)) ∙ o .1)
+
+      rule : Joinable d (y .terminal a) (y .terminal b)
+      rule = record {
+        forked = y .forkOf b;
+        is-fork = F .sound .real .from-ok b (H .out-b .0) (H .not-main);
+        fork-seen = leads-path d (y .forkOf b) (y .terminal a) (H .fork-seen);
+        start-unseen = λ p. false≢true (sym (H .start-unseen) ∙ path-leads ordered (rw (M .starts b (H .out-b .0)) at p));
+      }
+
+made-after : (y : Day) (s : Step) → accepted y s ≡ true → Fine y → Made y → Made (after y s)
+unfolding after
+made-after y (Event c r u) e F M = made-enter y F M c r u (can-enter y c r u e)
+made-after y (Yield c) e F M = by (y .openBy c)
+  where
+    by : (o : Option ℕ) → Made (yield y c o)
+    by none = M
+    by (some t) = made-close y F M c t
+made-after y (Fork r) e F M = made-send y F M r (can-fork y r e)
+made-after y (Join a b) e F M = made-join y F M a b (can-join y a b e)
+
+-- every run of accepted steps makes its diagram by the construction steps of Definition 6
+pub made-run : (ss : List Step) → Accepted ss → Made (run ss)
+unfolding run
+made-run ss A = along (λ y. Fine y × Made y) (λ y s e P. (fine-step y s e (P .0), made-after y s e (P .0) (P .1))) ss fresh A (fine-fresh, made-fresh) .1
