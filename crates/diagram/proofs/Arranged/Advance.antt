@@ -157,17 +157,16 @@ module _ (d : Diagram) (layout : List ℕ) (tip : ℕ → ℕ) (L : Linked d lay
     small′ x n i = cases (eqb x (length d)) (λ e. few n (rw e at i)) (λ e. omega (arith, L .small x n (rw e at i)))
 
     past′ : (x : ℕ) → x < length (v ∷ d) → Held layout′ (contents (v ∷ d) next) (viewEvents (v ∷ d) x)
-    past′ x h = pick (split (eqb x (length d)))
-      where
-        pick : (eqb x (length d) ≡ true) ⊎ (eqb x (length d) ≡ false) → Held layout′ (contents (v ∷ d) next) (viewEvents (v ∷ d) x)
-        pick (inl e) =
-            let q : next b ≡ x = changed-same tip b (length d) ∙ sym (eqb-true x (length d) e) in
-            let o : Ordered (v ∷ d) = one-more older (L .ordered) in
-            (b, b-out, rw (q, view-split o x h) (Sublistᴰ·refl _))
-        pick (inr e) =
-            let q = eqb-false x (length d) e in
-            let l : x < length d = omega arith in
-            held-same layout′ s′ (contents (v ∷ d) next) _ same-box (rw (tabulate-older viewEventStep [] v d x l) (held _ (L .past x l)))
+    past′ x h =
+        cases (eqb x (length d))
+        (λ e.
+        let q : next b ≡ x = changed-same tip b (length d) ∙ sym (eqb-true x (length d) e) in
+        let o : Ordered (v ∷ d) = one-more older (L .ordered) in
+        (b, b-out, rw (q, view-split o x h) (Sublistᴰ·refl _)))
+        (λ e.
+        let q = eqb-false x (length d) e in
+        let l : x < length d = omega arith in
+        held-same layout′ s′ (contents (v ∷ d) next) _ same-box (rw (tabulate-older viewEventStep [] v d x l) (held _ (L .past x l))))
 
     pub advance : Linked (v ∷ d) layout′ next
     advance = record {

@@ -19,7 +19,7 @@ use Rattle.diagram.proofs.Arranged.Invariant.{Inv, fork-inv, forkBoxes,
 use Rattle.diagram.proofs.Arranged.Joining.{grow}
 use Rattle.diagram.proofs.Arranged.Past.{Held, held-grow, held-join, held-order}
 use Rattle.diagram.proofs.Graph.Events.{inh-from, inheritedStep, ownEventStep, ownEvents, path-view, view-split, viewEventStep, viewEvents}
-use Rattle.diagram.proofs.Graph.Paths.{no-vertex, Ordered, leads-path, one-more, path-start}
+use Rattle.diagram.proofs.Graph.Paths.{Ordered, leads-path, no-vertex, one-more, path-start}
 use Rattle.diagram.proofs.Graph.Tables.{tabulate-older}
 use Rattle.diagram.specs.Diagram.{Diagram, Path, Vertex, event, fork, join, leads, root, sources, start}
 use Rattle.diagram.specs.Effects.{forkStep, forkVertex, tabulate}
@@ -226,19 +226,18 @@ module _ (d : Diagram) (layout : List ℕ) (tip : ℕ → ℕ) (L : Linked d lay
   start-ids x i = cases (eqb x c) (λ e. omega (arith, eqb-true x c e)) (λ e. omega (arith, L .ids x (out-in x i (eqb-false x c e))))
 
   start-past : (x : ℕ) → x < length (sv ∷ d) → Held (insert b c layout) (contents (sv ∷ d) t2) (viewEvents (sv ∷ d) x)
-  start-past x h = pick (split (eqb x (length d)))
-    where
-      pick : (eqb x (length d) ≡ true) ⊎ (eqb x (length d) ≡ false) → Held (insert b c layout) (contents (sv ∷ d) t2) (viewEvents (sv ∷ d) x)
-      pick (inl e) =
-          let q : t2 c ≡ x = changed-same tip c (length d) ∙ sym (eqb-true x (length d) e) in
-          let o : Ordered (sv ∷ d) = one-more {v = sv} start-older (L .ordered) in
-          (c, c-in, rw (q, view-split o x h) (Sublistᴰ·refl _))
-      pick (inr e) =
-          let q = eqb-false x (length d) e in
-          let l : x < length d = omega arith in
-          let w = L .past x l in
-          let u : contents (sv ∷ d) t2 (w .0) ≡ contents d tip (w .0) = fork-box (w .0) ∙ changed-other (contents d tip) c _ (w .0) (not-new (w .0) (w .1)) in
-          (w .0, lay-in (w .0) (w .1), rw (tabulate-older viewEventStep [] sv d x l) (subst (λ z. viewEvents d x ⊑ seen z) (sym u) (w .2)))
+  start-past x h =
+      cases (eqb x (length d))
+      (λ e.
+      let q : t2 c ≡ x = changed-same tip c (length d) ∙ sym (eqb-true x (length d) e) in
+      let o : Ordered (sv ∷ d) = one-more {v = sv} start-older (L .ordered) in
+      (c, c-in, rw (q, view-split o x h) (Sublistᴰ·refl _)))
+      (λ e.
+      let q = eqb-false x (length d) e in
+      let l : x < length d = omega arith in
+      let w = L .past x l in
+      let u : contents (sv ∷ d) t2 (w .0) ≡ contents d tip (w .0) = fork-box (w .0) ∙ changed-other (contents d tip) c _ (w .0) (not-new (w .0) (w .1)) in
+      (w .0, lay-in (w .0) (w .1), rw (tabulate-older viewEventStep [] sv d x l) (subst (λ z. viewEvents d x ⊑ seen z) (sym u) (w .2))))
 
   pub linked-start : Linked (start f ∷ d) (insert b (length d) layout) (changed tip (length d) (length d))
   linked-start = record {

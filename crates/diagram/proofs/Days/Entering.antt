@@ -279,11 +279,10 @@ module _ (y : Day) (layout : List ℕ) (at : ℕ → ℕ) (hold : ℕ → List �
       last-c a e q h = (x0, rw q (changed-same (y .lastEvent) c (some x0)), h)
 
       last-old : (t e : ℕ) → t < y .transactions → e ∈ eventsOf y t → (l : ℕ) × (changed (y .lastEvent) c (some x0) (y .transaction t .client) ≡ some l) × (leads (v ∷ d) e l ≡ true)
-      last-old t e h i = pick (split (eqb (y .transaction t .client) c))
-        where
-          pick : (eqb (y .transaction t .client) c ≡ true) ⊎ (eqb (y .transaction t .client) c ≡ false) → (l : ℕ) × (changed (y .lastEvent) c (some x0) (y .transaction t .client) ≡ some l) × (leads (v ∷ d) e l ≡ true)
-          pick (inl q) = let g = eqb-true (y .transaction t .client) c q in last-c (y .transaction t .client) e g (up e (mine-sees t e h g i))
-          pick (inr q) = let l = S .sessions .last-sees t e h i in (l .0, rw q (l .1), old-sees e (l .0) (leads-low y layout at hold S e (l .0) (l .2)) (l .2))
+      last-old t e h i =
+          cases (eqb (y .transaction t .client) c)
+          (λ q. let g = eqb-true (y .transaction t .client) c q in last-c (y .transaction t .client) e g (up e (mine-sees t e h g i)))
+          (λ q. let l = S .sessions .last-sees t e h i in (l .0, rw q (l .1), old-sees e (l .0) (leads-low y layout at hold S e (l .0) (l .2)) (l .2)))
 
       last′ : (t e : ℕ) → t < y′ .transactions → e ∈ eventsOf y′ t → (l : ℕ) × (y′ .lastEvent (y′ .transaction t .client) ≡ some l) × (leads (v ∷ d) e l ≡ true)
       last′ t e h i = pick (side t h)

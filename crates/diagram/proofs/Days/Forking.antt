@@ -21,7 +21,7 @@ use Rattle.diagram.specs.Arbitration.{eventsOf}
 use Rattle.diagram.specs.Day.{Day, IsOut}
 use Rattle.diagram.specs.Diagram.{Diagram, Vertex, fork, leads, start}
 use Rattle.diagram.specs.Steps.{send}
-use Rattle.lists.proofs.Cases.{either, split}
+use Rattle.lists.proofs.Cases.{cases, either, split}
 use Rattle.lists.proofs.Changed.{changed-other}
 use Rattle.lists.proofs.Places.{insert-back, insert-old}
 use Rattle.lists.specs.Lists.{_∈_, changed, flat, insert}
@@ -74,30 +74,27 @@ module _ (y : Day) (layout : List ℕ) (at : ℕ → ℕ) (hold : ℕ → List �
   filed′ = record { blocks-ok = blocks′; all = all′; low = low′; first = S .filed .first }
     where
       own-old : (x : ℕ) → x ∈ layout → ownEvents (sv ∷ fv ∷ d) (changed at b x0 x) ≡ flat (eventsOf y) (hold x)
-      own-old x i = pick (split (eqb x b))
-        where
-          pick : (eqb x b ≡ true) ⊎ (eqb x b ≡ false) → ownEvents (sv ∷ fv ∷ d) (changed at b x0 x) ≡ flat (eventsOf y) (hold x)
-          pick (inl e) =
-              let z = eqb-true x b e in
-              rw (e, tabulate-older ownEventStep [] sv (fv ∷ d) x0 (omega arith), tabulate-newest ownEventStep [] fv d, ← (S .real .out r (N .out) .1), ← z) (S .filed .blocks-ok x i)
-          pick (inr e) = rw (e, tabulate-older ownEventStep [] sv (fv ∷ d) (at x) (omega (arith, L .bound x)), tabulate-older ownEventStep [] fv d (at x) (L .bound x)) (S .filed .blocks-ok x i)
+      own-old x i =
+          cases (eqb x b)
+          (λ e.
+          let z = eqb-true x b e in
+          rw (e, tabulate-older ownEventStep [] sv (fv ∷ d) x0 (omega arith), tabulate-newest ownEventStep [] fv d, ← (S .real .out r (N .out) .1), ← z) (S .filed .blocks-ok x i))
+          (λ e. rw (e, tabulate-older ownEventStep [] sv (fv ∷ d) (at x) (omega (arith, L .bound x)), tabulate-older ownEventStep [] fv d (at x) (L .bound x)) (S .filed .blocks-ok x i))
 
       blocks′ : (x : ℕ) → x ∈ layout′ → ownEvents (sv ∷ fv ∷ d) (at′ x) ≡ flat (eventsOf y) (hold′ x)
-      blocks′ x i = pick (split (eqb x c0))
-        where
-          pick : (eqb x c0 ≡ true) ⊎ (eqb x c0 ≡ false) → ownEvents (sv ∷ fv ∷ d) (at′ x) ≡ flat (eventsOf y) (hold′ x)
-          pick (inl e) = rw e (tabulate-newest ownEventStep [] sv (fv ∷ d))
-          pick (inr e) = rw e (own-old x (either (insert-back b c0 x layout i) (λ q. absurd (eqb-false x c0 e q)) (λ j. j)))
+      blocks′ x i =
+          cases (eqb x c0)
+          (λ e. rw e (tabulate-newest ownEventStep [] sv (fv ∷ d)))
+          (λ e. rw e (own-old x (either (insert-back b c0 x layout i) (λ q. absurd (eqb-false x c0 e q)) (λ j. j))))
 
       all′ : (t : ℕ) → t < y .transactions → (x : ℕ) × (x ∈ layout′) × (t ∈ hold′ x)
       all′ t h = let p = S .filed .all t h in (p .0, insert-old b c0 (p .0) layout (p .1), rw (changed-other hold c0 [] (p .0) (old-c (p .0) (p .1))) (p .2))
 
       low′ : (x t : ℕ) → x ∈ layout′ → t ∈ hold′ x → t < y .transactions
-      low′ x t i j = pick (split (eqb x c0))
-        where
-          pick : (eqb x c0 ≡ true) ⊎ (eqb x c0 ≡ false) → t < y .transactions
-          pick (inl e) = absurd (List·Memᴰ·not-nil (rw e at j))
-          pick (inr e) = S .filed .low x t (either (insert-back b c0 x layout i) (λ q. absurd (eqb-false x c0 e q)) (λ k. k)) (rw e at j)
+      low′ x t i j =
+          cases (eqb x c0)
+          (λ e. absurd (List·Memᴰ·not-nil (rw e at j)))
+          (λ e. S .filed .low x t (either (insert-back b c0 x layout i) (λ q. absurd (eqb-false x c0 e q)) (λ k. k)) (rw e at j))
 
   runs′ : (a s : ℕ) → y .openBy a ≡ some s → Runs y′ hold′ a s
   runs′ a s p = record {

@@ -94,11 +94,10 @@ module _ (y : Day) (layout : List ℕ) (at : ℕ → ℕ) (hold : ℕ → List �
           pick x i j (inr e) (inr g) = (x, remove-keep bb x layout (eqb-false x bb e) i, rw g j)
 
       low′ : (x t : ℕ) → x ∈ layout′ → t ∈ hold′ x → t < y .transactions
-      low′ x t i j = pick (split (eqb x ba))
-        where
-          pick : (eqb x ba ≡ true) ⊎ (eqb x ba ≡ false) → t < y .transactions
-          pick (inl e) = either (List·Memᴰ·append-cases (hold ba) (rw e at j)) (λ k. S .filed .low ba t (oa .0) k) (λ k. S .filed .low bb t (ob .0) k)
-          pick (inr e) = S .filed .low x t (remove-back bb x layout i) (rw e at j)
+      low′ x t i j =
+          cases (eqb x ba)
+          (λ e. either (List·Memᴰ·append-cases (hold ba) (rw e at j)) (λ k. S .filed .low ba t (oa .0) k) (λ k. S .filed .low bb t (ob .0) k))
+          (λ e. S .filed .low x t (remove-back bb x layout i) (rw e at j))
 
   runs′ : (c s : ℕ) → y .openBy c ≡ some s → Runs y′ hold′ c s
   runs′ c s p = record {

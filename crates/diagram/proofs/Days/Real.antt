@@ -48,24 +48,22 @@ module _ (y : Day) (layout : List ℕ) (at : ℕ → ℕ) (R : Real y layout at)
 
   -- the terminals, changed at one box that is there
   agree : (r s v : ℕ) → r < y .revisions → s < y .revisions → at (y .startOf s) ≡ y .terminal s → changed at (y .startOf r) v (y .startOf s) ≡ changed (y .terminal) r v s
-  agree r s v h k e = pick (split (eqb s r))
-    where
-      pick : (eqb s r ≡ true) ⊎ (eqb s r ≡ false) → changed at (y .startOf r) v (y .startOf s) ≡ changed (y .terminal) r v s
-      pick (inl q) = rw (eqb-true s r q, changed-same at (y .startOf r) v, changed-same (y .terminal) r v)
-      pick (inr q) = let n = eqb-false s r q in rw (changed-other at (y .startOf r) v (y .startOf s) (λ z. n (R .inj s r k h z)), changed-other (y .terminal) r v s n) e
+  agree r s v h k e =
+      cases (eqb s r)
+      (λ q. rw (eqb-true s r q, changed-same at (y .startOf r) v, changed-same (y .terminal) r v))
+      (λ q. let n = eqb-false s r q in rw (changed-other at (y .startOf r) v (y .startOf s) (λ z. n (R .inj s r k h z)), changed-other (y .terminal) r v s n) e)
 
   term-on : (v : Vertex) (r s : ℕ) → s < y .revisions → changed (y .terminal) r (length d) s < length (v ∷ d)
   term-on v r s h = cases (eqb s r) (λ e. rw e (omega arith)) (λ e. rw e (omega (arith, R .term-bound s h)))
 
   from-on : (v : Vertex) (r : ℕ) → r < y .revisions → forkStep d (forkVertex d) v ≡ forkVertex d (y .terminal r) → (s : ℕ) → s < y .revisions → (s ≡ 0 → ⊥) → forkVertex (v ∷ d) (changed (y .terminal) r (length d) s) ≡ some (y .forkOf s)
-  from-on v r h e s k n = pick (split (eqb s r))
-    where
-      pick : (eqb s r ≡ true) ⊎ (eqb s r ≡ false) → forkVertex (v ∷ d) (changed (y .terminal) r (length d) s) ≡ some (y .forkOf s)
-      pick (inl q) =
-          let p = eqb-true s r q in
-          let f : forkVertex d (y .terminal r) ≡ some (y .forkOf s) = subst (λ z. forkVertex d (y .terminal z) ≡ some (y .forkOf s)) p (R .from-ok s k n) in
-          rw (q, tabulate-newest forkStep none v d) (e ∙ f)
-      pick (inr q) = rw (q, tabulate-older forkStep none v d (y .terminal s) (R .term-bound s k)) (R .from-ok s k n)
+  from-on v r h e s k n =
+      cases (eqb s r)
+      (λ q.
+      let p = eqb-true s r q in
+      let f : forkVertex d (y .terminal r) ≡ some (y .forkOf s) = subst (λ z. forkVertex d (y .terminal z) ≡ some (y .forkOf s)) p (R .from-ok s k n) in
+      rw (q, tabulate-newest forkStep none v d) (e ∙ f))
+      (λ q. rw (q, tabulate-older forkStep none v d (y .terminal s) (R .term-bound s k)) (R .from-ok s k n))
 
   pub real-enter : (c r : ℕ) (u : Bool) → CanEnter y c r → Real (enter y c r u) layout (changed at (y .startOf r) (length d))
   real-enter c r u E = record {
@@ -114,23 +112,21 @@ module _ (y : Day) (layout : List ℕ) (at : ℕ → ℕ) (R : Real y layout at)
       less s h e = omega arith
 
       out′ : (s : ℕ) → IsOut (send y r) s → (changed (y .startOf) n c s ∈ insert (y .startOf r) c layout) × (at′ (changed (y .startOf) n c s) ≡ changed (changed (y .terminal) r (length d)) n c s)
-      out′ s o = pick (split (eqb s n))
-        where
-          pick : (eqb s n ≡ true) ⊎ (eqb s n ≡ false) → (changed (y .startOf) n c s ∈ insert (y .startOf r) c layout) × (at′ (changed (y .startOf) n c s) ≡ changed (changed (y .terminal) r (length d)) n c s)
-          pick (inl e) = rw e (insert-new (y .startOf r) c layout (R .out r (S .out) .0), changed-same (changed at (y .startOf r) (length d)) c c)
-          pick (inr e) =
-              let h : s < n = less s (o .0) (eqb-false s n e) in
-              let p = R .out s (h, rw e at (o .1)) in
-              rw e (insert-old (y .startOf r) c (y .startOf s) layout (p .0), changed-other (changed at (y .startOf r) (length d)) c c (y .startOf s) (λ q. omega (arith, R .began-bound s h)) ∙ agree r s (length d) (S .out .0) h (p .1))
+      out′ s o =
+          cases (eqb s n)
+          (λ e. rw e (insert-new (y .startOf r) c layout (R .out r (S .out) .0), changed-same (changed at (y .startOf r) (length d)) c c))
+          (λ e.
+          let h : s < n = less s (o .0) (eqb-false s n e) in
+          let p = R .out s (h, rw e at (o .1)) in
+          rw e (insert-old (y .startOf r) c (y .startOf s) layout (p .0), changed-other (changed at (y .startOf r) (length d)) c c (y .startOf s) (λ q. omega (arith, R .began-bound s h)) ∙ agree r s (length d) (S .out .0) h (p .1)))
 
       from-ok′ : (s : ℕ) → s < suc n → (s ≡ 0 → ⊥) → forkVertex (start (length d) ∷ fv ∷ d) (changed (changed (y .terminal) r (length d)) n c s) ≡ some (changed (y .forkOf) n (length d) s)
-      from-ok′ s h z = pick (split (eqb s n))
-        where
-          pick : (eqb s n ≡ true) ⊎ (eqb s n ≡ false) → forkVertex (start (length d) ∷ fv ∷ d) (changed (changed (y .terminal) r (length d)) n c s) ≡ some (changed (y .forkOf) n (length d) s)
-          pick (inl e) = rw e (tabulate-newest forkStep none (start (length d)) (fv ∷ d))
-          pick (inr e) =
-              let k = less s h (eqb-false s n e) in
-              rw (e, tabulate-older forkStep none (start (length d)) (fv ∷ d) (changed (y .terminal) r (length d) s) (term-on fv r s k)) (from-on fv r (S .out .0) refl s k z)
+      from-ok′ s h z =
+          cases (eqb s n)
+          (λ e. rw e (tabulate-newest forkStep none (start (length d)) (fv ∷ d)))
+          (λ e.
+          let k = less s h (eqb-false s n e) in
+          rw (e, tabulate-older forkStep none (start (length d)) (fv ∷ d) (changed (y .terminal) r (length d) s) (term-on fv r s k)) (from-on fv r (S .out .0) refl s k z))
 
       back′ : (x : ℕ) → x ∈ insert (y .startOf r) c layout → (s : ℕ) × IsOut (send y r) s × (x ≡ changed (y .startOf) n c s)
       back′ x i = pick (insert-back (y .startOf r) c x layout i)
@@ -191,13 +187,12 @@ module _ (y : Day) (layout : List ℕ) (at : ℕ → ℕ) (R : Real y layout at)
           (subst (λ p. Built (join p (at (y .startOf b)) ∷ d) (remove (y .startOf b) layout) (changed at (y .startOf a) (length d))) (oa .1) (joins (R .built) (y .startOf a) (y .startOf b) (oa .0) (ob .0) may))
 
       out′ : (s : ℕ) → IsOut (takeOver y a b) s → (y .startOf s ∈ remove (y .startOf b) layout) × (changed at (y .startOf a) (length d) (y .startOf s) ≡ changed (y .terminal) a (length d) s)
-      out′ s o = pick (split (eqb s b))
-        where
-          pick : (eqb s b ≡ true) ⊎ (eqb s b ≡ false) → (y .startOf s ∈ remove (y .startOf b) layout) × (changed at (y .startOf a) (length d) (y .startOf s) ≡ changed (y .terminal) a (length d) s)
-          pick (inl e) = let f : true ≡ false = rw e at (o .1) in absurd (false≢true (sym f))
-          pick (inr e) =
-              let p = R .out s (o .0, rw e at (o .1)) in
-              (remove-keep (y .startOf b) (y .startOf s) layout (λ q. eqb-false s b e (R .inj s b (o .0) (H .out-b .0) q)) (p .0), agree a s (length d) (H .out-a .0) (o .0) (p .1))
+      out′ s o =
+          cases (eqb s b)
+          (λ e. let f : true ≡ false = rw e at (o .1) in absurd (false≢true (sym f)))
+          (λ e.
+          let p = R .out s (o .0, rw e at (o .1)) in
+          (remove-keep (y .startOf b) (y .startOf s) layout (λ q. eqb-false s b e (R .inj s b (o .0) (H .out-b .0) q)) (p .0), agree a s (length d) (H .out-a .0) (o .0) (p .1)))
 
       back′ : (x : ℕ) → x ∈ remove (y .startOf b) layout → (s : ℕ) × IsOut (takeOver y a b) s × (x ≡ y .startOf s)
       back′ x i =

@@ -1,8 +1,7 @@
 -- What is carried along a run: the machine has the day's lists and marks, and the layout is that of the diagram.
 use Prim.Native.Nat.{_<_, ℕ}
-use mathlib.Core.Bool.{cond, false, true}
+use mathlib.Core.Bool.{cond, false}
 use mathlib.Core.Path.{_∙_, _≡_, ap, refl, sym}
-use mathlib.Core.Logic.{_⊎_, inl, inr}
 use mathlib.Core.List.{List·Memᴰ·eq-of-singleton, _∷_, map}
 use native.Mathlib.Omega.{arith}
 use lib.ListN.{length}
@@ -21,7 +20,7 @@ use Rattle.diagram.specs.Day.{Day, IsOut, fresh}
 use Rattle.diagram.specs.Diagram.{Diagram, Vertex}
 use Rattle.diagram.specs.Effects.{own, tabulate}
 use Rattle.diagram.specs.Machine.{Machine, freshMachine, revisionOf}
-use Rattle.lists.proofs.Cases.{cases, split}
+use Rattle.lists.proofs.Cases.{cases}
 use Rattle.lists.specs.Lists.{_∈_, changed}
 
 -- the machine is the day's, with what keeps it so
@@ -80,8 +79,7 @@ module _ (y : Day) (k : Machine) (A : Agree y k) where
 
   -- a vertex that carries on r's line
   pub inherited-step : (v : Vertex) (r s : ℕ) → r < y .revisions → s < y .revisions → inheritedStep d (inheritedEvents d) v ≡ inheritedEvents d (y .terminal r) → inherited (v ∷ d) (changed (y .terminal) r (length d) s) ≡ inherited d (y .terminal s)
-  inherited-step v r s hr hs q = pick (split (eqb s r))
-    where
-      pick : (eqb s r ≡ true) ⊎ (eqb s r ≡ false) → inherited (v ∷ d) (changed (y .terminal) r (length d) s) ≡ inherited d (y .terminal s)
-      pick (inl e) = ap (λ t. inherited (v ∷ d) (cond t (length d) (y .terminal s))) e ∙ inherited-along v d ord (y .terminal r) (terminal-low r hr) q ∙ ap (λ t. inherited d (y .terminal t)) (sym (eqb-true s r e))
-      pick (inr e) = ap (λ t. inherited (v ∷ d) (cond t (length d) (y .terminal s))) e ∙ inherited-older v d ord (y .terminal s) (terminal-low s hs)
+  inherited-step v r s hr hs q =
+      cases (eqb s r)
+      (λ e. ap (λ t. inherited (v ∷ d) (cond t (length d) (y .terminal s))) e ∙ inherited-along v d ord (y .terminal r) (terminal-low r hr) q ∙ ap (λ t. inherited d (y .terminal t)) (sym (eqb-true s r e)))
+      (λ e. ap (λ t. inherited (v ∷ d) (cond t (length d) (y .terminal s))) e ∙ inherited-older v d ord (y .terminal s) (terminal-low s hs))

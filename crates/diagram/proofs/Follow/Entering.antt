@@ -60,11 +60,10 @@ module _ (y : Day) (k : Machine) (A : Agree y k) where
       v = event (y .terminal r) c (cond u (some (y .updates)) none)
 
       caught′ : (o x : ℕ) → IsOut y x → cond (eqb o c) (eqb x r) (k .caughtUp o x) ≡ caught (enter y c r u) o x
-      caught′ o x ox = pick (split (eqb o c))
-        where
-          pick : (eqb o c ≡ true) ⊎ (eqb o c ≡ false) → cond (eqb o c) (eqb x r) (k .caughtUp o x) ≡ caught (enter y c r u) o x
-          pick (inl e) = ap (λ z. cond z (eqb x r) (k .caughtUp o x)) e ∙ sym (caught-own y F c r u x (ox .0)) ∙ ap (λ z. caught (enter y c r u) z x) (sym (eqb-true o c e))
-          pick (inr e) = ap (λ z. cond z (eqb x r) (k .caughtUp o x)) e ∙ A .same-caughtUp o x ox ∙ sym (caught-other y F c r u o x (eqb-false o c e) (ox .0))
+      caught′ o x ox =
+          cases (eqb o c)
+          (λ e. ap (λ z. cond z (eqb x r) (k .caughtUp o x)) e ∙ sym (caught-own y F c r u x (ox .0)) ∙ ap (λ z. caught (enter y c r u) z x) (sym (eqb-true o c e)))
+          (λ e. ap (λ z. cond z (eqb x r) (k .caughtUp o x)) e ∙ A .same-caughtUp o x ox ∙ sym (caught-other y F c r u o x (eqb-false o c e) (ox .0)))
 
       open′ : (o : ℕ) → changed (k .openOn) c (some r) o ≡ revisionOf (enter y c r u .transaction) (enter y c r u .openBy o)
       open′ o = pick (split (eqb o c))

@@ -2,7 +2,6 @@
 use Prim.Native.Nat.{ℕ}
 use mathlib.Core.Bool.{_||_, cond, false, false≢true, true}
 use mathlib.Core.Path.{_∙_, _≡_, ap, refl, subst, sym}
-use mathlib.Core.Logic.{_⊎_, inl, inr}
 use mathlib.Core.List.{List·Nodup, Memᴰ·cast, [], _++_, _∷_}
 use lib.ListN.{length}
 use lib.Dec.{eqb}
@@ -20,7 +19,7 @@ use Rattle.diagram.specs.Diagram.{Diagram, Vertex, join}
 use Rattle.diagram.specs.Effects.{own, ownStep}
 use Rattle.diagram.specs.Machine.{Machine, joinOn}
 use Rattle.diagram.specs.Steps.{takeOver}
-use Rattle.lists.proofs.Cases.{cases, split}
+use Rattle.lists.proofs.Cases.{cases}
 use Rattle.lists.proofs.Changed.{changed-other}
 use Rattle.lists.proofs.Maps.{map-nodup, map-remove}
 use Rattle.lists.proofs.Places.{remove-back, remove-gone}
@@ -65,11 +64,7 @@ module _ (y : Day) (k : Machine) (A : Agree y k) where
           (o .0, changed-other (y .joined) b true x (λ e. remove-gone b (k .layout) lone (Memᴰ·cast (sym e) i)) ∙ o .1)
 
       old : (s : ℕ) → IsOut (takeOver y a b) s → IsOut y s
-      old s o = pick (split (eqb s b))
-        where
-          pick : (eqb s b ≡ true) ⊎ (eqb s b ≡ false) → IsOut y s
-          pick (inl e) = let f : true ≡ false = rw e at (o .1) in absurd (false≢true (sym f))
-          pick (inr e) = (o .0, rw e at (o .1))
+      old s o = cases (eqb s b) (λ e. let f : true ≡ false = rw e at (o .1) in absurd (false≢true (sym f))) (λ e. (o .0, rw e at (o .1)))
 
       own′ : (s : ℕ) → IsOut (takeOver y a b) s → changed (k .own) a (k .own a ++ k .own b) s ≡ own (jv ∷ d) (changed (y .terminal) a (length d) s)
       own′ s o =
@@ -78,19 +73,17 @@ module _ (y : Day) (k : Machine) (A : Agree y k) where
           (λ e. rw (e, tabulate-older ownStep [] jv d (y .terminal s) (terminal-low y k A s (o .0))) (A .same-own s (old s o)))
 
       joinable′ : (x z : ℕ) → IsOut (takeOver y a b) x → IsOut (takeOver y a b) z → cond (eqb x a) (k .joinable a z || k .joinable b z) (k .joinable x z) ≡ J (takeOver y a b) x z
-      joinable′ x z ox oz = pick (split (eqb x a))
-        where
-          pick : (eqb x a ≡ true) ⊎ (eqb x a ≡ false) → cond (eqb x a) (k .joinable a z || k .joinable b z) (k .joinable x z) ≡ J (takeOver y a b) x z
-          pick (inl e) =
-              ap (λ t. cond t (k .joinable a z || k .joinable b z) (k .joinable x z)) e ∙ ap (λ t. t || k .joinable b z) (A .same-joinable a z (H .out-a) (old z oz)) ∙ ap (λ t. J y a z || t) (A .same-joinable b z (H .out-b) (old z oz))
-              ∙ sym (J-hand-joiner y F (M .marks) a b H z oz) ∙ ap (λ t. J (takeOver y a b) t z) (sym (eqb-true x a e))
-          pick (inr e) = ap (λ t. cond t (k .joinable a z || k .joinable b z) (k .joinable x z)) e ∙ A .same-joinable x z (old x ox) (old z oz) ∙ sym (J-hand-other y F (M .marks) a b H x z (eqb-false x a e) ox oz)
+      joinable′ x z ox oz =
+          cases (eqb x a)
+          (λ e.
+          ap (λ t. cond t (k .joinable a z || k .joinable b z) (k .joinable x z)) e ∙ ap (λ t. t || k .joinable b z) (A .same-joinable a z (H .out-a) (old z oz)) ∙ ap (λ t. J y a z || t) (A .same-joinable b z (H .out-b) (old z oz))
+          ∙ sym (J-hand-joiner y F (M .marks) a b H z oz) ∙ ap (λ t. J (takeOver y a b) t z) (sym (eqb-true x a e)))
+          (λ e. ap (λ t. cond t (k .joinable a z || k .joinable b z) (k .joinable x z)) e ∙ A .same-joinable x z (old x ox) (old z oz) ∙ sym (J-hand-other y F (M .marks) a b H x z (eqb-false x a e) ox oz))
 
       caught′ : (o x : ℕ) → IsOut (takeOver y a b) x → cond (eqb x a) (k .caughtUp o a || k .caughtUp o b) (k .caughtUp o x) ≡ caught (takeOver y a b) o x
-      caught′ o x ox = pick (split (eqb x a))
-        where
-          pick : (eqb x a ≡ true) ⊎ (eqb x a ≡ false) → cond (eqb x a) (k .caughtUp o a || k .caughtUp o b) (k .caughtUp o x) ≡ caught (takeOver y a b) o x
-          pick (inl e) =
-              ap (λ t. cond t (k .caughtUp o a || k .caughtUp o b) (k .caughtUp o x)) e ∙ ap (λ t. t || k .caughtUp o b) (A .same-caughtUp o a (H .out-a)) ∙ ap (λ t. caught y o a || t) (A .same-caughtUp o b (H .out-b))
-              ∙ sym (caught-joiner y F a b o) ∙ ap (λ t. caught (takeOver y a b) o t) (sym (eqb-true x a e))
-          pick (inr e) = ap (λ t. cond t (k .caughtUp o a || k .caughtUp o b) (k .caughtUp o x)) e ∙ A .same-caughtUp o x (old x ox) ∙ sym (caught-hand y F a b o x (ox .0) (eqb-false x a e))
+      caught′ o x ox =
+          cases (eqb x a)
+          (λ e.
+          ap (λ t. cond t (k .caughtUp o a || k .caughtUp o b) (k .caughtUp o x)) e ∙ ap (λ t. t || k .caughtUp o b) (A .same-caughtUp o a (H .out-a)) ∙ ap (λ t. caught y o a || t) (A .same-caughtUp o b (H .out-b))
+          ∙ sym (caught-joiner y F a b o) ∙ ap (λ t. caught (takeOver y a b) o t) (sym (eqb-true x a e)))
+          (λ e. ap (λ t. cond t (k .caughtUp o a || k .caughtUp o b) (k .caughtUp o x)) e ∙ A .same-caughtUp o x (old x ox) ∙ sym (caught-hand y F a b o x (ox .0) (eqb-false x a e)))

@@ -116,11 +116,7 @@ module _ (y : Day) (F : Fine y) where
         is-old : (s ≡ n → ⊥) → IsOut y s → Which s
 
       which : (s : ℕ) → IsOut ys s → Which s
-      which s o = pick (split (eqb s n))
-        where
-          pick : (eqb s n ≡ true) ⊎ (eqb s n ≡ false) → Which s
-          pick (inl e) = is-new (eqb-true s n e)
-          pick (inr e) = let k = eqb-false s n e in is-old k (omega (arith, o .0), rw e at (o .1))
+      which s o = cases (eqb s n) (λ e. is-new (eqb-true s n e)) (λ e. let k = eqb-false s n e in is-old k (omega (arith, o .0), rw e at (o .1)))
 
       began-old : (s : ℕ) → (s ≡ n → ⊥) → ys .startOf s ≡ y .startOf s
       began-old s k = changed-other (y .startOf) n c0 s k
@@ -139,18 +135,16 @@ module _ (y : Day) (F : Fine y) where
 
       -- what the line ends see of the new vertices
       none-start : (x : ℕ) → x < n → leads (ys .diagram) c0 (ys .terminal x) ≡ false
-      none-start x h = pick (split (eqb x r))
-        where
-          pick : (eqb x r ≡ true) ⊎ (eqb x r ≡ false) → leads (ys .diagram) c0 (ys .terminal x) ≡ false
-          pick (inl e) = rw (ne-eqb x n (old-not x h), e, leads-old (start (length d)) (fork (y .terminal r) ∷ d) c0 (length d) (omega arith)) (leads-from-newer (fork (y .terminal r) ∷ d) c0 (length d) (omega arith))
-          pick (inr e) = rw (ne-eqb x n (old-not x h), e, leads-old (start (length d)) (fork (y .terminal r) ∷ d) c0 (y .terminal x) (omega (arith, R .term-bound x h))) (leads-from-newer (fork (y .terminal r) ∷ d) c0 (y .terminal x) (omega arith))
+      none-start x h =
+          cases (eqb x r)
+          (λ e. rw (ne-eqb x n (old-not x h), e, leads-old (start (length d)) (fork (y .terminal r) ∷ d) c0 (length d) (omega arith)) (leads-from-newer (fork (y .terminal r) ∷ d) c0 (length d) (omega arith)))
+          (λ e. rw (ne-eqb x n (old-not x h), e, leads-old (start (length d)) (fork (y .terminal r) ∷ d) c0 (y .terminal x) (omega (arith, R .term-bound x h))) (leads-from-newer (fork (y .terminal r) ∷ d) c0 (y .terminal x) (omega arith)))
 
       fork-by : (x : ℕ) → x < n → leads (ys .diagram) (length d) (ys .terminal x) ≡ eqb x r
-      fork-by x h = pick (split (eqb x r))
-        where
-          pick : (eqb x r ≡ true) ⊎ (eqb x r ≡ false) → leads (ys .diagram) (length d) (ys .terminal x) ≡ eqb x r
-          pick (inl e) = rw (ne-eqb x n (old-not x h), e, leads-old (start (length d)) (fork (y .terminal r) ∷ d) (length d) (length d) (omega arith)) (leads-newest (fork (y .terminal r)) d)
-          pick (inr e) = rw (ne-eqb x n (old-not x h), e, leads-old (start (length d)) (fork (y .terminal r) ∷ d) (length d) (y .terminal x) (omega (arith, R .term-bound x h)), leads-old (fork (y .terminal r)) d (length d) (y .terminal x) (R .term-bound x h)) (leads-from-newer d (length d) (y .terminal x) (omega arith))
+      fork-by x h =
+          cases (eqb x r)
+          (λ e. rw (ne-eqb x n (old-not x h), e, leads-old (start (length d)) (fork (y .terminal r) ∷ d) (length d) (length d) (omega arith)) (leads-newest (fork (y .terminal r)) d))
+          (λ e. rw (ne-eqb x n (old-not x h), e, leads-old (start (length d)) (fork (y .terminal r) ∷ d) (length d) (y .terminal x) (omega (arith, R .term-bound x h)), leads-old (fork (y .terminal r)) d (length d) (y .terminal x) (R .term-bound x h)) (leads-from-newer d (length d) (y .terminal x) (omega arith)))
 
       old-tip : (z x : ℕ) → z < n → x < n → leads (ys .diagram) (ys .startOf z) (ys .terminal x) ≡ leads d (y .startOf z) (y .terminal x)
       old-tip z x hz hx = ap (λ l. leads (ys .diagram) l (ys .terminal x)) (began-old z (old-not z hz)) ∙ send-tips y F r (y .startOf z) x (blow z hz) hx
@@ -271,22 +265,20 @@ module _ (y : Day) (F : Fine y) where
       ab = record { not-main = H .not-main; not-self = H .not-self; fork-seen = H .fork-seen; start-unseen = H .start-unseen }
 
       was : (s : ℕ) → IsOut yh s → IsOut y s × (s ≡ b → ⊥)
-      was s o = pick (split (eqb s b))
-        where
-          pick : (eqb s b ≡ true) ⊎ (eqb s b ≡ false) → IsOut y s × (s ≡ b → ⊥)
-          pick (inl e) = let f : true ≡ false = rw e at (o .1) in absurd (false≢true (sym f))
-          pick (inr e) = ((o .0, rw e at (o .1)), eqb-false s b e)
+      was s o =
+          cases (eqb s b)
+          (λ e. let f : true ≡ false = rw e at (o .1) in absurd (false≢true (sym f)))
+          (λ e. ((o .0, rw e at (o .1)), eqb-false s b e))
 
       -- a join shows a no start of a box that is out
       tip-h : (z x : ℕ) → IsOut yh z → IsOut yh x → leads (yh .diagram) (y .startOf z) (yh .terminal x) ≡ leads d (y .startOf z) (y .terminal x)
-      tip-h z x oz ox = pick (split (eqb x a))
-        where
-          pick : (eqb x a ≡ true) ⊎ (eqb x a ≡ false) → leads (yh .diagram) (y .startOf z) (yh .terminal x) ≡ leads d (y .startOf z) (y .terminal x)
-          pick (inl e) =
-              let q = eqb-true x a e in
-              subst (λ w. leads (yh .diagram) (y .startOf z) (yh .terminal w) ≡ leads d (y .startOf z) (y .terminal w)) (sym q)
-              (hand-joiner y F a b (y .startOf z) (blow z (oz .0)) ∙ same-truth _ _ (λ t. either (or-cases (leads d (y .startOf z) (y .terminal a)) (leads d (y .startOf z) (y .terminal b)) t) (λ k. k) (λ k. K .through a b z (H .out-a) (H .out-b) (was z oz .0) ab k (was z oz .1))) (λ t. or-left _ _ t))
-          pick (inr e) = hand-tips y F a b (y .startOf z) x (blow z (oz .0)) (ox .0) (eqb-false x a e)
+      tip-h z x oz ox =
+          cases (eqb x a)
+          (λ e.
+          let q = eqb-true x a e in
+          subst (λ w. leads (yh .diagram) (y .startOf z) (yh .terminal w) ≡ leads d (y .startOf z) (y .terminal w)) (sym q)
+          (hand-joiner y F a b (y .startOf z) (blow z (oz .0)) ∙ same-truth _ _ (λ t. either (or-cases (leads d (y .startOf z) (y .terminal a)) (leads d (y .startOf z) (y .terminal b)) t) (λ k. k) (λ k. K .through a b z (H .out-a) (H .out-b) (was z oz .0) ab k (was z oz .1))) (λ t. or-left _ _ t)))
+          (λ e. hand-tips y F a b (y .startOf z) x (blow z (oz .0)) (ox .0) (eqb-false x a e))
 
       fork-h : (z x : ℕ) → z < y .revisions → (z ≡ 0 → ⊥) → x < y .revisions → (x ≡ a → ⊥) → leads (yh .diagram) (y .forkOf z) (yh .terminal x) ≡ leads d (y .forkOf z) (y .terminal x)
       fork-h z x hz nz hx k = hand-tips y F a b (y .forkOf z) x (flow z hz nz) hx k
@@ -306,13 +298,12 @@ module _ (y : Day) (F : Fine y) where
           (λ k. inr (record { not-main = h .not-main; not-self = was z oz .1; fork-seen = k; start-unseen = u .1 }))
 
       hand-own : (s : ℕ) → s < y .revisions → leads (yh .diagram) (y .startOf s) (yh .terminal s) ≡ true
-      hand-own s h = pick (split (eqb s a))
-        where
-          pick : (eqb s a ≡ true) ⊎ (eqb s a ≡ false) → leads (yh .diagram) (y .startOf s) (yh .terminal s) ≡ true
-          pick (inl e) =
-              let q = eqb-true s a e in
-              subst (λ w. leads (yh .diagram) (y .startOf w) (yh .terminal w) ≡ true) (sym q) (hand-joiner y F a b (y .startOf a) (blow a (H .out-a .0)) ∙ or-left _ _ (K .own-start a (H .out-a .0)))
-          pick (inr e) = hand-tips y F a b (y .startOf s) s (blow s h) h (eqb-false s a e) ∙ K .own-start s h
+      hand-own s h =
+          cases (eqb s a)
+          (λ e.
+          let q = eqb-true s a e in
+          subst (λ w. leads (yh .diagram) (y .startOf w) (yh .terminal w) ≡ true) (sym q) (hand-joiner y F a b (y .startOf a) (blow a (H .out-a .0)) ∙ or-left _ _ (K .own-start a (H .out-a .0))))
+          (λ e. hand-tips y F a b (y .startOf s) s (blow s h) h (eqb-false s a e) ∙ K .own-start s h)
 
       hand-left : (x z : ℕ) → IsOut yh x → IsOut yh z → leads (yh .diagram) (y .startOf z) (yh .terminal x) ≡ true → (x ≡ z) ⊎ ((y .startOf x ∷ y .startOf z ∷ []) ⊑ layh)
       hand-left x z ox oz e = either (K .left x z (was x ox .0) (was z oz .0) (sym (tip-h z x oz ox) ∙ e)) (λ q. inl q) (λ q. inr (remove-sub (y .startOf b) (y .startOf x ∷ y .startOf z ∷ []) (F .layout) q absent))
