@@ -6,8 +6,8 @@ use mathlib.Core.Option.{Option, none, some}
 use mathlib.Core.List.{List, List·Memᴰ·head, List·Memᴰ·not-nil, List·Memᴰ·tail, List·Nodup, [], _++_, _∷_}
 use native.Mathlib.Omega.{arith}
 use lib.ListN.{length}
+use Rattle.blocks.specs.Blocks.{blocks}
 use Rattle.diagram.proofs.Arranged.Advance.{Linked, contents}
-use Rattle.diagram.proofs.Arranged.Blocks.{blocks}
 use Rattle.diagram.proofs.Days.Real.{Real, real-fresh}
 use Rattle.diagram.proofs.Graph.Events.{ownEvents}
 use Rattle.diagram.proofs.Graph.Paths.{leads-path, path-bound}

@@ -3,8 +3,8 @@ use Prim.Native.Nat.{ℕ}
 use mathlib.Core.Bool.{true}
 use mathlib.Core.Path.{_∙_, _≡_, ap, refl, subst, sym}
 use mathlib.Core.List.{List, List·Nodup, Nodup·sublist, [], _++_, _∷_}
+use Rattle.blocks.specs.Blocks.{Good, blocks}
 use Rattle.diagram.proofs.Arranged.Advance.{contents}
-use Rattle.diagram.proofs.Arranged.Blocks.{Good, blocks}
 use Rattle.diagram.proofs.Days.Moves.{can-enter, can-fork, can-join}
 use Rattle.diagram.proofs.Days.Real.{Real}
 use Rattle.diagram.proofs.Follow.Agrees.{Agree, agree-fresh, ordered, terminal-low}

@@ -11,7 +11,7 @@ use mathlib.Core.List.{nodup-cons, nodup-nil}
 use lib.ListN.{length}
 use lib.Dec.{eqb}
 use borrow.Author.Tests.{eqb-false, eqb-true}
-use Rattle.diagram.proofs.Arranged.Blocks.{Contents, Good, blocks}
+use Rattle.blocks.specs.Blocks.{Contents, Good, blocks}
 use Rattle.diagram.proofs.Graph.Events.{inheritedEvents, inheritedStep, ownEvents, view-split, viewEvents}
 use Rattle.diagram.proofs.Graph.Paths.{Ordered, path-start}
 use Rattle.diagram.proofs.Graph.Tables.{tabulate-newest, tabulate-older}
