@@ -1,0 +1,2 @@
+-- The starred edges by computing, and one line-up for every list of calls.
+pub mod Edges

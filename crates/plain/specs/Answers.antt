@@ -1,0 +1,125 @@
+-- What each call answers and does to the day: 01, "Codes of the desk". "The checks run in ascending number, and the first
+-- that applies ends the call." Code 1 does not arise here.
+use Prim.Native.Nat.{ℕ, _*_}
+use mathlib.Core.Bool.{Bool, true, false, cond, not, _||_}
+use mathlib.Core.Option.{Option, none, some}
+use mathlib.Core.List.{List, [], _∷_}
+use lib.ListN.{length}
+use lib.Dec.{ltb}
+use Rattle.updates.specs.declared.kind.Kind.{Kind}
+use Rattle.updates.specs.declared.kind.KindCheck.{KindCheck}
+use Rattle.updates.specs.declared.kind.KindCheck.the-variants.{Known, Unknown}
+use Rattle.updates.specs.Kinds.{kindCheck}
+use Rattle.diagram.specs.Effects.{own, view}
+use Rattle.diagram.specs.Day.{Day, meant, nextNumber}
+use Rattle.diagram.specs.Checks.{strange, openElsewhere, busyByOther, busy, stale, logFull, noneLeft, notJoinable}
+use Rattle.diagram.specs.Steps as Steps
+use Rattle.diagram.specs.Steps.{after}
+use Rattle.plain.specs.Calls.{Call, Update, Query, Yield, Fork, Join, Show, Answer, Line}
+use Rattle.plain.specs.Record.{PlainDay, freshDay, pathResult, linesOf, noted}
+
+pub record Outcome : Type 0 where
+  pub next : PlainDay
+  pub answer : Answer
+
+-- "a refused one changes nothing" and "A refusal gives value 0"
+abbrev pub refused : PlainDay → ℕ → Outcome
+refused p code = record { next = p; answer = record { code = code; value = 0; lines = [] } }
+
+abbrev pub taken : PlainDay → ℕ → Outcome
+taken p value = record { next = p; answer = record { code = 0; value = value; lines = [] } }
+
+-- a check that applies ends the call
+abbrev pub check : Bool → ℕ → PlainDay → Outcome → Outcome
+check applies code p rest = cond applies (refused p code) rest
+
+-- 3: "box number not yet given out"
+abbrev pub given : Option ℕ → PlainDay → (ℕ → Outcome) → Outcome
+given none p rest = refused p 3
+given (some r) p rest = rest r
+
+-- 5: "bib above 999"
+abbrev pub badBib : ℕ → Bool
+badBib bib = not (ltb bib 1000)
+
+-- 5: "update kind not 1 to 4"
+abbrev pub named : KindCheck → PlainDay → (Kind → Outcome) → Outcome
+named Unknown p rest = refused p 5
+named (Known kind) p rest = rest kind
+
+-- the day of revisions goes on, and no update was taken
+abbrev pub stepped : PlainDay → Steps.Step → PlainDay
+stepped p s = record { day = after (p .day) s; entries = p .entries }
+
+unfoldable pub called : PlainDay → Call → Outcome
+-- "Update: 1 to 9"; its value: "the count of updates taken before it"
+called p (Update c n k bib v) =
+    check (strange c) 2 p (
+    given (meant (p .day) n) p (λ r.
+    check (p .day .joined r) 4 p (
+    check (badBib bib) 5 p (
+    named (kindCheck k) p (λ kind.
+    check (openElsewhere (p .day) c r) 6 p (
+    check (busyByOther (p .day) c r) 7 p (
+    check (stale (p .day) c r) 8 p (
+    check (logFull (p .day)) 9 p (
+    taken (noted p c r kind bib v) (p .day .updates))))))))))
+-- "Query: 1 to 8 (of 5, the bib only)"; its value: the path-result of its vertex
+called p (Query c n bib) =
+    check (strange c) 2 p (
+    given (meant (p .day) n) p (λ r.
+    check (p .day .joined r) 4 p (
+    check (badBib bib) 5 p (
+    check (openElsewhere (p .day) c r) 6 p (
+    check (busyByOther (p .day) c r) 7 p (
+    check (stale (p .day) c r) 8 p (
+    taken (stepped p (Steps.Event c r false)) (pathResult (stepped p (Steps.Event c r false)) (length (p .day .diagram)) bib))))))))
+-- "Yield: 1, 2"; value 0
+called p (Yield c) =
+    check (strange c) 2 p (
+    taken (stepped p (Steps.Yield c)) 0)
+-- "Fork: 1, 3, 4, 7, 10"; its value: "the new number"
+called p (Fork n) =
+    given (meant (p .day) n) p (λ r.
+    check (p .day .joined r) 4 p (
+    check (busy (p .day) r) 7 p (
+    check (noneLeft (p .day)) 10 p (
+    taken (stepped p (Steps.Fork r)) (nextNumber (p .day))))))
+-- "Join: 1, 3, 4, 7, 11"; its value: "the count of updates the joiner gained"
+called p (Join n m) =
+    given (meant (p .day) n) p (λ a.
+    given (meant (p .day) m) p (λ b.
+    check (p .day .joined a || p .day .joined b) 4 p (
+    check (busy (p .day) a || busy (p .day) b) 7 p (
+    check (notJoinable (p .day) a b) 11 p (
+    taken (stepped p (Steps.Join a b)) (length (own (p .day .diagram) (p .day .terminal b))))))))
+-- "List: 1, 3, 4, 7, 12"; its value: "the count n of updates visible at the line end"; "The sheet receives n entries of 12
+-- bytes, in the order in which the effects apply on the way from the root". "List: nothing" happens to the day.
+called p (Show n room) =
+    given (meant (p .day) n) p (λ r.
+    check (p .day .joined r) 4 p (
+    check (busy (p .day) r) 7 p (
+    check (ltb room (12 * length (view (p .day .diagram) (p .day .terminal r)))) 12 p (
+    record {
+      next = p;
+      answer = record {
+        code = 0;
+        value = length (view (p .day .diagram) (p .day .terminal r));
+        lines = linesOf (p .entries) (view (p .day .diagram) (p .day .terminal r));
+      };
+    }))))
+
+-- the day after a list of calls, each getting it "as the last one left it"; and what they answer
+unfoldable pub dayFrom : PlainDay → List Call → PlainDay
+dayFrom p [] = p
+dayFrom p (c ∷ cs) = dayFrom (called p c .next) cs
+
+unfoldable pub dayAfter : List Call → PlainDay
+dayAfter cs = dayFrom freshDay cs
+
+unfoldable pub answersFrom : PlainDay → List Call → List Answer
+answersFrom p [] = []
+answersFrom p (c ∷ cs) = called p c .answer ∷ answersFrom (called p c .next) cs
+
+unfoldable pub answers : List Call → List Answer
+answers cs = answersFrom freshDay cs

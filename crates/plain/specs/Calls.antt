@@ -1,0 +1,31 @@
+-- The calls of a day and what they answer with: 01, "Codes of the desk" and "Listing a box".
+use Prim.Native.Nat.{ℕ}
+use mathlib.Core.List.{List}
+use Rattle.updates.specs.declared.kind.Kind.{Kind}
+
+-- arguments as they come, of any size. Of a list's sheet the day is told "only the length".
+pub data Call : Type 0 where
+  Update : (client revision kind bib v : ℕ) → Call
+  Query : (client revision bib : ℕ) → Call
+  Yield : (client : ℕ) → Call
+  Fork : (revision : ℕ) → Call
+  Join : (joiner joinee : ℕ) → Call
+  Show : (revision room : ℕ) → Call
+
+-- an update as it was entered
+pub record Entry : Type 0 where
+  pub kind : Kind
+  pub client : ℕ
+  pub bib : ℕ
+  pub v : ℕ
+
+-- a line of the listing: "kind (1 byte), tablet (1), bib (2), v (4), update's number (4)"
+pub record Line : Type 0 where
+  pub entry : Entry
+  pub number : ℕ
+
+-- "Each call's code and all that it answers with, and the entries a taken list writes"
+pub record Answer : Type 0 where
+  pub code : ℕ
+  pub value : ℕ
+  pub lines : List Line

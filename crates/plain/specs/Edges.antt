@@ -1,0 +1,67 @@
+-- 01, "Edges of a race day": the starred edges E1 to E9 as one table of calls with the code and value that each gives.
+use Prim.Native.Nat.{ℕ}
+use mathlib.Core.List.{List, [], _∷_}
+use Rattle.plain.specs.Calls.{Call, Update, Query, Yield, Fork, Join, Answer}
+use Rattle.plain.specs.Answers.{answers}
+
+pub record Edge : Type 0 where
+  pub calls : List Call
+  pub says : List (ℕ × ℕ)
+
+abbrev edge : List Call → List (ℕ × ℕ) → Edge
+edge calls says = record { calls = calls; says = says }
+
+-- the numbers of the kinds
+abbrev time : ℕ
+time = 1
+
+abbrev earliest : ℕ
+earliest = 2
+
+abbrev penalty : ℕ
+penalty = 3
+
+abbrev strike : ℕ
+strike = 4
+
+abbrev pub edges : List Edge
+edges =
+    -- E1 "The day above: query at index 10 gives 65000, not 60000."
+    edge
+    (Update 0 0 time 7 61000 ∷ Yield 0 ∷ Fork 0 ∷ Update 1 1 penalty 7 5000 ∷ Fork 1 ∷ Yield 1 ∷ Update 0 0 time 7 60000
+    ∷ Yield 0 ∷ Query 0 1 7 ∷ Join 0 1 ∷ Query 1 0 7 ∷ Update 0 1 strike 7 0 ∷ [])
+    ((0, 0) ∷ (0, 0) ∷ (0, 1) ∷ (0, 1) ∷ (7, 0) ∷ (0, 0) ∷ (0, 2) ∷ (0, 0) ∷ (8, 0) ∷ (0, 1) ∷ (0, 65000) ∷ (4, 0) ∷ [])
+    -- E2 "Box 0 sends 1, 1 sends 2: join 0 with 2 gives 11, and so does join 2 with 1; after join 0 with 1, join 0 with 2
+    -- is taken."
+    ∷ edge
+    (Fork 0 ∷ Fork 1 ∷ Join 0 2 ∷ Join 2 1 ∷ Join 0 1 ∷ Join 0 2 ∷ [])
+    ((0, 1) ∷ (0, 2) ∷ (11, 0) ∷ (11, 0) ∷ (0, 0) ∷ (0, 0) ∷ [])
+    -- E3 "Box 0 sends 1, then 2: join 1 with 2 gives 11, and after it join 2 with 1 is taken."
+    ∷ edge (Fork 0 ∷ Fork 0 ∷ Join 1 2 ∷ Join 2 1 ∷ []) ((0, 1) ∷ (0, 2) ∷ (11, 0) ∷ (0, 0) ∷ [])
+    -- E4 "Join 0 with 0: 11, but 7 while box 0 is busy."
+    ∷ edge (Join 0 0 ∷ Query 3 0 7 ∷ Join 0 0 ∷ []) ((11, 0) ∷ (0, 0) ∷ (7, 0) ∷ [])
+    -- E5 "Penalty 4,294,967,295 on value 1 gives 0."
+    ∷ edge (Update 0 0 time 7 1 ∷ Update 0 0 penalty 7 4294967295 ∷ Query 0 0 7 ∷ []) ((0, 0) ∷ (0, 1) ∷ (0, 0) ∷ [])
+    -- E6 "Earliest: 0 and 9 give 9; 9 and 0 give 9; 9 and 9 give 9."
+    ∷ edge
+    (Update 0 0 earliest 1 9 ∷ Query 0 0 1 ∷ Update 0 0 earliest 1 0 ∷ Query 0 0 1 ∷ Update 0 0 earliest 1 9 ∷ Query 0 0 1 ∷ [])
+    ((0, 0) ∷ (0, 9) ∷ (0, 1) ∷ (0, 9) ∷ (0, 2) ∷ (0, 9) ∷ [])
+    -- E7 "Two yields in a row: both taken."
+    ∷ edge (Update 2 0 time 5 8 ∷ Yield 2 ∷ Yield 2 ∷ []) ((0, 0) ∷ (0, 0) ∷ (0, 0) ∷ [])
+    -- E8 "A join of a box without updates gains 0."
+    ∷ edge (Update 0 0 time 5 8 ∷ Yield 0 ∷ Fork 0 ∷ Join 0 1 ∷ []) ((0, 0) ∷ (0, 0) ∷ (0, 1) ∷ (0, 0) ∷ [])
+    -- E9 "Bib 999 is taken; 1,000 gives 5."
+    ∷ edge (Update 0 0 time 999 8 ∷ Update 0 0 time 1000 8 ∷ Query 0 0 1000 ∷ []) ((0, 0) ∷ (5, 0) ∷ (5, 0) ∷ [])
+    ∷ []
+
+abbrev pub said : List Answer → List (ℕ × ℕ)
+said [] = []
+said (a ∷ more) = (a .code, a .value) ∷ said more
+
+abbrev pub expected : List Edge → List (List (ℕ × ℕ))
+expected [] = []
+expected (e ∷ es) = e .says ∷ expected es
+
+abbrev pub computed : List Edge → List (List (ℕ × ℕ))
+computed [] = []
+computed (e ∷ es) = said (answers (e .calls)) ∷ computed es

@@ -1,0 +1,50 @@
+-- The day kept on paper: 01, "The plain day and its line-up". The day of revisions, with what each update was.
+use Prim.Native.Nat.{ℕ}
+use mathlib.Core.Bool.{Bool, true, false, cond}
+use mathlib.Core.List.{List, [], _∷_}
+use lib.Dec.{eqb}
+use Rattle.lists.specs.Lists.{changed}
+use Rattle.updates.specs.declared.kind.Kind.{Kind}
+use Rattle.updates.specs.declared.kind.Kind.the-variants.{Time}
+use Rattle.updates.specs.Applied.{Update, applied, freshValue}
+use Rattle.diagram.specs.Effects.{view}
+use Rattle.diagram.specs.Day as Day
+use Rattle.diagram.specs.Day.{Day}
+use Rattle.diagram.specs.Steps.{Event, after}
+use Rattle.plain.specs.Calls.{Entry, Line}
+
+-- "It keeps the diagram, .. the updates taken, numbered from 0, .."
+pub record PlainDay : Type 0 where
+  pub day : Day
+  pub entries : ℕ → Entry
+
+-- "It begins with box 0 out, at the root": no update has been taken yet
+abbrev pub freshDay : PlainDay
+freshDay = record { day = Day.fresh; entries = λ n. record { kind = Time; client = 0; bib = 0; v = 0 } }
+
+-- the updates of one bib among some numbers, in their order
+abbrev pub ofBib : (ℕ → Entry) → ℕ → List ℕ → List Update
+ofBib entries bib [] = []
+ofBib entries bib (n ∷ ns) =
+    cond (eqb (entries n .bib) bib) (record { kind = entries n .kind; v = entries n .v } ∷ ofBib entries bib ns) (ofBib entries bib ns)
+
+-- "applied to the fresh values"
+abbrev pub valueOf : (ℕ → Entry) → ℕ → List ℕ → ℕ
+valueOf entries bib ns = applied (ofBib entries bib ns) freshValue
+
+-- 002, Definition 9: the path-result of a vertex, for one bib. 01: "A query's answer is the effects along its path from the
+-- root that uses no join edge, applied to the fresh values."
+abbrev pub pathResult : PlainDay → ℕ → ℕ → ℕ
+pathResult p x bib = valueOf (p .entries) bib (view (p .day .diagram) x)
+
+-- the lines of some numbers, in their order
+abbrev pub linesOf : (ℕ → Entry) → List ℕ → List Line
+linesOf entries [] = []
+linesOf entries (n ∷ ns) = record { entry = entries n; number = n } ∷ linesOf entries ns
+
+-- an update taken: its vertex, and what it was
+abbrev pub noted : PlainDay → ℕ → ℕ → Kind → ℕ → ℕ → PlainDay
+noted p c r kind bib v = record {
+  day = after (p .day) (Event c r true);
+  entries = changed (p .entries) (p .day .updates) (record { kind = kind; client = c; bib = bib; v = v });
+}
