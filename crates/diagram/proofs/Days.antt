@@ -1,5 +1,6 @@
 -- The day after every run of accepted steps: its diagram has a layout, and its transactions are whole.
 pub mod Moves
+pub mod Accepting
 pub mod Real
 pub mod Sound
 pub mod Outside

@@ -4,3 +4,4 @@ pub mod Calls
 pub mod Record
 pub mod Answers
 pub mod Edges
+pub mod LineUp

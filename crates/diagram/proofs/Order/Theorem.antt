@@ -64,6 +64,11 @@ pub accepted-rest : (a b : List Step) → Accepted (a ++ b) → AcceptedFrom (ru
 unfolding run
 accepted-rest a b = rest-from a b fresh
 
+pub accepted-both : (a b : List Step) (y : Day) → AcceptedFrom y a → AcceptedFrom (runFrom y a) b → AcceptedFrom y (a ++ b)
+unfolding runFrom
+accepted-both [] b y A B = B
+accepted-both (s ∷ a) b y A B = (A .0, accepted-both a b (after y s) (A .1) B)
+
 -- what each step keeps holds after every run
 pub along : (P : Day → Type 0) → ((y : Day) (s : Step) → accepted y s ≡ true → P y → P (after y s)) → (ss : List Step) (y : Day) → AcceptedFrom y ss → P y → P (runFrom y ss)
 unfolding runFrom

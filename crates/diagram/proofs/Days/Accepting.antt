@@ -1,0 +1,37 @@
+-- The other way: where no check applies, the step is accepted; and what a number means was given out.
+use Prim.Native.Nat.{ℕ}
+use mathlib.Core.Bool.{Bool, true, false, not, _&&_}
+use mathlib.Core.Path.{_≡_, refl}
+use mathlib.Core.Option.{none, some}
+use native.Mathlib.Omega.{arith}
+use lib.Dec.{ltb}
+use Rattle.lists.proofs.Cases.{cases}
+use Rattle.diagram.specs.Day.{Day, meant}
+use Rattle.diagram.specs.Checks.{strange, openElsewhere, busyByOther, busy, stale, logFull, noneLeft, notJoinable}
+use Rattle.diagram.specs.Steps.{Event, Yield, Fork, Join, notGiven, accepted}
+
+pub meant-given : (y : Day) (n r : ℕ) → meant y n ≡ some r → notGiven y r ≡ false
+unfolding meant
+meant-given y n r e =
+    cases (ltb n (y .revisions))
+    (λ t. let q : some n ≡ some r = rw t at e in let s : n ≡ r = cc in rw (← s, t))
+    (λ t. let q : none ≡ some r = rw t at e in let z : _≡_ {A = ℕ} 0 1 = cc in absurd (omega arith))
+
+module _ (y : Day) where
+  pub accept-event : (c r : ℕ) (u : Bool) → strange c ≡ false → notGiven y r ≡ false → y .joined r ≡ false → openElsewhere y c r ≡ false
+      → busyByOther y c r ≡ false → stale y c r ≡ false → (u && logFull y) ≡ false → accepted y (Event c r u) ≡ true
+  unfolding accepted
+  accept-event c r u e2 e3 e4 e6 e7 e8 e9 = rw (e2, e3, e4, e6, e7, e8, e9)
+
+  pub accept-yield : (c : ℕ) → strange c ≡ false → accepted y (Yield c) ≡ true
+  unfolding accepted
+  accept-yield c e2 = rw e2
+
+  pub accept-fork : (r : ℕ) → notGiven y r ≡ false → y .joined r ≡ false → busy y r ≡ false → noneLeft y ≡ false → accepted y (Fork r) ≡ true
+  unfolding accepted
+  accept-fork r e3 e4 e7 e10 = rw (e3, e4, e7, e10)
+
+  pub accept-join : (a b : ℕ) → notGiven y a ≡ false → notGiven y b ≡ false → y .joined a ≡ false → y .joined b ≡ false
+      → busy y a ≡ false → busy y b ≡ false → notJoinable y a b ≡ false → accepted y (Join a b) ≡ true
+  unfolding accepted
+  accept-join a b a3 b3 a4 b4 a7 b7 e11 = rw (a3, b3, a4, b4, a7, b7, e11)

@@ -1,0 +1,71 @@
+-- Demand 3 on the plain day: 01, "The plain day and its line-up", from "On it:" on. "All this is a single claim about the
+-- whole list of calls, with one line-up for it, and not a claim for each call." The words `Sees`, `Shows`, `WholeAt` and
+-- `Extends` are those of the day of revisions: paths in the day's own diagram.
+use Prim.Native.Nat.{ℕ, _<_}
+use mathlib.Core.Path.{_≡_}
+use mathlib.Core.Logic.{_↔_}
+use mathlib.Core.Option.{some}
+use mathlib.Core.List.{List, [], _∷_, _++_, List·Nodup}
+use lib.ListN.{length}
+use Rattle.lists.specs.Lists.{_∈_, _⊑_, flat}
+use Rattle.updates.specs.declared.kind.Kind.{Kind}
+use Rattle.updates.specs.declared.kind.KindCheck.the-variants.{Known}
+use Rattle.updates.specs.Kinds.{kindCheck}
+use Rattle.diagram.specs.Effects.{view, numbers}
+use Rattle.diagram.specs.Day.{Day, IsOut, meant}
+use Rattle.diagram.specs.Arbitration.{IsEvent, eventsOf, Sees, SeesTransaction, Shows, WholeAt, Extends}
+use Rattle.plain.specs.Calls.{Call, Update, Query, Show}
+use Rattle.plain.specs.Record.{PlainDay, freshDay, valueOf, linesOf}
+use Rattle.plain.specs.Answers.{called, dayAfter}
+
+-- the day of revisions after a list of calls
+abbrev pub endOf : List Call → Day
+endOf cs = dayAfter cs .day
+
+-- call c, taken between `before` and `rest`
+pub record Taken (cs before : List Call) (c : Call) (rest : List Call) : Type 0 where
+  pub place : cs ≡ before ++ (c ∷ rest)
+  pub code : called (dayAfter before) c .answer .code ≡ 0
+
+-- what is shown at vertex x, in the order of a line-up, with the value of one bib
+pub record Answers (cs : List Call) (order : List ℕ) (x bib value : ℕ) : Type 0 where
+  pub updates : List ℕ
+  pub shown : Shows (endOf cs) order x updates
+  pub is : value ≡ valueOf (dayAfter cs .entries) bib updates
+
+-- "For a box that stays out, the list before a call begins the list after it."
+abbrev pub GrowsEach : PlainDay → List Call → Type 0
+GrowsEach p [] = Unit {0}
+GrowsEach p (c ∷ cs) = Extends (p .day) (called p c .next .day) × GrowsEach (called p c .next) cs
+
+pub record LineUp (cs : List Call) : Type 0 where
+  -- "A line-up has every transaction once, open ones and those of queries alone too."
+  pub order : List ℕ
+  pub once : List·Nodup order
+  pub complete : (t : ℕ) → (t ∈ order) ↔ (t < endOf cs .transactions)
+  pub entered : (x : ℕ) → IsEvent x (endOf cs .diagram) ↔ ((t : ℕ) × (t < endOf cs .transactions) × (x ∈ eventsOf (endOf cs) t))
+  pub one-each : List·Nodup (flat (eventsOf (endOf cs)) order)
+  -- every update once, as it was entered
+  pub updates-once : List·Nodup (numbers (endOf cs .diagram) (flat (eventsOf (endOf cs)) order))
+  pub updates-all : (n : ℕ) → (n ∈ numbers (endOf cs .diagram) (flat (eventsOf (endOf cs)) order)) ↔ (n < endOf cs .updates)
+  pub noted : (before rest : List Call) (c r k bib v : ℕ) (kind : Kind) → Taken cs before (Update c r k bib v) rest → kindCheck k ≡ Known kind
+      → dayAfter cs .entries (called (dayAfter before) (Update c r k bib v) .answer .value) ≡ record { kind = kind; client = c; bib = bib; v = v }
+  -- 00: "each stands after all others that it sees"
+  pub after-seen : (s t : ℕ) → s < endOf cs .transactions → t < endOf cs .transactions → (s ≡ t → ⊥) → SeesTransaction (endOf cs) t s → (s ∷ t ∷ []) ⊑ order
+  -- "A taken query answers as its bib stands after the updates it sees, and no others, are applied to the fresh values, each
+  -- once, in line-up order, and as entered within a transaction." Its vertex is the next one of the day before it.
+  pub queries : (before rest : List Call) (c n bib : ℕ) → Taken cs before (Query c n bib) rest
+      → Answers cs order (length (endOf before .diagram)) bib (called (dayAfter before) (Query c n bib) .answer .value)
+  -- "The visible updates of a box are those its line end sees, in the listing's order, busy or not."
+  pub visible : (r : ℕ) → IsOut (endOf cs) r → Shows (endOf cs) order (endOf cs .terminal r) (view (endOf cs .diagram) (endOf cs .terminal r))
+  pub in-order : (r : ℕ) → IsOut (endOf cs) r → view (endOf cs .diagram) (endOf cs .terminal r) ⊑ numbers (endOf cs .diagram) (flat (eventsOf (endOf cs)) order)
+  -- "For a box that stays out, the list before a call begins the list after it."
+  pub grows : GrowsEach freshDay cs
+  -- "A vertex outside a transaction sees all its events or none, and any only if its yield came before the vertex."
+  pub whole : (t x : ℕ) → t < endOf cs .transactions → x < length (endOf cs .diagram) → (x ∈ eventsOf (endOf cs) t → ⊥) → WholeAt (endOf cs) t x x
+  -- "A taken list shows its updates likewise."
+  pub lists : (before rest : List Call) (n room r : ℕ) → Taken cs before (Show n room) rest → meant (endOf before) n ≡ some r
+      → (t : ℕ) → t < endOf before .transactions → WholeAt (endOf before) t (endOf before .terminal r) (length (endOf before .diagram))
+  -- "Each event of a tablet's later transaction sees each event of its earlier ones."
+  pub sessions : (s t e f : ℕ) → s < t → t < endOf cs .transactions → endOf cs .transaction s .client ≡ endOf cs .transaction t .client
+      → e ∈ eventsOf (endOf cs) s → f ∈ eventsOf (endOf cs) t → Sees (endOf cs) f e
