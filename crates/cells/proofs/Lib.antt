@@ -1,0 +1,2 @@
+-- Laws of the definitions, each said once, over variables.
+pub mod Example
