@@ -90,3 +90,7 @@ Sized p = (i : ℕ) → length (p i) ≡ size i
 infixl 60 _⟨_≔_⟩
 abbrev pub _⟨_≔_⟩ : Parts → ℕ → List ℕ → Parts
 p ⟨ i ≔ l ⟩ = changed p i l
+
+-- the bytes with another part i
+abbrev pub wrote : List ℕ → ℕ → List ℕ → List ℕ
+wrote d i l = glue (split d ⟨ i ≔ l ⟩)

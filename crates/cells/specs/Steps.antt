@@ -1,6 +1,6 @@
 -- What each accepted step writes: docs/CELLS.md, "What each step writes". On parts, and so on the bytes.
 use Prim.Native.Nat.{ℕ, zero, suc, _+_, _-_, _/_, _%_}
-use mathlib.Core.Bool.{Bool, cond}
+use mathlib.Core.Bool.{Bool, true, cond}
 use mathlib.Core.List.{List, [], _∷_, _++_}
 use lib.Dec.{eqb}
 use lib.ListN.{set, take, replicate}
@@ -19,7 +19,7 @@ use Rattle.cells.specs.CellSteps.{forkSeen, forkCaught, forkRow, joinSee
 abbrev pub freshParts : Parts
 freshParts =
     (λ i. replicate (size i) 0)
-    ⟨ caughtPart ≔ replicate 128 255 ⟩
+    ⟨ caughtPart ≔ pack clients (λ c r. true) ⟩
     ⟨ statePart ≔ set (replicate 64 0) main isOut ⟩
     ⟨ openedPart ≔ replicate 16 closed ⟩
     ⟨ countersPart ≔ 0 ∷ 0 ∷ 1 ∷ 1 ∷ [] ⟩
