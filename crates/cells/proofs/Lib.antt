@@ -1,0 +1,8 @@
+-- Laws of the definitions, each said once, over variables.
+pub mod Tables
+pub mod Parts
+pub mod Words
+pub mod Marks
+pub mod Chain
+pub mod Places
+pub mod Example
