@@ -5,4 +5,9 @@ pub mod Words
 pub mod Marks
 pub mod Chain
 pub mod Places
+pub mod Sized
+pub mod Follow
+pub mod FollowFork
+pub mod FollowFresh
+pub mod Range
 pub mod Example

@@ -139,15 +139,16 @@ pub pack-length : (n : ℕ) (f : ℕ → ℕ → Bool) → length (pack n f) ≡
 unfolding pack
 pack-length n f = length-tab (λ i. byteOf (λ j. f (i / 8) (8 * (i % 8) + j))) (8 * n)
 
-pub mark-pack : (n : ℕ) (f : ℕ → ℕ → Bool) → Within n f → (x y : ℕ) → markIn 8 n (pack n f) x y ≡ f x y
+-- the marks of packed marks: the same, inside n rows of 64
+pub packed : (n : ℕ) (f : ℕ → ℕ → Bool) (x y : ℕ) → markIn 8 n (pack n f) x y ≡ ((ltb x n && ltb y 64) && f x y)
 unfolding pack
-mark-pack n f out x y = cases (ltb x n && ltb y 64) packed (λ e. rw e (sym (out x y e)))
+packed n f x y = cases (ltb x n && ltb y 64) inner (λ e. rw e)
   where
     g : ℕ → ℕ
     g i = byteOf (λ j. f (i / 8) (8 * (i % 8) + j))
 
-    packed : (ltb x n && ltb y 64) ≡ true → markIn 8 n (pack n f) x y ≡ f x y
-    packed e =
+    inner : (ltb x n && ltb y 64) ≡ true → markIn 8 n (pack n f) x y ≡ ((ltb x n && ltb y 64) && f x y)
+    inner e =
         let l = ltb-true x n (and-true (ltb x n) (ltb y 64) e .0) in
         let m = ltb-true y 64 (and-true (ltb x n) (ltb y 64) e .1) in
         let i : (8 * x + y / 8) / 8 ≡ x = omega arith in
@@ -157,6 +158,9 @@ mark-pack n f out x y = cases (ltb x n && ltb y 64) packed (λ e. rw e (sym (out
         (ap (λ b. bit b (y % 8)) (getD-tab g (8 * n) (8 * x + y / 8) 0 (omega arith))
         ∙ bit-byte (λ v. f ((8 * x + y / 8) / 8) (8 * ((8 * x + y / 8) % 8) + v)) (y % 8) (omega arith)
         ∙ ap (λ z. f z (8 * ((8 * x + y / 8) % 8) + y % 8)) i ∙ ap (λ z. f x (8 * z + y % 8)) j ∙ ap (f x) u)
+
+pub mark-pack : (n : ℕ) (f : ℕ → ℕ → Bool) → Within n f → (x y : ℕ) → markIn 8 n (pack n f) x y ≡ f x y
+mark-pack n f out x y = packed n f x y ∙ cases (ltb x n && ltb y 64) (λ e. rw e) (λ e. rw e (sym (out x y e)))
 
 -- only the marks inside count
 pub pack-same : (n : ℕ) (f g : ℕ → ℕ → Bool) → ((x y : ℕ) → x < n → y < 64 → f x y ≡ g x y) → pack n f ≡ pack n g

@@ -18,7 +18,7 @@ use Rattle.cells.specs.Parts.{Parts, Sized, parts, size, offset, inRow, 
 pub row-length : (p : Parts) → Sized p → (n : ℕ) → length (inRow p n) ≡ offset n
 unfolding inRow offset
 row-length p h zero = refl
-row-length p h (suc n) = rw (length-append, row-length p h n, h n)
+row-length p h (suc n) = rw (length-append, row-length p h n, h .of n)
 
 -- m parts after part i
 after : Parts → ℕ → ℕ → List ℕ
@@ -48,7 +48,7 @@ after-same p q i (suc m) h = rw (after-same p q i m h, h (suc i + m) (omega arit
 pub glue-read : (p : Parts) → Sized p → (i : ℕ) → i < parts → midOf (offset i) (size i) (glue p) ≡ p i
 glue-read p h i l =
     rw (glue-at p i l, drop-at (inRow p i) (p i ++ after p i (16 - i)) (offset i) (row-length p h i))
-    (take-at (p i) (after p i (16 - i)) (size i) (h i))
+    (take-at (p i) (after p i (16 - i)) (size i) (h .of i))
 
 pub glue-write : (p : Parts) → Sized p → (i : ℕ) (q : List ℕ) → i < parts → putMid (offset i) (size i) (glue p) q ≡ glue (p ⟨ i ≔ q ⟩)
 glue-write p h i q l =
@@ -58,7 +58,7 @@ glue-write p h i q l =
       glue-at p i l,
       take-at (inRow p i) (p i ++ after p i (16 - i)) (offset i) (row-length p h i),
       drop-at (inRow p i) (p i ++ after p i (16 - i)) (offset i) (row-length p h i),
-      drop-at (p i) (after p i (16 - i)) (size i) (h i),
+      drop-at (p i) (after p i (16 - i)) (size i) (h .of i),
       row-same p p′ i (λ j m. other j (omega arith)),
       after-same p p′ i (16 - i) (λ j m. other j (omega arith)),
     )
@@ -77,7 +77,7 @@ pub split-glue : (p : Parts) → Sized p → split (glue p) ≡ p
 unfolding split
 split-glue p h = fun-ext (λ i. cases (ltb i parts)
     (λ e. glue-read p h i (ltb-true i parts e))
-    (λ e. let z = no-bytes i (ltb-false i parts e) in rw z (sym (nothing (p i) (h i ∙ z)))))
+    (λ e. let z = no-bytes i (ltb-false i parts e) in rw z (sym (nothing (p i) (h .of i ∙ z)))))
 
 split-row : (d : List ℕ) (n : ℕ) → inRow (split d) n ≡ take (offset n) d
 unfolding inRow split offset
@@ -107,17 +107,19 @@ within i h =
 
 pub split-sized : (d : List ℕ) → length d ≡ bytes → Sized (split d)
 unfolding split
-split-sized d e i =
-    cases (ltb i parts)
-    (λ q. let w = within i (ltb-true i parts q) in length-take-le (size i) (drop (offset i) d) (rw length-drop (omega arith)))
-    (λ q. let z = no-bytes i (ltb-false i parts q) in rw z)
+split-sized d e = record {
+  of = λ i. cases (ltb i parts) (λ q. let w = within i (ltb-true i parts q) in length-take-le (size i) (drop (offset i) d) (rw length-drop (omega arith))) (λ q. let z = no-bytes i (ltb-false i parts q) in rw z);
+}
 
 pub glue-length : (p : Parts) → Sized p → length (glue p) ≡ bytes
 unfolding glue
 glue-length p h = row-length p h parts ∙ all-bytes
 
-pub sized-with : (p : Parts) → Sized p → (i : ℕ) (q : List ℕ) → length q ≡ size i → Sized (p ⟨ i ≔ q ⟩)
-sized-with p h i q l j = cases (eqb j i) (λ e. rw (e, eqb-true j i e) l) (λ e. rw e (h j))
+pub sized-with : {p : Parts} → Sized p → (i : ℕ) (q : List ℕ) → length q ≡ size i → Sized (p ⟨ i ≔ q ⟩)
+sized-with h i q l = record { of = λ j. cases (eqb j i) (λ e. rw (e, eqb-true j i e) l) (λ e. rw e (h .of j)) }
+
+pub with-same : (p : Parts) (i : ℕ) → p ⟨ i ≔ p i ⟩ ≡ p
+with-same p i = fun-ext (λ j. cases (eqb j i) (λ e. rw (e, eqb-true j i e)) (λ e. rw e))
 
 -- for code: a part lent as `&d[a..e]` or `&mut d[a..e]`, k = e - a, is read, or comes back as q
 pub part-read : (d : List ℕ) (i a k : ℕ) → offset i ≡ a → size i ≡ k → midOf a k d ≡ split d i
@@ -148,4 +150,4 @@ holds-step g h e s = record { eq = e ∙ ap (λ q. glue (g q)) (split-is h); siz
 
 -- one part written, with a function of the old one
 pub holds-wrote : {d d′ : List ℕ} {p : Parts} (i : ℕ) (f : List ℕ → List ℕ) → Holds d p → d′ ≡ wrote d i (f (split d i)) → length (f (p i)) ≡ size i → Holds d′ (p ⟨ i ≔ f (p i) ⟩)
-holds-wrote {p} i f h e l = holds-step (λ q. q ⟨ i ≔ f (q i) ⟩) h e (sized-with p (h .sized) i (f (p i)) l)
+holds-wrote {p} i f h e l = holds-step (λ q. q ⟨ i ≔ f (q i) ⟩) h e (sized-with (h .sized) i (f (p i)) l)

@@ -83,8 +83,8 @@ unfoldable pub split : List ℕ → Parts
 split d i = take (size i) (drop (offset i) d)
 
 -- every part has its size
-abbrev pub Sized : Parts → Type 0
-Sized p = (i : ℕ) → length (p i) ≡ size i
+pub record Sized (p : Parts) : Type 0 where
+  pub of : (i : ℕ) → length (p i) ≡ size i
 
 -- the parts with another in place of part i
 infixl 60 _⟨_≔_⟩

@@ -13,7 +13,7 @@ use Rattle.cells.specs.Marks.{pack, putRow}
 use Rattle.cells.specs.Cells.{Cells}
 use Rattle.cells.specs.Decode.{decode}
 use Rattle.cells.specs.Range.{signature}
-use Rattle.cells.specs.CellSteps.{forkSeen, forkCaught, forkRow, joinSeen, joinCaught}
+use Rattle.cells.specs.CellSteps.{forkSeen, forkCaught, forkRow, spliced, joinSeen, joinCaught}
 
 -- all bytes 0 but these
 abbrev pub freshParts : Parts
@@ -84,10 +84,11 @@ forkParts p q c =
 abbrev pub spliceParts : Parts → ℕ → ℕ → Parts
 spliceParts p a b =
     let k = decode p in
-    cond (eqb (k .count b) 0) p
-    (linkParts p (k .first b) (k .last a)
-    ⟨ lastPart ≔ putWord (p lastPart) a (k .last b) ⟩
-    ⟨ firstPart ≔ putWord (p firstPart) a (cond (eqb (k .count a) 0) (k .first b) (k .first a)) ⟩)
+    p
+    ⟨ lowPart ≔ spliced k b (p lowPart) (set (p lowPart) (k .first b) (k .last a % 256)) ⟩
+    ⟨ highPart ≔ spliced k b (p highPart) (putHalf (p highPart) (k .first b) (k .last a / 256)) ⟩
+    ⟨ lastPart ≔ spliced k b (p lastPart) (putWord (p lastPart) a (k .last b)) ⟩
+    ⟨ firstPart ≔ spliced k b (p firstPart) (putWord (p firstPart) a (cond (eqb (k .count a) 0) (k .first b) (k .first a))) ⟩
 
 -- a joins b. Where b stands in no place of the layout, the layout stays
 abbrev pub joinParts : Parts → ℕ → ℕ → Parts
