@@ -6,3 +6,4 @@ pub mod Places
 pub mod Blocks
 pub mod Keep
 pub mod Maps
+pub mod Counts

@@ -1,0 +1,126 @@
+-- What is carried along a run, and that each accepted step keeps it.
+use Prim.Native.Nat.{_≤_, _<_, suc, ℕ}
+use mathlib.Core.Bool.{Bool, _&&_, false, not, true}
+use mathlib.Core.Path.{_∙_, _≡_, refl, sym}
+use mathlib.Core.Option.{none, some}
+use mathlib.Core.List.{List, List·Memᴰ·head, [], _∷_}
+use native.Mathlib.Omega.{arith}
+use lib.Dec.{eqb, ltb}
+use lib.ListN.{length-replicate}
+use borrow.Author.Tests.{eqb-false, eqb-true, le-ltb, lt-ltb, ltb-true, not-false, not-true}
+use Rattle.lists.specs.Lists.{_∈_}
+use Rattle.lists.proofs.Cases.{and-true, cases}
+use Rattle.lists.proofs.Places.{remove-keep}
+use Rattle.diagram.specs.Sizes.{clientLimit, revisionLimit, updateLimit}
+use Rattle.diagram.specs.Day.{Day, IsOut, fresh}
+use Rattle.diagram.specs.Checks.{busy, busyByOther, logFull, noneLeft, openElsewhere, stale, strange}
+use Rattle.diagram.specs.Machine.{Follows, Machine, enterOn, forkOn, freshMachine, joinOn, machineAfter}
+use Rattle.diagram.specs.Steps.{Event, Fork, Join, Step, Yield, accepted, after, notGiven}
+use Rattle.diagram.proofs.Days.Moves.{can-enter, can-fork, can-join}
+use Rattle.diagram.proofs.Follow.Agrees.{Agree, agree-fresh}
+use Rattle.diagram.proofs.Follow.Shown.{follows}
+use Rattle.cells.specs.Sizes.{clients, main, revisions, updates}
+use Rattle.cells.specs.Cells.{Cells, chain}
+use Rattle.cells.specs.CellSteps.{freshCells}
+use Rattle.consistency.specs.Reached.{stepCells}
+use Rattle.consistency.proofs.Bounded.{Bounded, close-bounded, fork-bounded, fresh-bounded, join-bounded, query-bounded, update-bounded}
+use Rattle.consistency.proofs.Entering.{queries, updates-on, yields}
+use Rattle.consistency.proofs.Forking.{forks}
+use Rattle.consistency.proofs.Joining.{joins}
+use Rattle.consistency.proofs.Laid.{Laid, agree-after, laid}
+use Rattle.consistency.proofs.Represents.{Represents, stateCell}
+
+pub record Kept (y : Day) (m : Machine) (k : Cells) : Type 0 where
+  pub agree : Agree y m
+  pub represents : Represents k m
+  pub bounded : Bounded k
+
+fresh-represents : Represents freshCells freshMachine
+unfolding chain
+fresh-represents = record {
+  layout-is = refl;
+  places = length-replicate {A = ℕ} revisions 0;
+  out-few = omega arith;
+  given-is = refl;
+  given-few = omega arith;
+  state-is = λ r. cases (eqb r main) (λ e. rw (e, eqb-true r main e)) (λ e. let d = eqb-false r main e in rw (e, le-ltb r 1 (omega arith)));
+  main-out = List·Memᴰ·head refl;
+  own-is = λ r i. refl;
+  first-is = λ r i f l e. cc;
+  inherited-is = λ r i u. refl;
+  base-few = λ r i. omega arith;
+  main-inherits = refl;
+  seen-is = λ a b. refl;
+  caught-is = λ c r l n. rw (lt-ltb c clients l, lt-ltb r revisions n);
+  opened-is = λ c l. rw (lt-ltb c clients l);
+  opened-low = λ c r e. let z : _≡_ {A = ℕ} 0 1 = cc in absurd (omega arith);
+  updates-is = refl;
+  updates-few = omega arith;
+}
+
+pub fresh-kept : Kept fresh freshMachine freshCells
+fresh-kept = record { agree = agree-fresh; represents = fresh-represents; bounded = fresh-bounded }
+
+-- the sizes of the day are those of the cells
+module _ (y : Day) where
+  pub client-low : (c : ℕ) → c < clientLimit → c < clients
+  unfolding clientLimit
+  client-low c l = l
+
+  -- an update is accepted only if the log has room, and a fork only if a number is left
+  pub log-room : (c r : ℕ) → accepted y (Event c r true) ≡ true → y .updates < updates
+  unfolding accepted logFull updateLimit
+  log-room c r e =
+      let e3 = and-true (not (strange c)) _ e .1 in
+      let e4 = and-true (not (notGiven y r)) _ e3 .1 in
+      let e6 = and-true (not (y .joined r)) _ e4 .1 in
+      let e7 = and-true (not (openElsewhere y c r)) _ e6 .1 in
+      let e8 = and-true (not (busyByOther y c r)) _ e7 .1 in
+      let e9 = and-true (not (stale y c r)) _ e8 .1 in
+      ltb-true (y .updates) updates (not-false _ (not-true (logFull y) (and-true (not (logFull y)) true e9 .0)))
+
+  pub number-left : (r : ℕ) → accepted y (Fork r) ≡ true → y .revisions < revisions
+  unfolding accepted noneLeft revisionLimit
+  number-left r e =
+      let e4 = and-true (not (notGiven y r)) _ e .1 in
+      let e7 = and-true (not (y .joined r)) _ e4 .1 in
+      let e10 = and-true (not (busy y r)) _ e7 .1 in
+      ltb-true (y .revisions) revisions (not-false _ (not-true (noneLeft y) (and-true (not (noneLeft y)) true e10 .0)))
+
+module _ (y : Day) (m : Machine) (k : Cells) (K : Kept y m k) where
+  abbrev A : Agree y m
+  A = K .agree
+
+  abbrev h : Represents k m
+  h = K .represents
+
+  abbrev L : Laid m
+  L = laid y m A
+
+  there : (r : ℕ) → IsOut y r → r ∈ m .layout
+  there r o = follows y m A .laid r o
+
+  low : (r : ℕ) → r ∈ m .layout → r < revisions
+  low r i = let a = L .given r i in let b = h .given-is in let c = h .given-few in omega arith
+
+  represents-after : (s : Step) → accepted y s ≡ true → Represents (stepCells k s) (machineAfter m s)
+  unfolding stepCells machineAfter
+  represents-after (Event c r true) e = let i = there r (can-enter y c r true e .out) in updates-on k m h c r (low r i) L i (let l = log-room y c r e in let u = A .same-updates in omega arith)
+  represents-after (Event c r false) e = queries k m h c r (low r (there r (can-enter y c r false e .out)))
+  represents-after (Yield c) e = yields k m h c
+  represents-after (Fork r) e = forks k m h L r (there r (can-fork y r e .out)) (let l = number-left y r e in let u = A .same-revisions in omega arith)
+  represents-after (Join a b) e = let j = can-join y a b e in joins k m h L a b (there a (j .out-a)) (there b (j .out-b)) (j .not-self) (j .not-main)
+
+  bounded-after : (s : Step) → accepted y s ≡ true → Laid (machineAfter m s) → Represents (stepCells k s) (machineAfter m s) → Bounded (stepCells k s)
+  unfolding stepCells machineAfter
+  bounded-after (Event c r true) e L′ h′ = update-bounded k (K .bounded) (enterOn m c r true) L′ c r h′ (there r (can-enter y c r true e .out)) (let l = log-room y c r e in let u = A .same-updates in let v = h .updates-is in omega arith)
+  bounded-after (Event c r false) e L′ h′ = query-bounded k (K .bounded) c r
+  bounded-after (Yield c) e L′ h′ = close-bounded k (K .bounded) c
+  bounded-after (Fork r) e L′ h′ = fork-bounded k (K .bounded) r (k .given) (let l = number-left y r e in let u = A .same-revisions in let v = h .given-is in omega arith)
+  bounded-after (Join a b) e L′ h′ = let j = can-join y a b e in join-bounded k (K .bounded) (joinOn m a b) L′ a b h′ (remove-keep b a (m .layout) (λ q. j .not-self (sym q)) (there a (j .out-a)))
+
+  pub kept-after : (s : Step) → accepted y s ≡ true → Kept (after y s) (machineAfter m s) (stepCells k s)
+  kept-after s e =
+      let A′ = agree-after y m s e A in
+      let h′ = represents-after s e in
+      record { agree = A′; represents = h′; bounded = bounded-after s e (laid (after y s) (machineAfter m s) A′) h′ }
