@@ -28,7 +28,7 @@ pub record Bounded (k : Cells) : Type 0 where
 changed-all : (P : ℕ → Type 0) (f : ℕ → ℕ) (a v : ℕ) → ((r : ℕ) → P (f r)) → P v → (r : ℕ) → P (changed f a v r)
 changed-all P f a v h g r = cases (eqb r a) (λ e. rw e g) (λ e. rw e (h r))
 
-cond-all : {A : Type 0} (P : A → Type 0) (b : Bool) (x y : A) → P x → P y → P (cond b x y)
+pub cond-all : {A : Type 0} (P : A → Type 0) (b : Bool) (x y : A) → P x → P y → P (cond b x y)
 cond-all P true x y h g = h
 cond-all P false x y h g = g
 

@@ -96,7 +96,7 @@ module _ (k : Cells) (m : Machine) (h : Represents k m) where
       updates-few = h .updates-few;
     }
 
-    module _ (L : Laid m) (i : r ∈ m .layout) (room : m .updates < updates) where
+    module _ (L : Laid m) (i : r ∈ m .layout) (room : k .updates < updates) where
       -- the next number stands in no list
       fresh : (x : ℕ) → x ∈ m .layout → m .updates ∈ own k x → ⊥
       fresh x j e = let l = L .own-low x j (m .updates) (rw (h .own-is x j) at e) in omega arith
@@ -135,5 +135,5 @@ module _ (k : Cells) (m : Machine) (h : Represents k m) where
         opened-is = opened-now c (some r);
         opened-low = opened-still c (some r) on-r;
         updates-is = ap suc (h .updates-is);
-        updates-few = let e = h .updates-is in omega arith;
+        updates-few = room;
       }

@@ -28,7 +28,7 @@ bounded false v n h = cases (ltb v n) (λ e. rw e) (λ e. rw e)
 next-given : (r n : ℕ) → (r ≡ n → ⊥) → ltb r (suc n) ≡ ltb r n
 next-given r n d = cases (ltb r n) (λ e. let l = ltb-true r n e in lt-ltb r (suc n) (omega arith) ∙ sym e) (λ e. let l = ltb-false r n e in le-ltb r (suc n) (omega arith) ∙ sym e)
 
-module _ (k : Cells) (m : Machine) (h : Represents k m) (L : Laid m) (p : ℕ) (i : p ∈ m .layout) (room : m .revisions < revisions) where
+module _ (k : Cells) (m : Machine) (h : Represents k m) (L : Laid m) (p : ℕ) (i : p ∈ m .layout) (room : k .given < revisions) where
   abbrev c : ℕ
   c = m .revisions
 
@@ -50,7 +50,6 @@ module _ (k : Cells) (m : Machine) (h : Represents k m) (L : Laid m) (p : ℕ) (
   fork-layout : take (suc (k .out)) (k′ .layout) ≡ insert p c (m .layout)
   fork-layout =
       let a = h .out-few in
-      let b = h .given-is in
       fork-outs k p c (omega arith) (rw (h .layout-is) i) ∙ ap (insert p c) (h .layout-is)
 
   fork-state : (r : ℕ) → k′ .state r ≡ stateCell m′ r
@@ -116,7 +115,7 @@ module _ (k : Cells) (m : Machine) (h : Represents k m) (L : Laid m) (p : ℕ) (
     places = let a = h .places in let b = insert-length p c (k .layout) in length-take-le revisions (insert p c (k .layout)) (omega arith);
     out-few = let a = h .out-few in omega arith;
     given-is = ap suc (h .given-is);
-    given-few = let a = h .given-is in omega arith;
+    given-few = room;
     state-is = fork-state;
     main-out = insert-old p c main (m .layout) (h .main-out);
     own-is = fork-own;
@@ -125,7 +124,7 @@ module _ (k : Cells) (m : Machine) (h : Represents k m) (L : Laid m) (p : ℕ) (
     base-few = fork-base;
     main-inherits = rw (ne-eqb main c not-main) (h .main-inherits);
     seen-is = λ x z. cases (eqb z c) (λ e. rw e) (λ e. rw e (cases (eqb x c) (λ q. rw q (h .seen-is p z)) (λ q. rw q (h .seen-is x z))));
-    caught-is = λ o x ol xl. cases (eqb x c) (λ e. rw e (let l = L .given p i in h .caught-is o p ol (omega arith))) (λ e. rw e (h .caught-is o x ol xl));
+    caught-is = λ o x ol xl. cases (eqb x c) (λ e. rw e (let a = L .given p i in let b = h .given-is in h .caught-is o p ol (omega arith))) (λ e. rw e (h .caught-is o x ol xl));
     opened-is = h .opened-is;
     opened-low = h .opened-low;
     updates-is = h .updates-is;

@@ -61,32 +61,6 @@ fresh-represents = record {
 pub fresh-kept : Kept fresh freshMachine freshCells
 fresh-kept = record { agree = agree-fresh; represents = fresh-represents; bounded = fresh-bounded }
 
--- the sizes of the day are those of the cells
-module _ (y : Day) where
-  pub client-low : (c : ℕ) → c < clientLimit → c < clients
-  unfolding clientLimit
-  client-low c l = l
-
-  -- an update is accepted only if the log has room, and a fork only if a number is left
-  pub log-room : (c r : ℕ) → accepted y (Event c r true) ≡ true → y .updates < updates
-  unfolding accepted logFull updateLimit
-  log-room c r e =
-      let e3 = and-true (not (strange c)) _ e .1 in
-      let e4 = and-true (not (notGiven y r)) _ e3 .1 in
-      let e6 = and-true (not (y .joined r)) _ e4 .1 in
-      let e7 = and-true (not (openElsewhere y c r)) _ e6 .1 in
-      let e8 = and-true (not (busyByOther y c r)) _ e7 .1 in
-      let e9 = and-true (not (stale y c r)) _ e8 .1 in
-      ltb-true (y .updates) updates (not-false _ (not-true (logFull y) (and-true (not (logFull y)) true e9 .0)))
-
-  pub number-left : (r : ℕ) → accepted y (Fork r) ≡ true → y .revisions < revisions
-  unfolding accepted noneLeft revisionLimit
-  number-left r e =
-      let e4 = and-true (not (notGiven y r)) _ e .1 in
-      let e7 = and-true (not (y .joined r)) _ e4 .1 in
-      let e10 = and-true (not (busy y r)) _ e7 .1 in
-      ltb-true (y .revisions) revisions (not-false _ (not-true (noneLeft y) (and-true (not (noneLeft y)) true e10 .0)))
-
 module _ (y : Day) (m : Machine) (k : Cells) (K : Kept y m k) where
   abbrev A : Agree y m
   A = K .agree
@@ -100,23 +74,48 @@ module _ (y : Day) (m : Machine) (k : Cells) (K : Kept y m k) where
   there : (r : ℕ) → IsOut y r → r ∈ m .layout
   there r o = follows y m A .laid r o
 
-  low : (r : ℕ) → r ∈ m .layout → r < revisions
-  low r i = let a = L .given r i in let b = h .given-is in let c = h .given-few in omega arith
+  pub out-low : (r : ℕ) → IsOut y r → r < revisions
+  out-low r o = let a = L .given r (there r o) in let b = h .given-is in let c = h .given-few in omega arith
+
+  pub some-given : 0 < k .given
+  some-given = let a = L .given main (h .main-out) in let b = h .given-is in omega arith
+
+  -- an update is accepted only if the log has room, and a fork only if a number is left
+  pub log-room : (c r : ℕ) → accepted y (Event c r true) ≡ true → k .updates < updates
+  unfolding accepted logFull updateLimit
+  log-room c r e =
+      let e3 = and-true (not (strange c)) _ e .1 in
+      let e4 = and-true (not (notGiven y r)) _ e3 .1 in
+      let e6 = and-true (not (y .joined r)) _ e4 .1 in
+      let e7 = and-true (not (openElsewhere y c r)) _ e6 .1 in
+      let e8 = and-true (not (busyByOther y c r)) _ e7 .1 in
+      let e9 = and-true (not (stale y c r)) _ e8 .1 in
+      let a = ltb-true (y .updates) updates (not-false _ (not-true (logFull y) (and-true (not (logFull y)) true e9 .0))) in
+      rw (h .updates-is, A .same-updates) a
+
+  pub number-left : (r : ℕ) → accepted y (Fork r) ≡ true → k .given < revisions
+  unfolding accepted noneLeft revisionLimit
+  number-left r e =
+      let e4 = and-true (not (notGiven y r)) _ e .1 in
+      let e7 = and-true (not (y .joined r)) _ e4 .1 in
+      let e10 = and-true (not (busy y r)) _ e7 .1 in
+      let a = ltb-true (y .revisions) revisions (not-false _ (not-true (noneLeft y) (and-true (not (noneLeft y)) true e10 .0))) in
+      rw (h .given-is, A .same-revisions) a
 
   represents-after : (s : Step) → accepted y s ≡ true → Represents (stepCells k s) (machineAfter m s)
   unfolding stepCells machineAfter
-  represents-after (Event c r true) e = let i = there r (can-enter y c r true e .out) in updates-on k m h c r (low r i) L i (let l = log-room y c r e in let u = A .same-updates in omega arith)
-  represents-after (Event c r false) e = queries k m h c r (low r (there r (can-enter y c r false e .out)))
+  represents-after (Event c r true) e = let o = can-enter y c r true e .out in updates-on k m h c r (out-low r o) L (there r o) (log-room c r e)
+  represents-after (Event c r false) e = queries k m h c r (out-low r (can-enter y c r false e .out))
   represents-after (Yield c) e = yields k m h c
-  represents-after (Fork r) e = forks k m h L r (there r (can-fork y r e .out)) (let l = number-left y r e in let u = A .same-revisions in omega arith)
+  represents-after (Fork r) e = forks k m h L r (there r (can-fork y r e .out)) (number-left r e)
   represents-after (Join a b) e = let j = can-join y a b e in joins k m h L a b (there a (j .out-a)) (there b (j .out-b)) (j .not-self) (j .not-main)
 
   bounded-after : (s : Step) → accepted y s ≡ true → Laid (machineAfter m s) → Represents (stepCells k s) (machineAfter m s) → Bounded (stepCells k s)
   unfolding stepCells machineAfter
-  bounded-after (Event c r true) e L′ h′ = update-bounded k (K .bounded) (enterOn m c r true) L′ c r h′ (there r (can-enter y c r true e .out)) (let l = log-room y c r e in let u = A .same-updates in let v = h .updates-is in omega arith)
+  bounded-after (Event c r true) e L′ h′ = update-bounded k (K .bounded) (enterOn m c r true) L′ c r h′ (there r (can-enter y c r true e .out)) (log-room c r e)
   bounded-after (Event c r false) e L′ h′ = query-bounded k (K .bounded) c r
   bounded-after (Yield c) e L′ h′ = close-bounded k (K .bounded) c
-  bounded-after (Fork r) e L′ h′ = fork-bounded k (K .bounded) r (k .given) (let l = number-left y r e in let u = A .same-revisions in let v = h .given-is in omega arith)
+  bounded-after (Fork r) e L′ h′ = fork-bounded k (K .bounded) r (k .given) (number-left r e)
   bounded-after (Join a b) e L′ h′ = let j = can-join y a b e in join-bounded k (K .bounded) (joinOn m a b) L′ a b h′ (remove-keep b a (m .layout) (λ q. j .not-self (sym q)) (there a (j .out-a)))
 
   pub kept-after : (s : Step) → accepted y s ≡ true → Kept (after y s) (machineAfter m s) (stepCells k s)

@@ -8,4 +8,6 @@ pub mod Joining
 pub mod Bounded
 pub mod Answers
 pub mod Kept
+pub mod Stored
+pub mod Ranged
 pub mod Theorem
