@@ -1,6 +1,5 @@
 -- How many numbers a list has.
 use Prim.Native.Nat.{_<_, _≤_, suc, zero, ℕ}
-use mathlib.Core.Bool.{false, true}
 use mathlib.Core.Path.{_≡_, refl, sym}
 use mathlib.Core.List.{List, List·Memᴰ·head, List·Nodup, Memᴰ·cast, Nodup·sublist, Sublistᴰ·cons, Sublistᴰ·cons-cons, Sublistᴰ·refl, [], _∷_}
 use native.Mathlib.Omega.{arith}

@@ -1,7 +1,7 @@
 -- Bytes whose cells stand for a day are in range.
 use Prim.Native.Nat.{_<_, suc, zero, ℕ}
-use mathlib.Core.Bool.{Bool, _&&_, cond, false, true}
-use mathlib.Core.Path.{_≡_, ap, refl, sym}
+use mathlib.Core.Bool.{Bool, _&&_, true}
+use mathlib.Core.Path.{_≡_, ap, refl}
 use mathlib.Core.Option.{Option, none, some}
 use mathlib.Core.List.{List, List·Memᴰ·head, List·Memᴰ·not-nil, List·Memᴰ·tail, [], _∷_}
 use native.Mathlib.Omega.{arith}
@@ -11,17 +11,16 @@ use borrow.Author.Tests.{eq-eqb, lt-ltb}
 use Rattle.lists.specs.Lists.{_∈_}
 use Rattle.diagram.specs.Day.{Day}
 use Rattle.diagram.specs.Machine.{Machine}
-use Rattle.cells.specs.Sizes.{clients, closed, main, revisions}
+use Rattle.cells.specs.Sizes.{clients, main, revisions}
 use Rattle.cells.specs.Tables.{every}
-use Rattle.cells.specs.Parts.{Parts, Sized, basePart, countPart, countersPart, firstPart, lastPart, layoutPart, openedPart, queuePart, signaturePart, size, split, statePart, usedPart}
+use Rattle.cells.specs.Parts.{Parts, basePart, countPart, countersPart, firstPart, lastPart, layoutPart, openedPart, queuePart, signaturePart, split, statePart, usedPart}
 use Rattle.cells.specs.Words.{byte, word}
-use Rattle.cells.specs.Cells.{Cells}
 use Rattle.cells.specs.Decode.{cells}
-use Rattle.cells.specs.Range.{bytesBelow, countersIn, inRange, signature, signed, wordsBelow}
-use Rattle.consistency.proofs.Bounded.{Bounded, cond-all}
-use Rattle.consistency.proofs.Kept.{Kept, some-given}
-use Rattle.consistency.proofs.Represents.{Represents, openCell, stateCell}
-use Rattle.consistency.proofs.Stored.{Unread}
+use Rattle.cells.specs.Range.{bytesBelow, countersIn, inRange, signature, wordsBelow}
+use Rattle.consistency.proofs.Cells.Bounded.{Bounded, cond-all}
+use Rattle.consistency.proofs.Cells.Kept.{Kept, some-given}
+use Rattle.consistency.proofs.Cells.Represents.{Represents, openCell}
+use Rattle.consistency.proofs.Bytes.Stored.{Unread}
 
 both : (a b : Bool) → a ≡ true → b ≡ true → (a && b) ≡ true
 both a b p q = rw (p, q)

@@ -1,20 +1,19 @@
 -- What is carried along a run, and that each accepted step keeps it.
-use Prim.Native.Nat.{_≤_, _<_, suc, ℕ}
-use mathlib.Core.Bool.{Bool, _&&_, false, not, true}
-use mathlib.Core.Path.{_∙_, _≡_, refl, sym}
-use mathlib.Core.Option.{none, some}
-use mathlib.Core.List.{List, List·Memᴰ·head, [], _∷_}
+use Prim.Native.Nat.{_<_, ℕ}
+use mathlib.Core.Bool.{false, not, true}
+use mathlib.Core.Path.{_≡_, refl, sym}
+use mathlib.Core.List.{List·Memᴰ·head}
 use native.Mathlib.Omega.{arith}
-use lib.Dec.{eqb, ltb}
+use lib.Dec.{eqb}
 use lib.ListN.{length-replicate}
 use borrow.Author.Tests.{eqb-false, eqb-true, le-ltb, lt-ltb, ltb-true, not-false, not-true}
 use Rattle.lists.specs.Lists.{_∈_}
 use Rattle.lists.proofs.Cases.{and-true, cases}
 use Rattle.lists.proofs.Places.{remove-keep}
-use Rattle.diagram.specs.Sizes.{clientLimit, revisionLimit, updateLimit}
+use Rattle.diagram.specs.Sizes.{revisionLimit, updateLimit}
 use Rattle.diagram.specs.Day.{Day, IsOut, fresh}
 use Rattle.diagram.specs.Checks.{busy, busyByOther, logFull, noneLeft, openElsewhere, stale, strange}
-use Rattle.diagram.specs.Machine.{Follows, Machine, enterOn, forkOn, freshMachine, joinOn, machineAfter}
+use Rattle.diagram.specs.Machine.{Machine, enterOn, freshMachine, joinOn, machineAfter}
 use Rattle.diagram.specs.Steps.{Event, Fork, Join, Step, Yield, accepted, after, notGiven}
 use Rattle.diagram.proofs.Days.Moves.{can-enter, can-fork, can-join}
 use Rattle.diagram.proofs.Follow.Agrees.{Agree, agree-fresh}
@@ -23,12 +22,12 @@ use Rattle.cells.specs.Sizes.{clients, main, revisions, updates}
 use Rattle.cells.specs.Cells.{Cells, chain}
 use Rattle.cells.specs.CellSteps.{freshCells}
 use Rattle.consistency.specs.Reached.{stepCells}
-use Rattle.consistency.proofs.Bounded.{Bounded, close-bounded, fork-bounded, fresh-bounded, join-bounded, query-bounded, update-bounded}
-use Rattle.consistency.proofs.Entering.{queries, updates-on, yields}
-use Rattle.consistency.proofs.Forking.{forks}
-use Rattle.consistency.proofs.Joining.{joins}
-use Rattle.consistency.proofs.Laid.{Laid, agree-after, laid}
-use Rattle.consistency.proofs.Represents.{Represents, stateCell}
+use Rattle.consistency.proofs.Cells.Bounded.{Bounded, close-bounded, fork-bounded, fresh-bounded, join-bounded, query-bounded, update-bounded}
+use Rattle.consistency.proofs.Cells.Entering.{queries, updates-on, yields}
+use Rattle.consistency.proofs.Cells.Forking.{forks}
+use Rattle.consistency.proofs.Cells.Joining.{joins}
+use Rattle.consistency.proofs.Cells.Laid.{Laid, agree-after, laid}
+use Rattle.consistency.proofs.Cells.Represents.{Represents}
 
 pub record Kept (y : Day) (m : Machine) (k : Cells) : Type 0 where
   pub agree : Agree y m

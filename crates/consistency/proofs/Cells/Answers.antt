@@ -1,28 +1,27 @@
 -- Cells that stand for the day's machine answer as the day does.
-use Prim.Native.Nat.{_≤_, _<_, suc, zero, ℕ}
-use mathlib.Core.Bool.{Bool, _&&_, _||_, cond, false, not, true}
+use Prim.Native.Nat.{_<_, suc, zero, ℕ}
+use mathlib.Core.Bool.{Bool, _&&_, _||_, false, not, true}
 use mathlib.Core.Path.{_∙_, _≡_, ap, refl, sym}
 use mathlib.Core.Option.{Option, none, some}
-use mathlib.Core.List.{List}
 use native.Mathlib.Omega.{arith}
 use lib.Dec.{eqb, ltb}
 use lib.ListN.{length}
 use borrow.Author.Tests.{eqb-false, lt-ltb, ltb-true, ne-eqb}
 use Rattle.lists.proofs.Cases.{cases}
 use Rattle.diagram.specs.Sizes.{clientLimit, revisionLimit, updateLimit}
-use Rattle.diagram.specs.Day.{Day, IsOut, Transaction, nextNumber}
+use Rattle.diagram.specs.Day.{Day, IsOut, nextNumber}
 use Rattle.diagram.specs.Checks as Day
-use Rattle.diagram.specs.Machine.{Follows, Machine, revisionOf, shown}
+use Rattle.diagram.specs.Machine.{Follows, Machine, revisionOf}
 use Rattle.diagram.specs.Steps.{notGiven}
 use Rattle.diagram.proofs.Days.Moves.{joinable}
-use Rattle.cells.specs.Sizes.{clients, closed, isJoined, main, neverGiven, revisions, updates}
+use Rattle.cells.specs.Sizes.{clients, closed, main, revisions}
 use Rattle.cells.specs.Tables as Tables
 use Rattle.cells.specs.Cells.{Cells}
 use Rattle.cells.specs.Checks as Asked
 use Rattle.consistency.specs.Follow.{CellsFollow}
-use Rattle.consistency.proofs.Laid.{Laid}
-use Rattle.consistency.proofs.Ordered.{order-is, shown-few}
-use Rattle.consistency.proofs.Represents.{Represents, count-is, openCell}
+use Rattle.consistency.proofs.Cells.Laid.{Laid}
+use Rattle.consistency.proofs.Cells.Ordered.{order-is, shown-few}
+use Rattle.consistency.proofs.Cells.Represents.{Represents, count-is, openCell}
 
 or-comm : (a b : Bool) → (a || b) ≡ (b || a)
 or-comm true true = refl

@@ -1,8 +1,7 @@
 -- The order that the cells give is what the machine shows, and nothing of it is cut off.
 use Prim.Native.Nat.{_≤_, ℕ}
-use mathlib.Core.Bool.{_||_, cond, false, true}
-use mathlib.Core.Path.{_∙_, _≡_, ap, refl, sym}
-use mathlib.Core.List.{List, List·Memᴰ·cases-cons, List·Nodup, Memᴰ·append-left, Nodup·sublist, Sublistᴰ·append, Sublistᴰ·refl, Sublistᴰ·trans, [], _++_, _∷_}
+use mathlib.Core.Path.{_∙_, _≡_, ap, sym}
+use mathlib.Core.List.{List, List·Memᴰ·cases-cons, List·Nodup, Memᴰ·append-left, Nodup·sublist, Sublistᴰ·append, Sublistᴰ·refl, Sublistᴰ·trans, _++_, _∷_}
 use native.Mathlib.Omega.{arith}
 use lib.Dec.{eqb}
 use lib.ListN.{drop, length, take, take-append-drop}
@@ -18,9 +17,9 @@ use Rattle.lists.proofs.Sublists.{nodup-apart, ⊑-left, ⊑-⊆}
 use Rattle.diagram.specs.Machine.{Machine, shown}
 use Rattle.cells.specs.Sizes.{main, updates}
 use Rattle.cells.specs.Cells.{Cells, marked}
-use Rattle.cells.specs.Order.{inherited, order, picks}
-use Rattle.consistency.proofs.Laid.{Laid}
-use Rattle.consistency.proofs.Represents.{Represents}
+use Rattle.cells.specs.Order.{inherited, order}
+use Rattle.consistency.proofs.Cells.Laid.{Laid}
+use Rattle.consistency.proofs.Cells.Represents.{Represents}
 
 -- the blocks behind r, and r's own, stand in the whole row in that order
 blocks-behind : (f : ℕ → List ℕ) (r : ℕ) (l : List ℕ) → r ∈ l → (flatBack f (behind r l) ++ f r) ⊑ flatBack f l

@@ -1,23 +1,23 @@
 -- An event and a yield: the cells follow.
 use Prim.Native.Nat.{_≤_, _<_, suc, ℕ}
-use mathlib.Core.Bool.{Bool, _||_, cond, false, true}
+use mathlib.Core.Bool.{cond, false, true}
 use mathlib.Core.Path.{_∙_, _≡_, ap, refl, sym}
 use mathlib.Core.Option.{Option, none, some}
-use mathlib.Core.List.{List, List·Memᴰ·eq-of-singleton, [], _++_, _∷_, append-nil, head-eq-of-cons-eq}
+use mathlib.Core.List.{List, [], _++_, _∷_, append-nil, head-eq-of-cons-eq}
 use native.Mathlib.Omega.{arith}
 use lib.Dec.{eqb}
 use lib.ListN.{length, length-append, take}
 use lib.Seq.{take-append-le}
 use borrow.Author.Tests.{eq-eqb, eqb-true, ne-eqb}
-use Rattle.lists.specs.Lists.{_∈_, changed, member}
+use Rattle.lists.specs.Lists.{_∈_, changed}
 use Rattle.lists.proofs.Cases.{cases}
 use Rattle.diagram.specs.Machine.{Machine, enterOn, yieldOn}
 use Rattle.cells.specs.Sizes.{clients, main, revisions, updates}
-use Rattle.cells.specs.Cells.{Cells, chain, marked, own}
+use Rattle.cells.specs.Cells.{Cells, chain, own}
 use Rattle.cells.specs.CellSteps.{closeCells, queryCells, updateCells}
 use Rattle.cells.proofs.Chain.{kept-chain}
-use Rattle.consistency.proofs.Laid.{Laid}
-use Rattle.consistency.proofs.Represents.{Represents, count-is, openCell}
+use Rattle.consistency.proofs.Cells.Laid.{Laid}
+use Rattle.consistency.proofs.Cells.Represents.{Represents, count-is, openCell}
 
 -- a list that grows at its end keeps its front
 module _ (f : ℕ → List ℕ) (r : ℕ) (w : List ℕ) where

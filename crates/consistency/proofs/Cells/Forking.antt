@@ -2,7 +2,7 @@
 use Prim.Native.Nat.{_≤_, _<_, suc, ℕ}
 use mathlib.Core.Bool.{Bool, _&&_, _||_, cond, false, true}
 use mathlib.Core.Path.{_∙_, _≡_, ap, refl, subst, sym}
-use mathlib.Core.List.{List, List·Memᴰ·head, List·Memᴰ·not-nil, [], _++_, _∷_}
+use mathlib.Core.List.{List, List·Memᴰ·head, List·Memᴰ·not-nil, _++_, _∷_}
 use native.Mathlib.Omega.{arith}
 use lib.Dec.{eqb, ltb}
 use lib.ListN.{length, take}
@@ -17,8 +17,8 @@ use Rattle.cells.specs.Sizes.{main, revisions, updates}
 use Rattle.cells.specs.Cells.{Cells, chain, marked, own}
 use Rattle.cells.specs.CellSteps.{forkCells, forkRow}
 use Rattle.cells.proofs.Places.{fork-outs, insert-length}
-use Rattle.consistency.proofs.Laid.{Laid}
-use Rattle.consistency.proofs.Represents.{Represents, count-is, stateCell}
+use Rattle.consistency.proofs.Cells.Laid.{Laid}
+use Rattle.consistency.proofs.Cells.Represents.{Represents, count-is, stateCell}
 
 -- a test that implies a bound
 bounded : (b : Bool) (v n : ℕ) → (b ≡ true → v < n) → (ltb v n && b) ≡ b

@@ -13,11 +13,11 @@ use Rattle.cells.specs.Decode.{cells}
 use Rattle.cells.specs.Steps.{freshBytes}
 use Rattle.consistency.specs.Follow.{BytesFollowDays, CellsFollow, CellsFollowDays}
 use Rattle.consistency.specs.Reached.{bytesAfter, bytesFrom, cellsAfter, cellsFrom, stepBytes, stepCells}
-use Rattle.consistency.proofs.Answers.{answers}
-use Rattle.consistency.proofs.Kept.{Kept, fresh-kept, kept-after}
-use Rattle.consistency.proofs.Laid.{laid}
-use Rattle.consistency.proofs.Ranged.{ranged}
-use Rattle.consistency.proofs.Stored.{Stored, fresh-stored, step-stored}
+use Rattle.consistency.proofs.Cells.Answers.{answers}
+use Rattle.consistency.proofs.Cells.Kept.{Kept, fresh-kept, kept-after}
+use Rattle.consistency.proofs.Cells.Laid.{laid}
+use Rattle.consistency.proofs.Bytes.Ranged.{ranged}
+use Rattle.consistency.proofs.Bytes.Stored.{Stored, fresh-stored, step-stored}
 
 kept-follows : (y : Day) (m : Machine) (k : Cells) → Kept y m k → CellsFollow y k
 kept-follows y m k K = answers y m k (follows y m (K .agree)) (laid y m (K .agree)) (K .represents)

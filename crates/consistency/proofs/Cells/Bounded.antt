@@ -2,7 +2,7 @@
 use Prim.Native.Nat.{_+_, _≤_, _<_, suc, zero, ℕ}
 use mathlib.Core.Bool.{Bool, cond, false, true}
 use mathlib.Core.Path.{_≡_, refl}
-use mathlib.Core.List.{List, List·Memᴰ·append-cases, List·Memᴰ·cases-cons, List·Memᴰ·eq-of-singleton, List·Memᴰ·head, List·Memᴰ·not-nil, List·Memᴰ·tail, [], _++_, _∷_}
+use mathlib.Core.List.{List, List·Memᴰ·append-cases, List·Memᴰ·eq-of-singleton, List·Memᴰ·head, List·Memᴰ·not-nil, List·Memᴰ·tail, [], _++_, _∷_}
 use native.Mathlib.Omega.{arith}
 use lib.Dec.{eqb}
 use lib.ListN.{replicate, take}
@@ -10,12 +10,12 @@ use borrow.Author.Tests.{eq-eqb}
 use Rattle.lists.specs.Lists.{_∈_, changed, insert, remove}
 use Rattle.lists.proofs.Cases.{cases, either}
 use Rattle.lists.proofs.Places.{insert-back, remove-back}
-use Rattle.diagram.specs.Machine.{Machine, enterOn, joinOn}
+use Rattle.diagram.specs.Machine.{Machine}
 use Rattle.cells.specs.Sizes.{main, revisions, updates}
 use Rattle.cells.specs.Cells.{Cells}
 use Rattle.cells.specs.CellSteps.{closeCells, forkCells, freshCells, joinCells, queryCells, updateCells}
-use Rattle.consistency.proofs.Laid.{Laid, own-few}
-use Rattle.consistency.proofs.Represents.{Represents, count-is}
+use Rattle.consistency.proofs.Cells.Laid.{Laid, own-few}
+use Rattle.consistency.proofs.Cells.Represents.{Represents, count-is}
 
 pub record Bounded (k : Cells) : Type 0 where
   pub last-low : (r : ℕ) → k .last r < updates

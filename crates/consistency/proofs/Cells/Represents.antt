@@ -1,6 +1,6 @@
 -- The cells stand for a state of the layout machine.
 use Prim.Native.Nat.{_≤_, _<_, ℕ}
-use mathlib.Core.Bool.{Bool, _||_, cond}
+use mathlib.Core.Bool.{_||_, cond}
 use mathlib.Core.Path.{_∙_, _≡_, ap, sym}
 use mathlib.Core.Option.{Option, none, some}
 use mathlib.Core.List.{List, [], _∷_}
@@ -9,7 +9,7 @@ use lib.ListN.{length, take}
 use Rattle.lists.specs.Lists.{_∈_, member}
 use Rattle.diagram.specs.Machine.{Machine}
 use Rattle.cells.specs.Sizes.{clients, closed, isJoined, isOut, main, neverGiven, revisions, updates}
-use Rattle.cells.specs.Cells.{Cells, chain, marked, outs, own}
+use Rattle.cells.specs.Cells.{Cells, marked, outs, own}
 use Rattle.cells.proofs.Chain.{chain-length}
 
 -- the cell for an open transaction, and for the state of a revision

@@ -6,10 +6,9 @@ use mathlib.Core.List.{List}
 use native.Mathlib.Omega.{arith}
 use lib.Dec.{eqb}
 use lib.ListN.{getD-replicate, length, set}
-use Rattle.lists.specs.Lists.{_∈_}
 use Rattle.lists.proofs.Cases.{cases}
 use Rattle.diagram.specs.Sizes.{clientLimit}
-use Rattle.diagram.specs.Day.{Day, IsOut}
+use Rattle.diagram.specs.Day.{Day}
 use Rattle.diagram.specs.Machine.{Machine}
 use Rattle.diagram.specs.Steps.{Event, Fork, Join, Step, Yield, accepted}
 use Rattle.diagram.proofs.Days.Moves.{can-enter, can-fork, can-join, can-yield}
@@ -28,8 +27,8 @@ use Rattle.cells.proofs.Parts.{glue-length, split-glue, split-sized}
 use Rattle.cells.proofs.Sized.{close-sized, fork-sized, fresh-sized, join-sized, query-sized, update-sized}
 use Rattle.cells.proofs.Tables.{getD-changed}
 use Rattle.consistency.specs.Reached.{stepBytes, stepCells}
-use Rattle.consistency.proofs.Bounded.{cond-all}
-use Rattle.consistency.proofs.Kept.{Kept, log-room, number-left, out-low, some-given}
+use Rattle.consistency.proofs.Cells.Bounded.{cond-all}
+use Rattle.consistency.proofs.Cells.Kept.{Kept, log-room, number-left, out-low, some-given}
 
 -- what is in range, and no cell that a step reads shows it
 pub record Unread (p : Parts) : Type 0 where

@@ -1,15 +1,14 @@
 -- A join: the cells follow.
-use Prim.Native.Nat.{_+_, _-_, _≤_, _<_, suc, zero, ℕ}
-use mathlib.Core.Bool.{Bool, _||_, cond, false, true}
+use Prim.Native.Nat.{_-_, suc, zero, ℕ}
 use mathlib.Core.Path.{_∙_, _≡_, ap, refl, sym}
 use mathlib.Core.List.{List, List·Memᴰ·head, List·Nodup, Memᴰ·cast, [], _++_, _∷_, append-nil}
 use native.Mathlib.Nat.{add-zero}
 use native.Mathlib.Omega.{arith}
-use lib.Dec.{eqb, ltb}
-use lib.ListN.{length, take}
+use lib.Dec.{eqb}
+use lib.ListN.{take}
 use lib.Seq.{length-take-le}
-use borrow.Author.Tests.{eq-eqb, eqb-false, eqb-true, lt-ltb, ne-eqb}
-use Rattle.lists.specs.Lists.{_∈_, changed, remove}
+use borrow.Author.Tests.{eq-eqb, eqb-true, lt-ltb, ne-eqb}
+use Rattle.lists.specs.Lists.{_∈_, remove}
 use Rattle.lists.proofs.Blocks.{flatBack-nodup, flatBack-one}
 use Rattle.lists.proofs.Cases.{cases}
 use Rattle.lists.proofs.Places.{remove-back, remove-gone, remove-keep}
@@ -19,9 +18,9 @@ use Rattle.cells.specs.Cells.{Cells, chain, own}
 use Rattle.cells.specs.CellSteps.{joinCells}
 use Rattle.cells.proofs.Chain.{chain-first, kept-chain, splice, walk}
 use Rattle.cells.proofs.Places.{join-outs, remove-length}
-use Rattle.consistency.proofs.Entering.{grown-longer, grown-take, head-append}
-use Rattle.consistency.proofs.Laid.{Laid}
-use Rattle.consistency.proofs.Represents.{Represents, count-is, stateCell}
+use Rattle.consistency.proofs.Cells.Entering.{grown-longer, grown-take, head-append}
+use Rattle.consistency.proofs.Cells.Laid.{Laid}
+use Rattle.consistency.proofs.Cells.Represents.{Represents, count-is, stateCell}
 
 module _ (k : Cells) (m : Machine) (h : Represents k m) (L : Laid m) (a b : ℕ) (i : a ∈ m .layout) (j : b ∈ m .layout) (not-self : b ≡ a → ⊥) (not-main : b ≡ main → ⊥) where
   abbrev k′ : Cells
