@@ -5,3 +5,4 @@ pub mod Days
 pub mod Order
 pub mod Marks
 pub mod Follow
+mod Examples

@@ -9,3 +9,4 @@ pub mod Checks
 pub mod Steps
 pub mod Arbitration
 pub mod Machine
+pub mod Examples

@@ -33,29 +33,28 @@ abbrev reach : Diagram → Option ℕ → ℕ → Bool
 reach d none y = false
 reach d (some f) y = leads d f y
 
--- a may join b: the fork that b started from leads to a, and b's own start (whose number is b) does not
-abbrev pub may : Diagram → (ℕ → ℕ) → ℕ → ℕ → Bool
-may d tip a b = cond (leads d b (tip a)) false (reach d (forkVertex d (tip b)) (tip a))
+-- a may join b: the fork that b started from leads to a's terminal, and b's own start does not
+abbrev pub may : Diagram → (ℕ → ℕ) → (ℕ → ℕ) → ℕ → ℕ → Bool
+may d tip starts a b = cond (leads d (starts b) (tip a)) false (reach d (forkVertex d (tip b)) (tip a))
 
-pub record May (d : Diagram) (tip : ℕ → ℕ) (a b : ℕ) : Type 0 where
-  pub outside : leads d b (tip a) ≡ false
+pub record May (d : Diagram) (tip starts : ℕ → ℕ) (a b : ℕ) : Type 0 where
+  pub outside : leads d (starts b) (tip a) ≡ false
   pub at : ℕ
   pub start-of : forkVertex d (tip b) ≡ some at
   pub leads : leads d at (tip a) ≡ true
 
-pub may-true : (d : Diagram) (tip : ℕ → ℕ) (a b : ℕ) → may d tip a b ≡ true → May d tip a b
-may-true d tip a b e = pick (split (leads d b (tip a)))
+pub may-true : (d : Diagram) (tip starts : ℕ → ℕ) (a b : ℕ) → may d tip starts a b ≡ true → May d tip starts a b
+may-true d tip starts a b e =
+    cases (leads d (starts b) (tip a))
+    (λ q. absurd (false≢true (rw q at e)))
+    (λ q. got q (forkVertex d (tip b)) refl (rw q at e))
   where
-    got : leads d b (tip a) ≡ false → (o : Option ℕ) → forkVertex d (tip b) ≡ o → reach d o (tip a) ≡ true → May d tip a b
+    got : leads d (starts b) (tip a) ≡ false → (o : Option ℕ) → forkVertex d (tip b) ≡ o → reach d o (tip a) ≡ true → May d tip starts a b
     got h none p q = absurd (false≢true q)
     got h (some f) p q = record { outside = h; at = f; start-of = p; leads = q }
 
-    pick : (leads d b (tip a) ≡ true) ⊎ (leads d b (tip a) ≡ false) → May d tip a b
-    pick (inl q) = absurd (false≢true (rw q at e))
-    pick (inr q) = got q (forkVertex d (tip b)) refl (rw q at e)
-
-pub true-may : (d : Diagram) (tip : ℕ → ℕ) (a b : ℕ) → May d tip a b → may d tip a b ≡ true
-true-may d tip a b h = rw (h .outside, h .start-of) (h .leads)
+pub true-may : (d : Diagram) (tip starts : ℕ → ℕ) (a b : ℕ) → May d tip starts a b → may d tip starts a b ≡ true
+true-may d tip starts a b h = rw (h .outside, h .start-of) (h .leads)
 
 -- the invariant speaks only of revisions that are out, and of fewer joins as of more
 pub inv-same : (layout : List ℕ) (s t : Contents) (J K : ℕ → ℕ → Bool) → Inv layout s J → ((x : ℕ) → x ∈ layout → t x ≡ s x) → ((x y : ℕ) → x ∈ layout → y ∈ layout → K x y ≡ true → J x y ≡ true) → Inv layout t K
@@ -96,33 +95,16 @@ module _ (d : Diagram) (v : Vertex) (tip : ℕ → ℕ) (bound : (x : ℕ) → t
   pub unseen-before : (f : ℕ) → leads (v ∷ d) f (on b) ≡ false → (p : ℕ) → List·Memᴰ p (sources v) → leads d f p ≡ false
   unseen-before f e p i = cases (leads d f p) (λ q. absurd (false≢true (sym e ∙ sees-on f ∙ or-right (eqb f (length d)) _ (any-intro (λ p. leads d f p) p i q)))) (λ q. q)
 
--- a vertex that changes nothing: a query, or a fork
-pub data Quiet (p : ℕ) : Vertex → Type 0 where
-  q-fork : Quiet p (fork p)
-
-quiet-box : (d : Diagram) (p : ℕ) (v : Vertex) → Quiet p v → record { inherited = inheritedStep d (inheritedEvents d) v; own = ownEventStep d (ownEvents d) v } ≡ contentAt d p
-quiet-box d p v q-fork = refl
-
-quiet-from : (d : Diagram) (p : ℕ) (v : Vertex) → Quiet p v → forkStep d (forkVertex d) v ≡ forkVertex d p
-quiet-from d p v q-fork = refl
-
-quiet-preds : (p : ℕ) (v : Vertex) → Quiet p v → sources v ≡ p ∷ []
-quiet-preds p v q-fork = refl
-
-quiet-ok : (d : Diagram) (p : ℕ) (v : Vertex) → Quiet p v → JoinOk d v
-quiet-ok d p v q-fork = tt
-
--- what holds of a diagram as it is built: the terminals are a state of the machine
-pub record Linked (d : Diagram) (layout : List ℕ) (tip : ℕ → ℕ) : Type 0 where
+-- what holds of a diagram as it is made: the revisions out, with their terminals and start vertices, are in a layout
+pub record Linked (d : Diagram) (layout : List ℕ) (tip starts : ℕ → ℕ) : Type 0 where
   pub ordered : Ordered d
   pub joins-ok : Joined d
   pub bound : (x : ℕ) → tip x < length d
-  pub ids : (x : ℕ) → x ∈ layout → x < length d
   pub small : (x n : ℕ) → n ∈ ownEvents d x → n < length d
-  pub inv : Inv layout (contents d tip) (may d tip)
+  pub inv : Inv layout (contents d tip) (may d tip starts)
   pub past : (x : ℕ) → x < length d → Held layout (contents d tip) (viewEvents d x)
 
-module _ (d : Diagram) (layout : List ℕ) (tip : ℕ → ℕ) (L : Linked d layout tip) (b : ℕ) (v : Vertex) (stays : forkStep d (forkVertex d) v ≡ forkVertex d (tip b)) where
+module _ (d : Diagram) (layout : List ℕ) (tip starts : ℕ → ℕ) (L : Linked d layout tip starts) (b : ℕ) (v : Vertex) (stays : forkStep d (forkVertex d) v ≡ forkVertex d (tip b)) where
   abbrev pub next : ℕ → ℕ
   next = on d v tip (L .bound) b
 
@@ -130,79 +112,77 @@ module _ (d : Diagram) (layout : List ℕ) (tip : ℕ → ℕ) (L : Linked d lay
   from-on y = cases (eqb y b) (λ e. let q = eqb-true y b e in rw q (on-self d v tip (L .bound) b forkStep none ∙ stays)) (λ e. on-other d v tip (L .bound) b forkStep none y (eqb-false y b e))
 
   -- who may join after the step: one who might before, or b, through an edge to the new vertex
-  pub may-next : (x y : ℕ) → May (v ∷ d) next x y → May d tip x y ⊎ ((x ≡ b) × ((p : ℕ) → List·Memᴰ p (sources v) → leads d y p ≡ false) × ((p : ℕ) × List·Memᴰ p (sources v) × ((f : ℕ) × (forkVertex d (tip y) ≡ some f) × (leads d f p ≡ true))))
+  pub may-next : (x y : ℕ) → May (v ∷ d) next starts x y → May d tip starts x y ⊎ ((x ≡ b) × ((p : ℕ) → List·Memᴰ p (sources v) → leads d (starts y) p ≡ false) × ((p : ℕ) × List·Memᴰ p (sources v) × ((f : ℕ) × (forkVertex d (tip y) ≡ some f) × (leads d f p ≡ true))))
   may-next x y h = pick (split (eqb x b))
     where
       began : forkVertex d (tip y) ≡ some (h .at)
       began = sym (from-on y) ∙ h .start-of
 
-      pick : (eqb x b ≡ true) ⊎ (eqb x b ≡ false) → May d tip x y ⊎ ((x ≡ b) × ((p : ℕ) → List·Memᴰ p (sources v) → leads d y p ≡ false) × ((p : ℕ) × List·Memᴰ p (sources v) × ((f : ℕ) × (forkVertex d (tip y) ≡ some f) × (leads d f p ≡ true))))
+      pick : (eqb x b ≡ true) ⊎ (eqb x b ≡ false) → May d tip starts x y ⊎ ((x ≡ b) × ((p : ℕ) → List·Memᴰ p (sources v) → leads d (starts y) p ≡ false) × ((p : ℕ) × List·Memᴰ p (sources v) × ((f : ℕ) × (forkVertex d (tip y) ≡ some f) × (leads d f p ≡ true))))
       pick (inl e) =
           let q = eqb-true x b e in
           let g = sees-before d v tip (L .bound) b (h .at) (inh-from (L .ordered) (tip y) (L .bound y) (h .at) began .0) (rw q at (h .leads)) in
-          inr (q, unseen-before d v tip (L .bound) b y (rw q at (h .outside)), (g .0, g .1, (h .at, began, g .2)))
+          inr (q, unseen-before d v tip (L .bound) b (starts y) (rw q at (h .outside)), (g .0, g .1, (h .at, began, g .2)))
       pick (inr e) =
           let q = eqb-false x b e in
-          inl (record { outside = sym (sees-other d v tip (L .bound) b y x q) ∙ h .outside; at = h .at; start-of = began; leads = sym (sees-other d v tip (L .bound) b (h .at) x q) ∙ h .leads })
+          inl (record { outside = sym (sees-other d v tip (L .bound) b (starts y) x q) ∙ h .outside; at = h .at; start-of = began; leads = sym (sees-other d v tip (L .bound) b (h .at) x q) ∙ h .leads })
 
-  module _ (layout′ : List ℕ) (s′ : Contents) (J′ : ℕ → ℕ → Bool) (older : (p : ℕ) → List·Memᴰ p (sources v) → p < length d) (ok : JoinOk d v) (sub : (x : ℕ) → x ∈ layout′ → x ∈ layout) (b-out : b ∈ layout′)
-      (b-box : s′ b ≡ record { inherited = inheritedStep d (inheritedEvents d) v; own = ownEventStep d (ownEvents d) v }) (other : (x : ℕ) → x ∈ layout′ → (x ≡ b → ⊥) → s′ x ≡ contents d tip x)
-      (inv′ : Inv layout′ s′ J′) (J-ok : (x y : ℕ) → x ∈ layout′ → y ∈ layout′ → May (v ∷ d) next x y → J′ x y ≡ true) (held : (w : List ℕ) → Held layout (contents d tip) w → Held layout′ s′ w)
+  module _ (layout′ : List ℕ) (s′ : Contents) (J′ : ℕ → ℕ → Bool) (older : (p : ℕ) → List·Memᴰ p (sources v) → p < length d) (ok : JoinOk d v) (b-out : b ∈ layout′)
+      (b-content : s′ b ≡ record { inherited = inheritedStep d (inheritedEvents d) v; own = ownEventStep d (ownEvents d) v }) (other : (x : ℕ) → x ∈ layout′ → (x ≡ b → ⊥) → s′ x ≡ contents d tip x)
+      (inv′ : Inv layout′ s′ J′) (J-ok : (x y : ℕ) → x ∈ layout′ → y ∈ layout′ → May (v ∷ d) next starts x y → J′ x y ≡ true) (held : (w : List ℕ) → Held layout (contents d tip) w → Held layout′ s′ w)
       (few : (n : ℕ) → n ∈ ownEventStep d (ownEvents d) v → n < length (v ∷ d)) where
-    same-box : (x : ℕ) → x ∈ layout′ → contents (v ∷ d) next x ≡ s′ x
-    same-box x i = cases (eqb x b) (λ e. let q = eqb-true x b e in rw (q, b-box, on-self d v tip (L .bound) b inheritedStep [], on-self d v tip (L .bound) b ownEventStep [])) (λ e. let q = eqb-false x b e in rw (other x i q, on-other d v tip (L .bound) b inheritedStep [] x q, on-other d v tip (L .bound) b ownEventStep [] x q))
+    same-content : (x : ℕ) → x ∈ layout′ → contents (v ∷ d) next x ≡ s′ x
+    same-content x i = cases (eqb x b) (λ e. let q = eqb-true x b e in rw (q, b-content, on-self d v tip (L .bound) b inheritedStep [], on-self d v tip (L .bound) b ownEventStep [])) (λ e. let q = eqb-false x b e in rw (other x i q, on-other d v tip (L .bound) b inheritedStep [] x q, on-other d v tip (L .bound) b ownEventStep [] x q))
 
     small′ : (x n : ℕ) → n ∈ ownEvents (v ∷ d) x → n < length (v ∷ d)
     unfolding tabulate
     small′ x n i = cases (eqb x (length d)) (λ e. few n (rw e at i)) (λ e. omega (arith, L .small x n (rw e at i)))
 
     past′ : (x : ℕ) → x < length (v ∷ d) → Held layout′ (contents (v ∷ d) next) (viewEvents (v ∷ d) x)
-    past′ x h = pick (split (eqb x (length d)))
-      where
-        pick : (eqb x (length d) ≡ true) ⊎ (eqb x (length d) ≡ false) → Held layout′ (contents (v ∷ d) next) (viewEvents (v ∷ d) x)
-        pick (inl e) =
-            let q : next b ≡ x = changed-same tip b (length d) ∙ sym (eqb-true x (length d) e) in
-            let o : Ordered (v ∷ d) = one-more older (L .ordered) in
-            (b, b-out, rw (q, view-split o x h) (Sublistᴰ·refl _))
-        pick (inr e) =
-            let q = eqb-false x (length d) e in
-            let l : x < length d = omega arith in
-            held-same layout′ s′ (contents (v ∷ d) next) _ same-box (rw (tabulate-older viewEventStep [] v d x l) (held _ (L .past x l)))
+    past′ x h =
+        cases (eqb x (length d))
+        (λ e.
+        let q : next b ≡ x = changed-same tip b (length d) ∙ sym (eqb-true x (length d) e) in
+        let o : Ordered (v ∷ d) = one-more older (L .ordered) in
+        (b, b-out, rw (q, view-split o x h) (Sublistᴰ·refl _)))
+        (λ e.
+        let q = eqb-false x (length d) e in
+        let l : x < length d = omega arith in
+        held-same layout′ s′ (contents (v ∷ d) next) _ same-content (rw (tabulate-older viewEventStep [] v d x l) (held _ (L .past x l))))
 
-    pub advance : Linked (v ∷ d) layout′ next
+    pub advance : Linked (v ∷ d) layout′ next starts
     advance = record {
       ordered = one-more older (L .ordered);
       joins-ok = (ok, L .joins-ok);
       bound = on-bound d v tip (L .bound) b;
-      ids = λ x i. omega (arith, L .ids x (sub x i));
       small = small′;
-      inv = inv-same layout′ s′ (contents (v ∷ d) next) J′ (may (v ∷ d) next) inv′ same-box (λ x y i k e. J-ok x y i k (may-true (v ∷ d) next x y e));
+      inv = inv-same layout′ s′ (contents (v ∷ d) next) J′ (may (v ∷ d) next starts) inv′ same-content (λ x y i k e. J-ok x y i k (may-true (v ∷ d) next starts x y e));
       past = past′;
     }
 
 -- a step with one edge, from where b was
-module _ (d : Diagram) (layout : List ℕ) (tip : ℕ → ℕ) (L : Linked d layout tip) (b : ℕ) (b-in : b ∈ layout) (v : Vertex) (stays : forkStep d (forkVertex d) v ≡ forkVertex d (tip b)) (edge : sources v ≡ tip b ∷ []) where
+module _ (d : Diagram) (layout : List ℕ) (tip starts : ℕ → ℕ) (L : Linked d layout tip starts) (b : ℕ) (v : Vertex) (stays : forkStep d (forkVertex d) v ≡ forkVertex d (tip b)) (edge : sources v ≡ tip b ∷ []) where
   pub one-edge : (p : ℕ) → List·Memᴰ p (sources v) → p ≡ tip b
   one-edge p i = List·Memᴰ·eq-of-singleton (rw edge at i)
 
   pub one-older : (p : ℕ) → List·Memᴰ p (sources v) → p < length d
   one-older p i = rw (one-edge p i) (L .bound b)
 
-  pub one-may : (x y : ℕ) → x ∈ layout → y ∈ layout → May (v ∷ d) (next d layout tip L b v stays) x y → may d tip x y ≡ true
-  one-may x y i k h = pick (may-next d layout tip L b v stays x y h)
+  pub one-may : (x y : ℕ) → x ∈ layout → y ∈ layout → May (v ∷ d) (next d layout tip starts L b v stays) starts x y → may d tip starts x y ≡ true
+  one-may x y i k h = pick (may-next d layout tip starts L b v stays x y h)
     where
-      pick : May d tip x y ⊎ ((x ≡ b) × ((p : ℕ) → List·Memᴰ p (sources v) → leads d y p ≡ false) × ((p : ℕ) × List·Memᴰ p (sources v) × ((f : ℕ) × (forkVertex d (tip y) ≡ some f) × (leads d f p ≡ true)))) → may d tip x y ≡ true
-      pick (inl m) = true-may d tip x y m
+      pick : May d tip starts x y ⊎ ((x ≡ b) × ((p : ℕ) → List·Memᴰ p (sources v) → leads d (starts y) p ≡ false) × ((p : ℕ) × List·Memᴰ p (sources v) × ((f : ℕ) × (forkVertex d (tip y) ≡ some f) × (leads d f p ≡ true)))) → may d tip starts x y ≡ true
+      pick (inl m) = true-may d tip starts x y m
       pick (inr m) =
           let t = m .2 in
           let e : t .0 ≡ tip x = one-edge (t .0) (t .1) ∙ ap tip (sym (m .0)) in
-          true-may d tip x y (record { outside = rw e at (m .1 (t .0) (t .1)); at = t .2 .0; start-of = t .2 .1; leads = rw e at (t .2 .2) })
+          true-may d tip starts x y (record { outside = rw e at (m .1 (t .0) (t .1)); at = t .2 .0; start-of = t .2 .1; leads = rw e at (t .2 .2) })
 
--- a query, or a fork
-pub linked-quiet : (d : Diagram) (layout : List ℕ) (tip : ℕ → ℕ) → Linked d layout tip → (b : ℕ) → b ∈ layout → (v : Vertex) → Quiet (tip b) v → Linked (v ∷ d) layout (changed tip b (length d))
-linked-quiet d layout tip L b i v q =
-    advance d layout tip L b v (quiet-from d (tip b) v q) layout (contents d tip) (may d tip) (one-older d layout tip L b i v (quiet-from d (tip b) v q) (quiet-preds (tip b) v q)) (quiet-ok d (tip b) v q) (λ x k. k) i
-    (sym (quiet-box d (tip b) v q)) (λ x k h. refl) (L .inv) (one-may d layout tip L b i v (quiet-from d (tip b) v q) (quiet-preds (tip b) v q)) (λ w h. h) (quiet-few v q)
+-- the fork vertex
+pub linked-fork : (d : Diagram) (layout : List ℕ) (tip starts : ℕ → ℕ) → Linked d layout tip starts → (b : ℕ) → b ∈ layout → Linked (fork (tip b) ∷ d) layout (changed tip b (length d)) starts
+linked-fork d layout tip starts L b i =
+    advance d layout tip starts L b v refl layout (contents d tip) (may d tip starts) (one-older d layout tip starts L b v refl refl) tt i
+    refl (λ x k h. refl) (L .inv) (one-may d layout tip starts L b v refl refl) (λ w h. h) (λ n k. omega (arith, L .small (tip b) n k))
   where
-    quiet-few : (v : Vertex) → Quiet (tip b) v → (n : ℕ) → n ∈ ownEventStep d (ownEvents d) v → n < length (v ∷ d)
-    quiet-few v q-fork n k = omega (arith, L .small (tip b) n k)
+    v : Vertex
+    v = fork (tip b)

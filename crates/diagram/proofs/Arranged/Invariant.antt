@@ -63,12 +63,12 @@ module _ (r : List ℕ) (b : ℕ) (l : List ℕ) (s : Contents) (J : ℕ → ℕ
 abbrev pub forkJ : (ℕ → ℕ → Bool) → ℕ → ℕ → ℕ → ℕ → Bool
 forkJ J p c x y = cond (eqb x c) (J p y) (cond (eqb x p) (J p y || eqb y c) (J x y))
 
-abbrev pub forkBoxes : Contents → ℕ → ℕ → Contents
-forkBoxes s p c = changed s c (record { inherited = seen (s p); own = [] })
+abbrev pub forkContents : Contents → ℕ → ℕ → Contents
+forkContents s p c = changed s c (record { inherited = seen (s p); own = [] })
 
 module _ (r : List ℕ) (p : ℕ) (l : List ℕ) (s : Contents) (J : ℕ → ℕ → Bool) (c : ℕ) (inv : Inv (r ++ (p ∷ l)) s J) (fresh : c ∈ (r ++ (p ∷ l)) → ⊥) (unasked : (x : ℕ) → J x c ≡ false) where
   abbrev ft : Contents
-  ft = forkBoxes s p c
+  ft = forkContents s p c
 
   old-same : (x : ℕ) → x ∈ (r ++ (p ∷ l)) → ft x ≡ s x
   old-same x i = changed-other s c _ x (λ e. fresh (Memᴰ·cast (sym e) i))

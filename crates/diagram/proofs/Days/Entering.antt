@@ -26,33 +26,30 @@ use Rattle.lists.proofs.Changed.{changed-other, changed-same}
 use Rattle.lists.proofs.Sublists.{mem?, nodup-apart}
 use Rattle.lists.specs.Lists.{_∈_, changed, flat}
 
-module _ (y : Day) (layout : List ℕ) (at : ℕ → ℕ) (hold : ℕ → List ℕ) (S : Sound y layout at hold) (c r : ℕ) (u : Bool) (E : CanEnter y c r) where
+module _ (y : Day) (layout : List ℕ) (hold : ℕ → List ℕ) (S : Sound y layout hold) (c r : ℕ) (u : Bool) (E : CanEnter y c r) where
   abbrev d : Diagram
   d = y .diagram
 
-  abbrev b : ℕ
-  b = y .startOf r
-
-  b-in : b ∈ layout
-  b-in = S .real .out r (E .out) .0
+  r-in : r ∈ layout
+  r-in = S .real .out r (E .out)
 
   tip-low : y .terminal r < length d
-  tip-low = S .real .term-bound r (E .out .0)
+  tip-low = S .real .linked .bound r
 
   -- an event of c's leads to where c goes on
   mine-sees : (t e : ℕ) → t < y .transactions → y .transaction t .client ≡ c → e ∈ eventsOf y t → leads d e (y .terminal r) ≡ true
   mine-sees t e h q i =
       let l = S .sessions .last-sees t e h i in
-      leads-trans (link y layout at hold S .ordered) e (l .0) (y .terminal r) (l .2) (E .caught-up (l .0) (rw q at (l .1)))
+      leads-trans (link y layout hold S .ordered) e (l .0) (y .terminal r) (l .2) (E .caught-up (l .0) (rw q at (l .1)))
 
   -- where the event goes: into the open transaction, or into a new one
   record Entry (o : Option ℕ) : Type 0 where
     init : List ℕ
     block : ownEvents d (y .terminal r) ≡ flat (eventsOf y) init ++ eventsBefore y o
     not-init : entersInto y o ∈ init → ⊥
-    not-other : (x : ℕ) → x ∈ layout → (x ≡ b → ⊥) → entersInto y o ∈ hold x → ⊥
-    init-in : (s : ℕ) → s ∈ init → s ∈ hold b
-    held : (s : ℕ) → s ∈ hold b → (s ∈ init) ⊎ (s ≡ entersInto y o)
+    not-other : (x : ℕ) → x ∈ layout → (x ≡ r → ⊥) → entersInto y o ∈ hold x → ⊥
+    init-in : (s : ℕ) → s ∈ init → s ∈ hold r
+    held : (s : ℕ) → s ∈ hold r → (s ∈ init) ⊎ (s ≡ entersInto y o)
     known : entersInto y o < countedWith y o
     more : y .transactions ≤ countedWith y o
     fewer : (s : ℕ) → s < countedWith y o → (s ≡ entersInto y o → ⊥) → s < y .transactions
@@ -65,14 +62,14 @@ module _ (y : Day) (layout : List ℕ) (at : ℕ → ℕ) (hold : ℕ → List �
     tips : (s : ℕ) → IsOut y s → (s ≡ r → ⊥) → y .terminal s ∈ eventsBefore y o → ⊥
     latest : (s : ℕ) → entersInto y o < s → s < y .transactions → y .transaction s .client ≡ c → ⊥
 
-  own-b : ownEvents d (y .terminal r) ≡ flat (eventsOf y) (hold b)
-  own-b = subst (λ z. ownEvents d z ≡ flat (eventsOf y) (hold b)) (S .real .out r (E .out) .1) (S .filed .blocks-ok b b-in)
+  own-r : ownEvents d (y .terminal r) ≡ flat (eventsOf y) (hold r)
+  own-r = S .filed .blocks-ok r r-in
 
   facts : (o : Option ℕ) → y .openBy c ≡ o → Entry o
   facts none q = record {
-    init = hold b;
-    block = own-b ∙ sym (append-nil (flat (eventsOf y) (hold b)));
-    not-init = λ i. omega (arith, S .filed .low b (y .transactions) b-in i);
+    init = hold r;
+    block = own-r ∙ sym (append-nil (flat (eventsOf y) (hold r)));
+    not-init = λ i. omega (arith, S .filed .low r (y .transactions) r-in i);
     not-other = λ x j n i. omega (arith, S .filed .low x (y .transactions) j i);
     init-in = λ s i. i;
     held = λ s i. inl i;
@@ -90,9 +87,9 @@ module _ (y : Day) (layout : List ℕ) (at : ℕ → ℕ) (hold : ℕ → List �
   }
   facts (some t) q = record {
     init = R .at-end .0;
-    block = own-b ∙ ap (flat (eventsOf y)) ends ∙ flat-++ (eventsOf y) (R .at-end .0) (t ∷ []) ∙ ap (λ z. flat (eventsOf y) (R .at-end .0) ++ z) (append-nil (eventsOf y t));
-    not-init = λ i. nodup-apart (R .at-end .0) (t ∷ []) (rw ends at (flatBack-nodup hold b layout b-in (order-once y layout at hold S))) t i (List·Memᴰ·head refl);
-    not-other = λ x j n i. n (flatBack-one hold layout (order-once y layout at hold S) x b t j b-in i (rw ends (Memᴰ·append-right (R .at-end .0) (List·Memᴰ·head refl))));
+    block = own-r ∙ ap (flat (eventsOf y)) ends ∙ flat-++ (eventsOf y) (R .at-end .0) (t ∷ []) ∙ ap (λ z. flat (eventsOf y) (R .at-end .0) ++ z) (append-nil (eventsOf y t));
+    not-init = λ i. nodup-apart (R .at-end .0) (t ∷ []) (rw ends at (flatBack-nodup hold r layout r-in (order-once y layout hold S))) t i (List·Memᴰ·head refl);
+    not-other = λ x j n i. n (flatBack-one hold layout (order-once y layout hold S) x r t j r-in i (rw ends (Memᴰ·append-right (R .at-end .0) (List·Memᴰ·head refl))));
     init-in = λ s i. rw ends (Memᴰ·append-left (t ∷ []) i);
     held = λ s i. either (List·Memᴰ·append-cases (R .at-end .0) (rw ends at i)) (λ j. inl j) (λ j. inr (List·Memᴰ·eq-of-singleton j));
     known = R .known;
@@ -102,7 +99,7 @@ module _ (y : Day) (layout : List ℕ) (at : ℕ → ℕ) (hold : ℕ → List �
     mine = λ s e. let z : s ≡ t = cc in z;
     before-sees = λ e i. mine-sees t e (R .known) (R .client) i;
     before-later = λ s e f l k i j. S .sessions .later s t e f l (R .known) (k ∙ sym (R .client)) i j;
-    before-low = λ e i. ev-low y layout at hold S t e (R .known) i;
+    before-low = λ e i. ev-low y layout hold S t e (R .known) i;
     quiet = λ x e h n i k. some≢none (y .transaction t .closed) (S .whole .outside t x e (R .known) h n i k .is) (R .unshut);
     tips = λ s o n i. n (sym (S .whole .own-revision s t o (R .known) i (R .unshut)) ∙ E .same-revision t q);
     latest = λ s l k e. R .latest s l k e;
@@ -111,8 +108,8 @@ module _ (y : Day) (layout : List ℕ) (at : ℕ → ℕ) (hold : ℕ → List �
       R : Runs y hold c t
       R = S .runs c t q
 
-      ends : hold b ≡ R .at-end .0 ++ (t ∷ [])
-      ends = subst (λ z. hold (y .startOf z) ≡ R .at-end .0 ++ (t ∷ [])) (E .same-revision t q) (R .at-end .1)
+      ends : hold r ≡ R .at-end .0 ++ (t ∷ [])
+      ends = subst (λ z. hold z ≡ R .at-end .0 ++ (t ∷ [])) (E .same-revision t q) (R .at-end .1)
 
   abbrev o : Option ℕ
   o = y .openBy c
@@ -136,10 +133,10 @@ module _ (y : Day) (layout : List ℕ) (at : ℕ → ℕ) (hold : ℕ → List �
   y′ = enter y c r u
 
   abbrev at′ : ℕ → ℕ
-  at′ = changed at b x0
+  at′ = changed (y .terminal) r x0
 
   abbrev hold′ : ℕ → List ℕ
-  hold′ = changed hold b (X .init ++ (t0 ∷ []))
+  hold′ = changed hold r (X .init ++ (t0 ∷ []))
 
   abbrev T0 : Transaction
   T0 = record { client = c; revision = r; events = eventsBefore y o ++ (x0 ∷ []); closed = none }
@@ -169,12 +166,12 @@ module _ (y : Day) (layout : List ℕ) (at : ℕ → ℕ) (hold : ℕ → List �
   old-sees : (e x : ℕ) → x < length d → leads d e x ≡ true → leads (v ∷ d) e x ≡ true
   old-sees e x h q = leads-old v d e x h ∙ q
 
-  filed′ : Filed y′ layout at′ hold′
+  filed′ : Filed y′ layout hold′
   filed′ = record { blocks-ok = blocks′; all = all′; low = low′; first = first′ }
     where
-      other : (x : ℕ) → x ∈ layout → (x ≡ b → ⊥) → ownEvents (v ∷ d) (at′ x) ≡ flat (eventsOf y′) (hold′ x)
+      other : (x : ℕ) → x ∈ layout → (x ≡ r → ⊥) → ownEvents (v ∷ d) (at′ x) ≡ flat (eventsOf y′) (hold′ x)
       other x i n =
-          rw (changed-other at b x0 x n, changed-other hold b (X .init ++ (t0 ∷ [])) x n, tabulate-older ownEventStep [] v d (at x) (link y layout at hold S .bound x))
+          rw (changed-other (y .terminal) r x0 x n, changed-other hold r (X .init ++ (t0 ∷ [])) x n, tabulate-older ownEventStep [] v d (y .terminal x) (link y layout hold S .bound x))
           (S .filed .blocks-ok x i ∙ flat-same (eventsOf y) (eventsOf y′) (hold x) (λ t j. sym (e-old t (λ q. X .not-other x i n (Memᴰ·cast (sym q) j)))))
 
       this : ownEvents (v ∷ d) x0 ≡ flat (eventsOf y′) (X .init ++ (t0 ∷ []))
@@ -185,26 +182,26 @@ module _ (y : Day) (layout : List ℕ) (at : ℕ → ℕ) (hold : ℕ → List �
           ∙ sym (flat-++ (eventsOf y′) (X .init) (t0 ∷ []))
 
       blocks′ : (x : ℕ) → x ∈ layout → ownEvents (v ∷ d) (at′ x) ≡ flat (eventsOf y′) (hold′ x)
-      blocks′ x i = cases (eqb x b) (λ e. rw e this) (λ e. other x i (eqb-false x b e))
+      blocks′ x i = cases (eqb x r) (λ e. rw e this) (λ e. other x i (eqb-false x r e))
 
       all′ : (t : ℕ) → t < y′ .transactions → (x : ℕ) × (x ∈ layout) × (t ∈ hold′ x)
       all′ t h = pick (side t h)
         where
           keep : (t ≡ t0 → ⊥) → (x : ℕ) → x ∈ layout → t ∈ hold x → t ∈ hold′ x
-          keep n x i j = cases (eqb x b) (λ e. rw e (either (X .held t (rw (eqb-true x b e) at j)) (λ k. Memᴰ·append-left (t0 ∷ []) k) (λ k. absurd (n k)))) (λ e. rw e j)
+          keep n x i j = cases (eqb x r) (λ e. rw e (either (X .held t (rw (eqb-true x r e) at j)) (λ k. Memᴰ·append-left (t0 ∷ []) k) (λ k. absurd (n k)))) (λ e. rw e j)
 
           pick : (t ≡ t0) ⊎ ((t ≡ t0 → ⊥) × (t < y .transactions)) → (x : ℕ) × (x ∈ layout) × (t ∈ hold′ x)
-          pick (inl e) = (b, b-in, rw (changed-same hold b (X .init ++ (t0 ∷ []))) (Memᴰ·append-right (X .init) (List·Memᴰ·head e)))
+          pick (inl e) = (r, r-in, rw (changed-same hold r (X .init ++ (t0 ∷ []))) (Memᴰ·append-right (X .init) (List·Memᴰ·head e)))
           pick (inr p) = let q = S .filed .all t (p .1) in (q .0, q .1, keep (p .0) (q .0) (q .1) (q .2))
 
       low′ : (x t : ℕ) → x ∈ layout → t ∈ hold′ x → t < y′ .transactions
-      low′ x t i j = pick (split (eqb x b))
+      low′ x t i j = pick (split (eqb x r))
         where
           more : t < y .transactions → t < countedWith y o
           more h = omega (arith, X .more)
 
-          pick : (eqb x b ≡ true) ⊎ (eqb x b ≡ false) → t < countedWith y o
-          pick (inl e) = either (List·Memᴰ·append-cases (X .init) (rw e at j)) (λ k. more (S .filed .low b t b-in (X .init-in t k))) (λ k. rw (List·Memᴰ·eq-of-singleton k) (X .known))
+          pick : (eqb x r ≡ true) ⊎ (eqb x r ≡ false) → t < countedWith y o
+          pick (inl e) = either (List·Memᴰ·append-cases (X .init) (rw e at j)) (λ k. more (S .filed .low r t r-in (X .init-in t k))) (λ k. rw (List·Memᴰ·eq-of-singleton k) (X .known))
           pick (inr e) = more (S .filed .low x t i (rw e at j))
 
       first′ : (t : ℕ) → t < y′ .transactions → (e : ℕ) × (e ∈ eventsOf y′ t)
@@ -226,7 +223,7 @@ module _ (y : Day) (layout : List ℕ) (at : ℕ → ℕ) (hold : ℕ → List �
         out = rw (f, w-new) (E .out);
         last-is = rw (f, w-new, e, changed-same (y .lastEvent) c (some x0), changed-same (y .terminal) r x0);
         last-in = rw (f, w-new, e-new, changed-same (y .terminal) r x0) (Memᴰ·append-right (eventsBefore y o) (List·Memᴰ·head refl));
-        at-end = (X .init, rw (f, w-new, changed-same hold b (X .init ++ (t0 ∷ []))));
+        at-end = (X .init, rw (f, w-new, changed-same hold r (X .init ++ (t0 ∷ []))));
         latest = λ z l h g. either (side z h) (λ k. omega arith) (λ k. X .latest z (rw f at l) (k .1) (subst (λ w. w .client ≡ c) (w-old z (k .0)) (g ∙ e)));
       }
 
@@ -239,7 +236,7 @@ module _ (y : Day) (layout : List ℕ) (at : ℕ → ℕ) (hold : ℕ → List �
         out = rw w (R .out);
         last-is = rw (w, changed-other (y .lastEvent) c (some x0) a n, changed-other (y .terminal) r x0 bx far) (R .last-is);
         last-in = rw (w, e-old s (X .lone a s p n), changed-other (y .terminal) r x0 bx far) (R .last-in);
-        at-end = (R .at-end .0, rw (w, changed-other hold b (X .init ++ (t0 ∷ [])) (y .startOf bx) (λ e. far (S .real .inj bx r (R .out .0) (E .out .0) e))) (R .at-end .1));
+        at-end = (R .at-end .0, rw (w, changed-other hold r (X .init ++ (t0 ∷ [])) bx far) (R .at-end .1));
         latest = λ z l h g. either (side z h) (λ k. n (sym g ∙ ap (λ i. y′ .transaction i .client) k ∙ ap (λ i. i .client) w-new)) (λ k. R .latest z l (k .1) (subst (λ i. i .client ≡ a) (w-old z (k .0)) g));
       }
         where
@@ -279,11 +276,10 @@ module _ (y : Day) (layout : List ℕ) (at : ℕ → ℕ) (hold : ℕ → List �
       last-c a e q h = (x0, rw q (changed-same (y .lastEvent) c (some x0)), h)
 
       last-old : (t e : ℕ) → t < y .transactions → e ∈ eventsOf y t → (l : ℕ) × (changed (y .lastEvent) c (some x0) (y .transaction t .client) ≡ some l) × (leads (v ∷ d) e l ≡ true)
-      last-old t e h i = pick (split (eqb (y .transaction t .client) c))
-        where
-          pick : (eqb (y .transaction t .client) c ≡ true) ⊎ (eqb (y .transaction t .client) c ≡ false) → (l : ℕ) × (changed (y .lastEvent) c (some x0) (y .transaction t .client) ≡ some l) × (leads (v ∷ d) e l ≡ true)
-          pick (inl q) = let g = eqb-true (y .transaction t .client) c q in last-c (y .transaction t .client) e g (up e (mine-sees t e h g i))
-          pick (inr q) = let l = S .sessions .last-sees t e h i in (l .0, rw q (l .1), old-sees e (l .0) (leads-low y layout at hold S e (l .0) (l .2)) (l .2))
+      last-old t e h i =
+          cases (eqb (y .transaction t .client) c)
+          (λ q. let g = eqb-true (y .transaction t .client) c q in last-c (y .transaction t .client) e g (up e (mine-sees t e h g i)))
+          (λ q. let l = S .sessions .last-sees t e h i in (l .0, rw q (l .1), old-sees e (l .0) (leads-low y layout hold S e (l .0) (l .2)) (l .2)))
 
       last′ : (t e : ℕ) → t < y′ .transactions → e ∈ eventsOf y′ t → (l : ℕ) × (y′ .lastEvent (y′ .transaction t .client) ≡ some l) × (leads (v ∷ d) e l ≡ true)
       last′ t e h i = pick (side t h)
@@ -307,7 +303,7 @@ module _ (y : Day) (layout : List ℕ) (at : ℕ → ℕ) (hold : ℕ → List �
           pick (inr a) (inl g) = to-new (a .0) (a .1) g
           pick (inr a) (inr g) =
               let jf : f ∈ eventsOf y t = rw (e-old t (g .0)) at j in
-              old-sees e f (ev-low y layout at hold S t f (g .1) jf) (S .sessions .later s t e f l (g .1) (sym (ap (λ w. w .client) (w-old s (a .0))) ∙ q ∙ ap (λ w. w .client) (w-old t (g .0))) (rw (e-old s (a .0)) at i) jf)
+              old-sees e f (ev-low y layout hold S t f (g .1) jf) (S .sessions .later s t e f l (g .1) (sym (ap (λ w. w .client) (w-old s (a .0))) ∙ q ∙ ap (λ w. w .client) (w-old t (g .0))) (rw (e-old s (a .0)) at i) jf)
 
   whole′ : Whole y′
   whole′ = record { outside = outside′; at-tip = tip′; own-revision = own′; closed-low = closed′ }
@@ -325,7 +321,7 @@ module _ (y : Day) (layout : List ℕ) (at : ℕ → ℕ) (hold : ℕ → List �
 
       at-new : (t e : ℕ) → (t ≡ t0 → ⊥) → t < y .transactions → e ∈ eventsOf y t → leads (v ∷ d) e x0 ≡ true → Seal (v ∷ d) (y′ .transaction t) x0
       at-new t e n h i q =
-          let p = leads-down v d e (ev-low y layout at hold S t e h i) q in
+          let p = leads-down v d e (ev-low y layout hold S t e h i) q in
           let g : leads d e (y .terminal r) ≡ true = rw (List·Memᴰ·eq-of-singleton (p .1)) at (p .2) in
           either (mem? (y .terminal r) (eventsOf y t)) (λ j. closedNow t n h j (y .transaction t .closed) refl) (λ j. raise t (y .terminal r) x0 n (S .whole .outside t (y .terminal r) e h tip-low j i g) (omega (arith, tip-low)) up)
 
@@ -352,11 +348,11 @@ module _ (y : Day) (layout : List ℕ) (at : ℕ → ℕ) (hold : ℕ → List �
           pick (inl a) (inl g) = rw g (either (new-cases e (subst (λ z. e ∈ eventsOf y′ z) a j)) (λ k. up e (X .before-sees e k)) (λ k. rw k (leads-newest v d)))
           pick (inl a) (inr g) =
               let i′ : y .terminal s ∈ eventsOf y′ t = rw g at i in
-              absurd (either (new-cases (y .terminal s) (subst (λ z. y .terminal s ∈ eventsOf y′ z) a i′)) (λ k. X .tips s os (eqb-false s r g) k) (λ k. omega (arith, S .real .term-bound s (os .0))))
-          pick (inr a) (inl g) = let i′ : x0 ∈ eventsOf y t = rw (g, e-old t (a .0)) at i in absurd (omega (arith, ev-low y layout at hold S t x0 (a .1) i′))
+              absurd (either (new-cases (y .terminal s) (subst (λ z. y .terminal s ∈ eventsOf y′ z) a i′)) (λ k. X .tips s os (eqb-false s r g) k) (λ k. omega (arith, S .real .linked .bound s)))
+          pick (inr a) (inl g) = let i′ : x0 ∈ eventsOf y t = rw (g, e-old t (a .0)) at i in absurd (omega (arith, ev-low y layout hold S t x0 (a .1) i′))
           pick (inr a) (inr g) =
               let i′ : y .terminal s ∈ eventsOf y t = rw (g, e-old t (a .0)) at i in
-              rw g (old-sees e (y .terminal s) (S .real .term-bound s (os .0)) (S .whole .at-tip s t os (a .1) i′ e (rw (e-old t (a .0)) at j)))
+              rw g (old-sees e (y .terminal s) (S .real .linked .bound s) (S .whole .at-tip s t os (a .1) i′ e (rw (e-old t (a .0)) at j)))
 
       own′ : (s t : ℕ) → IsOut y′ s → t < y′ .transactions → y′ .terminal s ∈ eventsOf y′ t → y′ .transaction t .closed ≡ none → y′ .transaction t .revision ≡ s
       own′ s t os h i q = pick (side t h) (split (eqb s r))
@@ -365,8 +361,8 @@ module _ (y : Day) (layout : List ℕ) (at : ℕ → ℕ) (hold : ℕ → List �
           pick (inl a) (inl g) = rw (a, w-new) (sym (eqb-true s r g))
           pick (inl a) (inr g) =
               let i′ : y .terminal s ∈ eventsOf y′ t = rw g at i in
-              absurd (either (new-cases (y .terminal s) (subst (λ z. y .terminal s ∈ eventsOf y′ z) a i′)) (λ k. X .tips s os (eqb-false s r g) k) (λ k. omega (arith, S .real .term-bound s (os .0))))
-          pick (inr a) (inl g) = let i′ : x0 ∈ eventsOf y t = rw (g, e-old t (a .0)) at i in absurd (omega (arith, ev-low y layout at hold S t x0 (a .1) i′))
+              absurd (either (new-cases (y .terminal s) (subst (λ z. y .terminal s ∈ eventsOf y′ z) a i′)) (λ k. X .tips s os (eqb-false s r g) k) (λ k. omega (arith, S .real .linked .bound s)))
+          pick (inr a) (inl g) = let i′ : x0 ∈ eventsOf y t = rw (g, e-old t (a .0)) at i in absurd (omega (arith, ev-low y layout hold S t x0 (a .1) i′))
           pick (inr a) (inr g) =
               let i′ : y .terminal s ∈ eventsOf y t = rw (g, e-old t (a .0)) at i in
               ap (λ w. w .revision) (w-old t (a .0)) ∙ S .whole .own-revision s t os (a .1) i′ (sym (ap (λ w. w .closed) (w-old t (a .0))) ∙ q)
@@ -378,5 +374,5 @@ module _ (y : Day) (layout : List ℕ) (at : ℕ → ℕ) (hold : ℕ → List �
           pick (inl a) = absurd (some≢none (y′ .transaction t .closed) q (ap (λ z. y′ .transaction z .closed) a ∙ ap (λ w. w .closed) w-new))
           pick (inr a) = omega (arith, S .whole .closed-low t n (a .1) (sym (ap (λ w. w .closed) (w-old t (a .0))) ∙ q))
 
-  pub sound-enter : (H : ℕ → List ℕ) × Sound (enter y c r u) layout (changed at (y .startOf r) (length (y .diagram))) H
-  sound-enter = (hold′, record { real = real-enter y layout at (S .real) c r u E; filed = filed′; runs = runs′; unshut = unshut′; whole = whole′; sessions = sessions′ })
+  pub sound-enter : (H : ℕ → List ℕ) × Sound (enter y c r u) layout H
+  sound-enter = (hold′, record { real = real-enter y layout (S .real) c r u E; filed = filed′; runs = runs′; unshut = unshut′; whole = whole′; sessions = sessions′ })

@@ -1,6 +1,6 @@
 -- A new vertex that is no event: what it sees of the transactions.
 use Prim.Native.Nat.{_<_, _≤_, ℕ}
-use mathlib.Core.Bool.{false, false≢true, true}
+use mathlib.Core.Bool.{Bool, false, false≢true, true}
 use mathlib.Core.Path.{_∙_, _≡_, refl, sym}
 use mathlib.Core.Logic.{_⊎_, inl, inr}
 use mathlib.Core.Option.{Option, none, some}
@@ -10,7 +10,7 @@ use lib.ListN.{length}
 use lib.Dec.{eqb}
 use borrow.Author.Tests.{eq-eqb, eqb-false, eqb-true}
 use Rattle.diagram.proofs.Days.Moves.{Idle}
-use Rattle.diagram.proofs.Days.Sound.{Seal, Sound}
+use Rattle.diagram.proofs.Days.Sound.{Runs, Seal, Sessions, Sound, Whole, ev-low, leads-low}
 use Rattle.diagram.proofs.Graph.Paths.{leads-down, leads-old, leads-up}
 use Rattle.diagram.specs.Arbitration.{eventsOf}
 use Rattle.diagram.specs.Day.{Day, IsOut, Transaction}
@@ -48,7 +48,7 @@ outside-new d v n w low older past O t x e h l a i q = pick (split (eqb x (lengt
         let k = O t x e h b a i (sym (leads-old v d e x b) ∙ q) in
         record { at = k .at; is = k .is; before = k .before; whole = λ s j. leads-old v d s x b ∙ k .whole s j }
 
-module _ (y : Day) (layout : List ℕ) (at : ℕ → ℕ) (hold : ℕ → List ℕ) (S : Sound y layout at hold) where
+module _ (y : Day) (layout : List ℕ) (hold : ℕ → List ℕ) (S : Sound y layout hold) where
   -- at the line end of a box that is not busy no transaction is open
   pub idle-past : (r t : ℕ) → IsOut y r → Idle y (λ o. Unit {0}) r → t < y .transactions → y .terminal r ∈ eventsOf y t → Past (y .diagram) (y .transaction t) (y .terminal r)
   idle-past r t o idle h i = by (y .transaction t .closed) refl
@@ -62,3 +62,60 @@ module _ (y : Day) (layout : List ℕ) (at : ℕ → ℕ) (hold : ℕ → List �
   -- an open transaction is on no such box
   pub idle-far : (r a s : ℕ) → Idle y (λ o. Unit {0}) r → y .openBy a ≡ some s → y .transaction s .revision ≡ r → ⊥
   idle-far r a s idle p e = false≢true (sym (rw p at (idle a (S .runs a s p .client-ok) tt)) ∙ eq-eqb (y .transaction s .revision) r e)
+
+-- a day after a step that enters no event: the clients and the transactions are as they were
+abbrev pub moved : Day → Diagram → ℕ → (ℕ → ℕ) → (ℕ → ℕ) → (ℕ → ℕ) → (ℕ → Bool) → Day
+moved y d n starts forks terminals joined = record {
+  diagram = d;
+  revisions = n;
+  startOf = starts;
+  forkOf = forks;
+  terminal = terminals;
+  joined = joined;
+  updates = y .updates;
+  lastEvent = y .lastEvent;
+  openBy = y .openBy;
+  transactions = y .transactions;
+  transaction = y .transaction;
+}
+
+-- of the older vertices each still leads where it led; and where a revision's terminal is an event, it was so before
+module _ (y : Day) (layout : List ℕ) (hold : ℕ → List ℕ) (S : Sound y layout hold) (d : Diagram) (n : ℕ) (starts forks terminals : ℕ → ℕ) (joined : ℕ → Bool)
+    (longer : length (y .diagram) ≤ length d) (up : (e x : ℕ) → x < length (y .diagram) → leads (y .diagram) e x ≡ true → leads d e x ≡ true)
+    (was : (s t : ℕ) → IsOut (moved y d n starts forks terminals joined) s → t < y .transactions → terminals s ∈ eventsOf y t → IsOut y s × (terminals s ≡ y .terminal s)) where
+  abbrev y′ : Day
+  y′ = moved y d n starts forks terminals joined
+
+  pub moved-whole : Outside d (y .transactions) (y .transaction) → Whole y′
+  moved-whole outside = record {
+    outside = outside;
+    at-tip = λ s t o h i e j. let w = was s t o h i in rw (w .1) (up e (y .terminal s) (S .real .linked .bound s) (S .whole .at-tip s t (w .0) h (rw (w .1) at i) e j));
+    own-revision = λ s t o h i e. let w = was s t o h i in S .whole .own-revision s t (w .0) h (rw (w .1) at i) e;
+    closed-low = λ t n h e. omega (arith, S .whole .closed-low t n h e);
+  }
+
+  pub moved-sessions : Sessions y′
+  moved-sessions = record {
+    last-low = λ c l e. omega (arith, S .sessions .last-low c l e);
+    last-sees = λ t e h i. let l = S .sessions .last-sees t e h i in (l .0, l .1, up e (l .0) (leads-low y layout hold S e (l .0) (l .2)) (l .2));
+    later = λ s t e f l h q i j. up e f (ev-low y layout hold S t f h j) (S .sessions .later s t e f l h q i j);
+  }
+
+  -- an open transaction's revision keeps its terminal and its transactions
+  pub moved-runs : (hold′ : ℕ → List ℕ)
+      → ((c s : ℕ) → y .openBy c ≡ some s → IsOut y′ (y .transaction s .revision) × (terminals (y .transaction s .revision) ≡ y .terminal (y .transaction s .revision)) × (hold′ (y .transaction s .revision) ≡ hold (y .transaction s .revision)))
+      → (c s : ℕ) → y .openBy c ≡ some s → Runs y′ hold′ c s
+  moved-runs hold′ kept c s p =
+      let R = S .runs c s p in
+      let k = kept c s p in
+      record {
+        known = R .known;
+        client = R .client;
+        unshut = R .unshut;
+        client-ok = R .client-ok;
+        out = k .0;
+        last-is = rw (k .1) (R .last-is);
+        last-in = rw (k .1) (R .last-in);
+        at-end = (R .at-end .0, k .2 ∙ R .at-end .1);
+        latest = R .latest;
+      }

@@ -8,7 +8,6 @@ use native.Mathlib.Omega.{arith}
 use lib.ListN.{length}
 use Rattle.diagram.proofs.Arranged.Advance.{Linked, contents}
 use Rattle.diagram.proofs.Arranged.Blocks.{blocks}
-use Rattle.diagram.proofs.Arranged.Built.{linked}
 use Rattle.diagram.proofs.Days.Real.{Real, real-fresh}
 use Rattle.diagram.proofs.Graph.Events.{ownEvents}
 use Rattle.diagram.proofs.Graph.Paths.{leads-path, path-bound}
@@ -21,8 +20,8 @@ use Rattle.lists.proofs.Blocks.{flat-++, flat-in, flat-nodup, flatBack-from}
 use Rattle.lists.specs.Lists.{_∈_, flat, flatBack}
 
 -- each box that is out holds its transactions whole, one after another
-pub record Filed (y : Day) (layout : List ℕ) (at : ℕ → ℕ) (hold : ℕ → List ℕ) : Type 0 where
-  pub blocks-ok : (x : ℕ) → x ∈ layout → ownEvents (y .diagram) (at x) ≡ flat (eventsOf y) (hold x)
+pub record Filed (y : Day) (layout : List ℕ) (hold : ℕ → List ℕ) : Type 0 where
+  pub blocks-ok : (x : ℕ) → x ∈ layout → ownEvents (y .diagram) (y .terminal x) ≡ flat (eventsOf y) (hold x)
   pub all : (t : ℕ) → t < y .transactions → (x : ℕ) × (x ∈ layout) × (t ∈ hold x)
   pub low : (x t : ℕ) → x ∈ layout → t ∈ hold x → t < y .transactions
   pub first : (t : ℕ) → t < y .transactions → (e : ℕ) × (e ∈ eventsOf y t)
@@ -36,7 +35,7 @@ pub record Runs (y : Day) (hold : ℕ → List ℕ) (c t : ℕ) : Type 0 where
   pub out : IsOut y (y .transaction t .revision)
   pub last-is : y .lastEvent c ≡ some (y .terminal (y .transaction t .revision))
   pub last-in : y .terminal (y .transaction t .revision) ∈ eventsOf y t
-  pub at-end : (init : List ℕ) × (hold (y .startOf (y .transaction t .revision)) ≡ init ++ (t ∷ []))
+  pub at-end : (init : List ℕ) × (hold (y .transaction t .revision) ≡ init ++ (t ∷ []))
   pub latest : (s : ℕ) → t < s → s < y .transactions → y .transaction s .client ≡ c → ⊥
 
 -- a transaction is seen whole from outside, and only after its yield
@@ -58,9 +57,9 @@ pub record Sessions (y : Day) : Type 0 where
   pub last-sees : (t e : ℕ) → t < y .transactions → e ∈ eventsOf y t → (l : ℕ) × (y .lastEvent (y .transaction t .client) ≡ some l) × (leads (y .diagram) e l ≡ true)
   pub later : (s t e f : ℕ) → s < t → t < y .transactions → y .transaction s .client ≡ y .transaction t .client → e ∈ eventsOf y s → f ∈ eventsOf y t → leads (y .diagram) e f ≡ true
 
-pub record Sound (y : Day) (layout : List ℕ) (at : ℕ → ℕ) (hold : ℕ → List ℕ) : Type 0 where
-  pub real : Real y layout at
-  pub filed : Filed y layout at hold
+pub record Sound (y : Day) (layout : List ℕ) (hold : ℕ → List ℕ) : Type 0 where
+  pub real : Real y layout
+  pub filed : Filed y layout hold
   pub runs : (c t : ℕ) → y .openBy c ≡ some t → Runs y hold c t
   pub unshut : (t : ℕ) → t < y .transactions → y .transaction t .closed ≡ none → y .openBy (y .transaction t .client) ≡ some t
   pub whole : Whole y
@@ -69,7 +68,7 @@ pub record Sound (y : Day) (layout : List ℕ) (at : ℕ → ℕ) (hold : ℕ �
 pub some≢none : {n : ℕ} (o : Option ℕ) → o ≡ some n → o ≡ none → ⊥
 some≢none {n} o p q = let z : _≡_ {A = ℕ} 0 1 = cc in omega arith
 
-pub sound-fresh : Sound fresh (0 ∷ []) (λ x. 0) (λ x. [])
+pub sound-fresh : Sound fresh (0 ∷ []) (λ x. [])
 unfolding tabulate
 sound-fresh = record {
   real = real-fresh;
@@ -94,21 +93,21 @@ sound-fresh = record {
   };
 }
 
-module _ (y : Day) (layout : List ℕ) (at : ℕ → ℕ) (hold : ℕ → List ℕ) (F : Filed y layout at hold) where
-  flat-from-blocks : (l : List ℕ) → ((x : ℕ) → x ∈ l → ownEvents (y .diagram) (at x) ≡ flat (eventsOf y) (hold x)) → flat (eventsOf y) (flatBack hold l) ≡ blocks (contents (y .diagram) at) l
+module _ (y : Day) (layout : List ℕ) (hold : ℕ → List ℕ) (F : Filed y layout hold) where
+  flat-from-blocks : (l : List ℕ) → ((x : ℕ) → x ∈ l → ownEvents (y .diagram) (y .terminal x) ≡ flat (eventsOf y) (hold x)) → flat (eventsOf y) (flatBack hold l) ≡ blocks (contents (y .diagram) (y .terminal)) l
   flat-from-blocks [] h = refl
   flat-from-blocks (x ∷ l) h =
-      flat-++ (eventsOf y) (flatBack hold l) (hold x) ∙ ap (λ z. z ++ flat (eventsOf y) (hold x)) (flat-from-blocks l (λ z i. h z (List·Memᴰ·tail i))) ∙ ap (λ z. blocks (contents (y .diagram) at) l ++ z) (sym (h x (List·Memᴰ·head refl)))
+      flat-++ (eventsOf y) (flatBack hold l) (hold x) ∙ ap (λ z. z ++ flat (eventsOf y) (hold x)) (flat-from-blocks l (λ z i. h z (List·Memᴰ·tail i))) ∙ ap (λ z. blocks (contents (y .diagram) (y .terminal)) l ++ z) (sym (h x (List·Memᴰ·head refl)))
 
-  pub flat-blocks : flat (eventsOf y) (flatBack hold layout) ≡ blocks (contents (y .diagram) at) layout
+  pub flat-blocks : flat (eventsOf y) (flatBack hold layout) ≡ blocks (contents (y .diagram) (y .terminal)) layout
   flat-blocks = flat-from-blocks layout (F .blocks-ok)
 
-module _ (y : Day) (layout : List ℕ) (at : ℕ → ℕ) (hold : ℕ → List ℕ) (S : Sound y layout at hold) where
-  pub link : Linked (y .diagram) layout at
-  link = linked (S .real .built)
+module _ (y : Day) (layout : List ℕ) (hold : ℕ → List ℕ) (S : Sound y layout hold) where
+  pub link : Linked (y .diagram) layout (y .terminal) (y .startOf)
+  link = S .real .linked
 
   pub flat-once : List·Nodup (flat (eventsOf y) (flatBack hold layout))
-  flat-once = rw (flat-blocks y layout at hold (S .filed)) (link .inv .once)
+  flat-once = rw (flat-blocks y layout hold (S .filed)) (link .inv .once)
 
   pub order-once : List·Nodup (flatBack hold layout)
   order-once = flat-nodup (eventsOf y) (flatBack hold layout) (λ t i. let p = flatBack-from hold t layout i in S .filed .first t (S .filed .low (p .0) t (p .1) (p .2))) flat-once
@@ -117,7 +116,7 @@ module _ (y : Day) (layout : List ℕ) (at : ℕ → ℕ) (hold : ℕ → List �
   pub ev-low : (t e : ℕ) → t < y .transactions → e ∈ eventsOf y t → e < length (y .diagram)
   ev-low t e h i =
       let p = S .filed .all t h in
-      link .small (at (p .0)) e (rw (S .filed .blocks-ok (p .0) (p .1)) (flat-in (eventsOf y) t e (hold (p .0)) (p .2) i))
+      link .small (y .terminal (p .0)) e (rw (S .filed .blocks-ok (p .0) (p .1)) (flat-in (eventsOf y) t e (hold (p .0)) (p .2) i))
 
   pub leads-low : (x z : ℕ) → leads (y .diagram) x z ≡ true → z < length (y .diagram)
   leads-low x z e = path-bound (link .ordered) (leads-path (y .diagram) x z e)

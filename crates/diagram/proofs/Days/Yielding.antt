@@ -20,7 +20,7 @@ use Rattle.lists.proofs.Cases.{cases, split}
 use Rattle.lists.proofs.Changed.{changed-other, changed-same}
 use Rattle.lists.specs.Lists.{_∈_}
 
-module _ (y : Day) (layout : List ℕ) (at : ℕ → ℕ) (hold : ℕ → List ℕ) (S : Sound y layout at hold) (c t : ℕ) (q : y .openBy c ≡ some t) where
+module _ (y : Day) (layout : List ℕ) (hold : ℕ → List ℕ) (S : Sound y layout hold) (c t : ℕ) (q : y .openBy c ≡ some t) where
   abbrev d : Diagram
   d = y .diagram
 
@@ -51,7 +51,7 @@ module _ (y : Day) (layout : List ℕ) (at : ℕ → ℕ) (hold : ℕ → List �
   is-open : (s : ℕ) → y′ .transaction s .closed ≡ none → s ≡ t → ⊥
   is-open s e z = some≢none (y′ .transaction s .closed) (ap (λ i. y′ .transaction i .closed) z ∙ ap (λ w. w .closed) w-same) e
 
-  filed′ : Filed y′ layout at hold
+  filed′ : Filed y′ layout hold
   filed′ = record {
     blocks-ok = λ x i. S .filed .blocks-ok x i ∙ flat-same (eventsOf y) (eventsOf y′) (hold x) (λ s j. sym (evs s));
     all = S .filed .all;
@@ -112,9 +112,9 @@ module _ (y : Day) (layout : List ℕ) (at : ℕ → ℕ) (hold : ℕ → List �
     later = λ a s e f l h p i j. S .sessions .later a s e f l h (sym (tabs a) ∙ p ∙ tabs s) (rw (evs a) at i) (rw (evs s) at j);
   }
 
-  pub sound-close : Sound (close y c t) layout at hold
-  sound-close = record { real = real-close y layout at (S .real) c t; filed = filed′; runs = runs′; unshut = unshut′; whole = whole′; sessions = sessions′ }
+  pub sound-close : Sound (close y c t) layout hold
+  sound-close = record { real = real-close y layout (S .real) c t; filed = filed′; runs = runs′; unshut = unshut′; whole = whole′; sessions = sessions′ }
 
-pub sound-yield : (y : Day) (layout : List ℕ) (at : ℕ → ℕ) (hold : ℕ → List ℕ) → Sound y layout at hold → (c : ℕ) (o : Option ℕ) → y .openBy c ≡ o → Sound (yield y c o) layout at hold
-sound-yield y layout at hold S c none q = S
-sound-yield y layout at hold S c (some t) q = sound-close y layout at hold S c t q
+pub sound-yield : (y : Day) (layout : List ℕ) (hold : ℕ → List ℕ) → Sound y layout hold → (c : ℕ) (o : Option ℕ) → y .openBy c ≡ o → Sound (yield y c o) layout hold
+sound-yield y layout hold S c none q = S
+sound-yield y layout hold S c (some t) q = sound-close y layout hold S c t q

@@ -1,8 +1,7 @@
 -- An event and a yield keep the agreement.
 use Prim.Native.Nat.{ℕ}
-use mathlib.Core.Bool.{Bool, cond, false, true}
+use mathlib.Core.Bool.{Bool, cond}
 use mathlib.Core.Path.{_∙_, _≡_, ap, refl, sym}
-use mathlib.Core.Logic.{_⊎_, inl, inr}
 use mathlib.Core.Option.{Option, none, some}
 use mathlib.Core.List.{[], _++_, _∷_}
 use lib.ListN.{length}
@@ -12,7 +11,7 @@ use Rattle.diagram.proofs.Days.Moves.{CanEnter, enters}
 use Rattle.diagram.proofs.Days.Yielding.{sound-close}
 use Rattle.diagram.proofs.Follow.Agrees.{Agree, inherited-step, terminal-low}
 use Rattle.diagram.proofs.Graph.Tables.{tabulate-newest, tabulate-older}
-use Rattle.diagram.proofs.Marks.Joinable.{J-enter, Marked, marked-moves, marks-close}
+use Rattle.diagram.proofs.Marks.Joinable.{J-enter, marked-moves, marks-close}
 use Rattle.diagram.proofs.Marks.Terminals.{caught, caught-other, caught-own}
 use Rattle.diagram.proofs.Order.Growth.{Fine, fine-moves}
 use Rattle.diagram.proofs.Order.Numbered.{numbered-moves}
@@ -21,8 +20,8 @@ use Rattle.diagram.specs.Day.{Day, IsOut}
 use Rattle.diagram.specs.Diagram.{Diagram, Vertex, event}
 use Rattle.diagram.specs.Effects.{entry, own, ownStep}
 use Rattle.diagram.specs.Machine.{Machine, enterOn, revisionOf, yieldOn}
-use Rattle.diagram.specs.Steps.{close, closedNow, enter, entersInto, yield}
-use Rattle.lists.proofs.Cases.{cases, split}
+use Rattle.diagram.specs.Steps.{close, enter, entersInto, newUpdate, yield}
+use Rattle.lists.proofs.Cases.{cases}
 use Rattle.lists.proofs.Changed.{changed-other, changed-same}
 use Rattle.lists.specs.Lists.{changed}
 
@@ -30,80 +29,94 @@ module _ (y : Day) (k : Machine) (A : Agree y k) where
   abbrev d : Diagram
   d = y .diagram
 
-  abbrev M : Marked y
-  M = A .marked
-
   abbrev F : Fine y
-  F = M .fine
+  F = A .marked .fine
 
   pub agree-enter : (c r : ℕ) (u : Bool) → CanEnter y c r → Agree (enter y c r u) (enterOn k c r u)
   unfolding marked-moves fine-moves
   agree-enter c r u E = record {
-    marked = marked-moves y (enter y c r u) M (enters c r u E);
+    marked = marked-moves y (enter y c r u) (A .marked) (enters c r u E);
     numbered = numbered-moves y (enter y c r u) (A .numbered) (enters c r u E);
-    lay-is = A .lay-is;
-    lay-out = A .lay-out;
-    same-inherited = λ s o. A .same-inherited s o ∙ sym (inherited-step y k A v r s (E .out .0) (o .0) refl);
+    same-layout = A .same-layout;
+    same-inherited = λ s o. A .same-inherited s o ∙ sym (inherited-step y k A v r s refl);
     same-revisions = A .same-revisions;
     same-joined = A .same-joined;
-    same-joinable = λ a b oa ob. A .same-joinable a b oa ob ∙ sym (J-enter y F (M .marks) c r u a b (oa .0) (ob .0));
+    same-joinable = λ a b oa ob. A .same-joinable a b oa ob ∙ sym (J-enter y F c r u a b);
     same-caughtUp = caught′;
     same-openOn = open′;
     same-updates = rw (A .same-updates);
     same-own = own′;
   }
     where
+      v : Vertex
+      v = event (y .terminal r) c (newUpdate y u)
+
       F′ : Fine (enter y c r u)
       F′ = fine-moves y (enter y c r u) F (enters c r u E)
 
-      v : Vertex
-      v = event (y .terminal r) c (cond u (some (y .updates)) none)
-
       caught′ : (o x : ℕ) → IsOut y x → cond (eqb o c) (eqb x r) (k .caughtUp o x) ≡ caught (enter y c r u) o x
-      caught′ o x ox = pick (split (eqb o c))
-        where
-          pick : (eqb o c ≡ true) ⊎ (eqb o c ≡ false) → cond (eqb o c) (eqb x r) (k .caughtUp o x) ≡ caught (enter y c r u) o x
-          pick (inl e) = ap (λ z. cond z (eqb x r) (k .caughtUp o x)) e ∙ sym (caught-own y F c r u x (ox .0)) ∙ ap (λ z. caught (enter y c r u) z x) (sym (eqb-true o c e))
-          pick (inr e) = ap (λ z. cond z (eqb x r) (k .caughtUp o x)) e ∙ A .same-caughtUp o x ox ∙ sym (caught-other y F c r u o x (eqb-false o c e) (ox .0))
+      caught′ o x ox =
+          cases (eqb o c)
+          (λ e. ap (λ z. cond z (eqb x r) (k .caughtUp o x)) e ∙ sym (caught-own y F c r u x) ∙ ap (λ z. caught (enter y c r u) z x) (sym (eqb-true o c e)))
+          (λ e. ap (λ z. cond z (eqb x r) (k .caughtUp o x)) e ∙ A .same-caughtUp o x ox ∙ sym (caught-other y F c r u o x (eqb-false o c e)))
+
+      -- another client's open transaction is not the one that the event goes into
+      other : (o : ℕ) → (o ≡ c → ⊥) → (q : Option ℕ) → y .openBy o ≡ q → revisionOf (y .transaction) q ≡ revisionOf (enter y c r u .transaction) q
+      other o n none e = refl
+      other o n (some s) e =
+          let e′ : enter y c r u .openBy o ≡ some s = changed-other (y .openBy) c (some (entersInto y (y .openBy c))) o n ∙ e in
+          let t = F′ .sound .runs o s e′ .client in
+          let far : s ≡ entersInto y (y .openBy c) → ⊥ = λ z. n (sym t ∙ ap (λ i. enter y c r u .transaction i .client) z ∙ ap (λ w. w .client) (changed-same (y .transaction) (entersInto y (y .openBy c)) _)) in
+          ap (λ w. some (w .revision)) (sym (changed-other (y .transaction) (entersInto y (y .openBy c)) _ s far))
 
       open′ : (o : ℕ) → changed (k .openOn) c (some r) o ≡ revisionOf (enter y c r u .transaction) (enter y c r u .openBy o)
-      open′ o = pick (split (eqb o c))
-        where
-          other : (o ≡ c → ⊥) → (q : Option ℕ) → y .openBy o ≡ q → revisionOf (y .transaction) q ≡ revisionOf (enter y c r u .transaction) q
-          other n none e = refl
-          other n (some s) e =
-              let e′ : enter y c r u .openBy o ≡ some s = changed-other (y .openBy) c (some (entersInto y (y .openBy c))) o n ∙ e in
-              let t = F′ .sound .runs o s e′ .client in
-              let far : s ≡ entersInto y (y .openBy c) → ⊥ = λ z. n (sym t ∙ ap (λ i. enter y c r u .transaction i .client) z ∙ ap (λ w. w .client) (changed-same (y .transaction) (entersInto y (y .openBy c)) _)) in
-              ap (λ w. some (w .revision)) (sym (changed-other (y .transaction) (entersInto y (y .openBy c)) _ s far))
-
-          pick : (eqb o c ≡ true) ⊎ (eqb o c ≡ false) → changed (k .openOn) c (some r) o ≡ revisionOf (enter y c r u .transaction) (enter y c r u .openBy o)
-          pick (inl e) = rw e (ap (λ w. some (w .revision)) (sym (changed-same (y .transaction) (entersInto y (y .openBy c)) _)))
-          pick (inr e) = rw e (A .same-openOn o ∙ other (eqb-false o c e) (y .openBy o) refl)
+      open′ o =
+          cases (eqb o c)
+          (λ e. rw e (ap (λ w. some (w .revision)) (sym (changed-same (y .transaction) (entersInto y (y .openBy c)) _))))
+          (λ e. rw e (A .same-openOn o ∙ other o (eqb-false o c e) (y .openBy o) refl))
 
       own′ : (s : ℕ) → IsOut y s → changed (k .own) r (k .own r ++ entry (cond u (some (k .updates)) none)) s ≡ own (v ∷ d) (changed (y .terminal) r (length d) s)
       own′ s o =
           cases (eqb s r)
           (λ e. rw (e, tabulate-newest ownStep [] v d, A .same-updates, A .same-own r (E .out)))
-          (λ e. rw (e, tabulate-older ownStep [] v d (y .terminal s) (terminal-low y k A s (o .0))) (A .same-own s o))
+          (λ e. rw (e, tabulate-older ownStep [] v d (y .terminal s) (terminal-low y k A s)) (A .same-own s o))
 
-  pub agree-close : (c t : ℕ) → y .openBy c ≡ some t → Agree (close y c t) (yieldOn k c)
+  -- a yield closes the open transaction, if there is one
+  agree-close : (c t : ℕ) → y .openBy c ≡ some t → Agree (close y c t) (yieldOn k c)
   unfolding notJoinable
-  agree-close c t q = record { marked = record { fine = record { layout = F .layout; at = F .at; hold = F .hold; sound = sound-close y (F .layout) (F .at) (F .hold) (F .sound) c t q }; marks = marks-close y F (M .marks) c t }; numbered = A .numbered; lay-is = A .lay-is; lay-out = A .lay-out; same-inherited = A .same-inherited; same-revisions = A .same-revisions; same-joined = A .same-joined; same-joinable = A .same-joinable; same-caughtUp = A .same-caughtUp; same-openOn = open′; same-updates = A .same-updates; same-own = A .same-own }
+  agree-close c t q = record {
+    marked = record { fine = record { layout = F .layout; hold = F .hold; sound = sound-close y (F .layout) (F .hold) (F .sound) c t q }; marks = marks-close y F (A .marked .marks) c t };
+    numbered = A .numbered;
+    same-layout = A .same-layout;
+    same-inherited = A .same-inherited;
+    same-revisions = A .same-revisions;
+    same-joined = A .same-joined;
+    same-joinable = A .same-joinable;
+    same-caughtUp = A .same-caughtUp;
+    same-openOn = λ o. cases (eqb o c) (λ e. rw e) (λ e. rw e (A .same-openOn o ∙ by (y .openBy o)));
+    same-updates = A .same-updates;
+    same-own = A .same-own;
+  }
     where
       same : (s : ℕ) → close y c t .transaction s .revision ≡ y .transaction s .revision
-      same s = cases (eqb s t) (λ e. ap (λ z. cond z (closedNow y (y .transaction t)) (y .transaction s) .revision) e ∙ ap (λ z. y .transaction z .revision) (sym (eqb-true s t e))) (λ e. ap (λ z. cond z (closedNow y (y .transaction t)) (y .transaction s) .revision) e)
+      same s = cases (eqb s t) (λ e. rw (e, eqb-true s t e)) (λ e. rw e)
 
       by : (o : Option ℕ) → revisionOf (y .transaction) o ≡ revisionOf (close y c t .transaction) o
       by none = refl
       by (some s) = ap (λ z. some z) (sym (same s))
 
-      open′ : (o : ℕ) → changed (k .openOn) c none o ≡ revisionOf (close y c t .transaction) (changed (y .openBy) c none o)
-      open′ o = cases (eqb o c) (λ e. rw e) (λ e. rw e (A .same-openOn o ∙ by (y .openBy o)))
-
   pub agree-yield : (c : ℕ) (q : Option ℕ) → y .openBy c ≡ q → Agree (yield y c q) (yieldOn k c)
-  agree-yield c none q = record { marked = M; numbered = A .numbered; lay-is = A .lay-is; lay-out = A .lay-out; same-inherited = A .same-inherited; same-revisions = A .same-revisions; same-joined = A .same-joined; same-joinable = A .same-joinable; same-caughtUp = A .same-caughtUp; same-openOn = open′; same-updates = A .same-updates; same-own = A .same-own }
-    where
-      open′ : (o : ℕ) → changed (k .openOn) c none o ≡ revisionOf (y .transaction) (y .openBy o)
-      open′ o = cases (eqb o c) (λ e. rw e (sym (ap (revisionOf (y .transaction)) (ap (y .openBy) (eqb-true o c e) ∙ q)))) (λ e. rw e (A .same-openOn o))
+  agree-yield c none q = record {
+    marked = A .marked;
+    numbered = A .numbered;
+    same-layout = A .same-layout;
+    same-inherited = A .same-inherited;
+    same-revisions = A .same-revisions;
+    same-joined = A .same-joined;
+    same-joinable = A .same-joinable;
+    same-caughtUp = A .same-caughtUp;
+    same-openOn = λ o. cases (eqb o c) (λ e. rw e (sym (ap (revisionOf (y .transaction)) (ap (y .openBy) (eqb-true o c e) ∙ q)))) (λ e. rw e (A .same-openOn o));
+    same-updates = A .same-updates;
+    same-own = A .same-own;
+  }
   agree-yield c (some t) q = agree-close c t q

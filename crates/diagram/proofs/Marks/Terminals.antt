@@ -1,61 +1,31 @@
--- What the terminals see after each step, and the marks that say which client has caught up with which revision.
-use Prim.Native.Nat.{_<_, suc, ℕ}
-use mathlib.Core.Bool.{Bool, _||_, cond, false, not, true}
-use mathlib.Core.Path.{_∙_, _≡_, refl}
-use mathlib.Core.Logic.{_⊎_, inl, inr}
+-- What the terminals see after each step; and the marks that say which client has caught up with which revision.
+use Prim.Native.Nat.{ℕ, suc, _<_}
+use mathlib.Core.Bool.{Bool, true, false, cond, not, _||_}
+use mathlib.Core.Path.{_≡_, refl, _∙_, ap}
 use mathlib.Core.Option.{Option, none, some}
 use mathlib.Core.List.{_∷_}
 use native.Mathlib.Omega.{arith}
 use lib.ListN.{length}
 use lib.Dec.{eqb}
-use borrow.Author.Tests.{eqb-true, ne-eqb}
+use borrow.Author.Tests.{eqb-false, eqb-true, ne-eqb}
+use Rattle.lists.specs.Lists.{changed}
+use Rattle.lists.proofs.Cases.{cases, or-nil}
+use Rattle.lists.proofs.Changed.{changed-other, changed-same}
+use Rattle.diagram.specs.Diagram.{Diagram, Vertex, event, fork, join, leads, start}
+use Rattle.diagram.specs.Day.{Day}
+use Rattle.diagram.specs.Checks.{missing}
+use Rattle.diagram.specs.Steps.{enter, newUpdate, send, takeOver}
 use Rattle.diagram.proofs.Graph.Paths.{leads-from-newer, leads-newest, leads-old, leads-to-newest}
 use Rattle.diagram.proofs.Order.Growth.{Fine}
-use Rattle.diagram.specs.Checks.{missing}
-use Rattle.diagram.specs.Day.{Day, fresh}
-use Rattle.diagram.specs.Diagram.{Diagram, Vertex, event, fork, join, leads, start}
-use Rattle.diagram.specs.Steps.{enter, send, takeOver, yield}
-use Rattle.lists.proofs.Cases.{or-nil, split}
-use Rattle.lists.proofs.Changed.{changed-other, changed-same}
-use Rattle.lists.specs.Lists.{changed}
 
-module _ (y : Day) (F : Fine y) where
-  abbrev d : Diagram
-  d = y .diagram
+-- at revision x's terminal revision z's start, or its fork, is seen
+abbrev pub startSeen : Day → ℕ → ℕ → Bool
+startSeen y z x = leads (y .diagram) (y .startOf z) (y .terminal x)
 
-  low : (x : ℕ) → x < y .revisions → y .terminal x < length d
-  low x h = F .sound .real .term-bound x h
+abbrev pub forkSeen : Day → ℕ → ℕ → Bool
+forkSeen y z x = leads (y .diagram) (y .forkOf z) (y .terminal x)
 
-  pub enter-tips : (c r : ℕ) (u : Bool) (l x : ℕ) → l < length d → x < y .revisions → leads (enter y c r u .diagram) l (enter y c r u .terminal x) ≡ leads d l (y .terminal x)
-  enter-tips c r u l x h k = pick (split (eqb x r))
-    where
-      v : Vertex
-      v = event (y .terminal r) c (cond u (some (y .updates)) none)
-
-      pick : (eqb x r ≡ true) ⊎ (eqb x r ≡ false) → leads (v ∷ d) l (changed (y .terminal) r (length d) x) ≡ leads d l (y .terminal x)
-      pick (inl e) = rw (e, leads-to-newest v d l h, eqb-true x r e) (or-nil _)
-      pick (inr e) = rw e (leads-old v d l (y .terminal x) (low x k))
-
-  pub send-tips : (r l x : ℕ) → l < length d → x < y .revisions → leads (send y r .diagram) l (send y r .terminal x) ≡ leads d l (y .terminal x)
-  send-tips r l x h k = pick (split (eqb x r))
-    where
-      old : eqb x (y .revisions) ≡ false
-      old = ne-eqb x (y .revisions) (λ e. omega arith)
-
-      pick : (eqb x r ≡ true) ⊎ (eqb x r ≡ false) → leads (send y r .diagram) l (send y r .terminal x) ≡ leads d l (y .terminal x)
-      pick (inl e) = rw (old, e, leads-old (start (length d)) (fork (y .terminal r) ∷ d) l (length d) (omega arith), leads-to-newest (fork (y .terminal r)) d l h, eqb-true x r e) (or-nil _)
-      pick (inr e) = rw (old, e, leads-old (start (length d)) (fork (y .terminal r) ∷ d) l (y .terminal x) (omega (arith, low x k))) (leads-old (fork (y .terminal r)) d l (y .terminal x) (low x k))
-
-  pub send-new : (r l : ℕ) → l < length d → leads (send y r .diagram) l (send y r .terminal (y .revisions)) ≡ leads d l (y .terminal r)
-  send-new r l h = rw (changed-same (changed (y .terminal) r (length d)) (y .revisions) (suc (length d)), leads-to-newest (start (length d)) (fork (y .terminal r) ∷ d) l (omega arith), leads-to-newest (fork (y .terminal r)) d l h, or-nil (leads d l (y .terminal r))) (or-nil _)
-
-  pub hand-tips : (a b l x : ℕ) → l < length d → x < y .revisions → (x ≡ a → ⊥) → leads (takeOver y a b .diagram) l (takeOver y a b .terminal x) ≡ leads d l (y .terminal x)
-  hand-tips a b l x h k n = rw (changed-other (y .terminal) a (length d) x n) (leads-old (join (y .terminal a) (y .terminal b)) d l (y .terminal x) (low x k))
-
-  pub hand-joiner : (a b l : ℕ) → l < length d → leads (takeOver y a b .diagram) l (takeOver y a b .terminal a) ≡ (leads d l (y .terminal a) || leads d l (y .terminal b))
-  hand-joiner a b l h = rw (changed-same (y .terminal) a (length d), leads-to-newest (join (y .terminal a) (y .terminal b)) d l h, or-nil (leads d l (y .terminal b)))
-
--- tablet c has caught up with box r: a path leads from its last event, if any, to the line end
+-- client c has caught up with revision r: a path leads from its last event, if any, to the terminal
 abbrev pub caught : Day → ℕ → ℕ → Bool
 caught y c r = not (missing (y .diagram) (y .lastEvent c) (y .terminal r))
 
@@ -63,7 +33,7 @@ not-not : (b : Bool) → not (not b) ≡ b
 not-not true = refl
 not-not false = refl
 
--- the mark follows what the line end sees
+-- the mark follows what the terminals see
 follow : (d e : Diagram) (o : Option ℕ) (x z : ℕ) → ((l : ℕ) → o ≡ some l → leads e l z ≡ leads d l x) → not (missing e o z) ≡ not (missing d o x)
 follow d e none x z f = refl
 follow d e (some l) x z f = rw (f l refl)
@@ -73,40 +43,132 @@ follow-two d e none x w z f = refl
 follow-two d e (some l) x w z f = rw (f l refl, not-not (leads d l x), not-not (leads d l w)) (not-not _)
 
 module _ (y : Day) (F : Fine y) where
-  last-low : (c l : ℕ) → y .lastEvent c ≡ some l → l < length (y .diagram)
+  abbrev d : Diagram
+  d = y .diagram
+
+  low : (x : ℕ) → y .terminal x < length d
+  low x = F .sound .real .linked .bound x
+
+  start-low : (z : ℕ) → y .startOf z < length d
+  start-low z = F .sound .real .starts-low z
+
+  fork-low : (z : ℕ) → y .forkOf z < length d
+  fork-low z = F .sound .real .forks-low z
+
+  last-low : (c l : ℕ) → y .lastEvent c ≡ some l → l < length d
   last-low = F .sound .sessions .last-low
 
-  pub caught-fresh : (c r : ℕ) → caught fresh c r ≡ true
-  caught-fresh c r = refl
+  -- an event: the terminals see of the older vertices what they saw
+  module _ (c r : ℕ) (u : Bool) where
+    abbrev v : Vertex
+    v = event (y .terminal r) c (newUpdate y u)
 
-  -- an event of c on r: c has caught up with r alone
-  pub caught-own : (c r : ℕ) (u : Bool) (x : ℕ) → x < y .revisions → caught (enter y c r u) c x ≡ eqb x r
-  caught-own c r u x h = rw (changed-same (y .lastEvent) c (some (length (y .diagram)))) (not-not _ ∙ pick (split (eqb x r)))
-    where
-      v : Vertex
-      v = event (y .terminal r) c (cond u (some (y .updates)) none)
+    enter-sees : (l x : ℕ) → l < length d → leads (v ∷ d) l (changed (y .terminal) r (length d) x) ≡ leads d l (y .terminal x)
+    enter-sees l x h =
+        cases (eqb x r)
+        (λ e. rw (e, leads-to-newest v d l h, eqb-true x r e) (or-nil _))
+        (λ e. rw e (leads-old v d l (y .terminal x) (low x)))
 
-      pick : (eqb x r ≡ true) ⊎ (eqb x r ≡ false) → leads (v ∷ y .diagram) (length (y .diagram)) (changed (y .terminal) r (length (y .diagram)) x) ≡ eqb x r
-      pick (inl e) = rw e (leads-newest v (y .diagram))
-      pick (inr e) = rw e (leads-old v (y .diagram) (length (y .diagram)) (y .terminal x) (F .sound .real .term-bound x h) ∙ leads-from-newer (y .diagram) (length (y .diagram)) (y .terminal x) (omega arith))
+    pub enter-start : (z x : ℕ) → startSeen (enter y c r u) z x ≡ startSeen y z x
+    enter-start z x = enter-sees (y .startOf z) x (start-low z)
 
-  pub caught-other : (c r : ℕ) (u : Bool) (o x : ℕ) → (o ≡ c → ⊥) → x < y .revisions → caught (enter y c r u) o x ≡ caught y o x
-  caught-other c r u o x n h = rw (changed-other (y .lastEvent) c (some (length (y .diagram))) o n) (follow (y .diagram) (enter y c r u .diagram) (y .lastEvent o) (y .terminal x) (enter y c r u .terminal x) (λ l e. enter-tips y F c r u l x (last-low o l e) h))
+    pub enter-fork : (z x : ℕ) → forkSeen (enter y c r u) z x ≡ forkSeen y z x
+    enter-fork z x = enter-sees (y .forkOf z) x (fork-low z)
 
-  pub caught-yield : (c : ℕ) (q : Option ℕ) (o x : ℕ) → caught (yield y c q) o x ≡ caught y o x
-  caught-yield c none o x = refl
-  caught-yield c (some t) o x = refl
+    -- c has caught up with r alone, and the others as they had
+    own-sees : (x : ℕ) → leads (v ∷ d) (length d) (changed (y .terminal) r (length d) x) ≡ eqb x r
+    own-sees x =
+        cases (eqb x r)
+        (λ e. rw e (leads-newest v d))
+        (λ e. rw e (leads-old v d (length d) (y .terminal x) (low x) ∙ leads-from-newer d (length d) (y .terminal x) (omega arith)))
 
-  -- a fork copies the sender's marks
-  pub caught-send : (r o x : ℕ) → x < y .revisions → caught (send y r) o x ≡ caught y o x
-  caught-send r o x h = follow (y .diagram) (send y r .diagram) (y .lastEvent o) (y .terminal x) (send y r .terminal x) (λ l e. send-tips y F r l x (last-low o l e) h)
+    pub caught-own : (x : ℕ) → caught (enter y c r u) c x ≡ eqb x r
+    caught-own x = rw (changed-same (y .lastEvent) c (some (length d))) (not-not _ ∙ own-sees x)
 
-  pub caught-sent : (r o : ℕ) → caught (send y r) o (y .revisions) ≡ caught y o r
-  caught-sent r o = follow (y .diagram) (send y r .diagram) (y .lastEvent o) (y .terminal r) (send y r .terminal (y .revisions)) (λ l e. send-new y F r l (last-low o l e))
+    pub caught-other : (o x : ℕ) → (o ≡ c → ⊥) → caught (enter y c r u) o x ≡ caught y o x
+    caught-other o x n = rw (changed-other (y .lastEvent) c (some (length d)) o n) (follow d (v ∷ d) (y .lastEvent o) (y .terminal x) (enter y c r u .terminal x) (λ l e. enter-sees l x (last-low o l e)))
 
-  -- a join adds the joinee's marks to the joiner's
-  pub caught-hand : (a b o x : ℕ) → x < y .revisions → (x ≡ a → ⊥) → caught (takeOver y a b) o x ≡ caught y o x
-  caught-hand a b o x h n = follow (y .diagram) (takeOver y a b .diagram) (y .lastEvent o) (y .terminal x) (takeOver y a b .terminal x) (λ l e. hand-tips y F a b l x (last-low o l e) h n)
+  -- a fork: the older terminals see what they saw, the new one what the forker's saw
+  module _ (r : ℕ) where
+    abbrev n : ℕ
+    n = y .revisions
 
-  pub caught-joiner : (a b o : ℕ) → caught (takeOver y a b) o a ≡ (caught y o a || caught y o b)
-  caught-joiner a b o = follow-two (y .diagram) (takeOver y a b .diagram) (y .lastEvent o) (y .terminal a) (y .terminal b) (takeOver y a b .terminal a) (λ l e. hand-joiner y F a b l (last-low o l e))
+    abbrev fv : Vertex
+    fv = fork (y .terminal r)
+
+    abbrev sv : Vertex
+    sv = start (length d)
+
+    -- from any vertex but the new start: by the fork vertex, or as it was
+    at-old : (l x : ℕ) → (x ≡ n → ⊥) → leads (send y r .diagram) l (send y r .terminal x) ≡ cond (eqb x r) (leads (fv ∷ d) l (length d)) (leads d l (y .terminal x))
+    at-old l x k =
+        cases (eqb x r)
+        (λ e. rw (ne-eqb x n k, e) (leads-old sv (fv ∷ d) l (length d) (omega arith)))
+        (λ e. rw (ne-eqb x n k, e) (leads-old sv (fv ∷ d) l (y .terminal x) (omega (arith, low x)) ∙ leads-old fv d l (y .terminal x) (low x)))
+
+    send-sees : (l x : ℕ) → l < length d → (x ≡ n → ⊥) → leads (send y r .diagram) l (send y r .terminal x) ≡ leads d l (y .terminal x)
+    send-sees l x h k = at-old l x k ∙ cases (eqb x r) (λ e. rw (e, leads-to-newest fv d l h, eqb-true x r e) (or-nil _)) (λ e. rw e)
+
+    send-new : (l : ℕ) → l < length d → leads (send y r .diagram) l (send y r .terminal n) ≡ leads d l (y .terminal r)
+    send-new l h = rw (changed-same (changed (y .terminal) r (length d)) n (suc (length d)), leads-to-newest sv (fv ∷ d) l (omega arith), leads-to-newest fv d l h, or-nil (leads d l (y .terminal r))) (or-nil _)
+
+    pub send-start : (z x : ℕ) → (z ≡ n → ⊥) → (x ≡ n → ⊥) → startSeen (send y r) z x ≡ startSeen y z x
+    send-start z x j k = ap (λ l. leads (send y r .diagram) l (send y r .terminal x)) (changed-other (y .startOf) n _ z j) ∙ send-sees (y .startOf z) x (start-low z) k
+
+    pub send-start-new : (z : ℕ) → (z ≡ n → ⊥) → startSeen (send y r) z n ≡ startSeen y z r
+    send-start-new z j = ap (λ l. leads (send y r .diagram) l (send y r .terminal n)) (changed-other (y .startOf) n _ z j) ∙ send-new (y .startOf z) (start-low z)
+
+    pub send-fork : (z x : ℕ) → (z ≡ n → ⊥) → (x ≡ n → ⊥) → forkSeen (send y r) z x ≡ forkSeen y z x
+    send-fork z x j k = ap (λ l. leads (send y r .diagram) l (send y r .terminal x)) (changed-other (y .forkOf) n _ z j) ∙ send-sees (y .forkOf z) x (fork-low z) k
+
+    pub send-fork-new : (z : ℕ) → (z ≡ n → ⊥) → forkSeen (send y r) z n ≡ forkSeen y z r
+    send-fork-new z j = ap (λ l. leads (send y r .diagram) l (send y r .terminal n)) (changed-other (y .forkOf) n _ z j) ∙ send-new (y .forkOf z) (fork-low z)
+
+    -- the new revision's start is seen at its own terminal alone, its fork at the forker's
+    pub start-own : startSeen (send y r) n n ≡ true
+    start-own = rw (changed-same (y .startOf) n (suc (length d)), changed-same (changed (y .terminal) r (length d)) n (suc (length d))) (leads-newest sv (fv ∷ d))
+
+    pub start-none : (x : ℕ) → (x ≡ n → ⊥) → startSeen (send y r) n x ≡ false
+    start-none x k =
+        ap (λ l. leads (send y r .diagram) l (send y r .terminal x)) (changed-same (y .startOf) n (suc (length d))) ∙ at-old (suc (length d)) x k
+        ∙ cases (eqb x r) (λ e. rw e (leads-from-newer (fv ∷ d) (suc (length d)) (length d) (omega arith))) (λ e. rw e (leads-from-newer d (suc (length d)) (y .terminal x) (omega arith)))
+
+    pub fork-by : (x : ℕ) → (x ≡ n → ⊥) → forkSeen (send y r) n x ≡ eqb x r
+    fork-by x k =
+        ap (λ l. leads (send y r .diagram) l (send y r .terminal x)) (changed-same (y .forkOf) n (length d)) ∙ at-old (length d) x k
+        ∙ cases (eqb x r) (λ e. rw e (leads-newest fv d)) (λ e. rw e (leads-from-newer d (length d) (y .terminal x) (omega arith)))
+
+    pub caught-send : (o x : ℕ) → (x ≡ n → ⊥) → caught (send y r) o x ≡ caught y o x
+    caught-send o x k = follow d (send y r .diagram) (y .lastEvent o) (y .terminal x) (send y r .terminal x) (λ l e. send-sees l x (last-low o l e) k)
+
+    pub caught-sent : (o : ℕ) → caught (send y r) o n ≡ caught y o r
+    caught-sent o = follow d (send y r .diagram) (y .lastEvent o) (y .terminal r) (send y r .terminal n) (λ l e. send-new l (last-low o l e))
+
+  -- a join: the joiner's terminal sees what either saw
+  module _ (a b : ℕ) where
+    abbrev jv : Vertex
+    jv = join (y .terminal a) (y .terminal b)
+
+    join-sees : (l x : ℕ) → (x ≡ a → ⊥) → leads (jv ∷ d) l (changed (y .terminal) a (length d) x) ≡ leads d l (y .terminal x)
+    join-sees l x k = rw (changed-other (y .terminal) a (length d) x k) (leads-old jv d l (y .terminal x) (low x))
+
+    join-joiner : (l : ℕ) → l < length d → leads (jv ∷ d) l (changed (y .terminal) a (length d) a) ≡ (leads d l (y .terminal a) || leads d l (y .terminal b))
+    join-joiner l h = rw (changed-same (y .terminal) a (length d), leads-to-newest jv d l h, or-nil (leads d l (y .terminal b)))
+
+    pub join-start : (z x : ℕ) → (x ≡ a → ⊥) → startSeen (takeOver y a b) z x ≡ startSeen y z x
+    join-start z x k = join-sees (y .startOf z) x k
+
+    pub join-start-joiner : (z : ℕ) → startSeen (takeOver y a b) z a ≡ (startSeen y z a || startSeen y z b)
+    join-start-joiner z = join-joiner (y .startOf z) (start-low z)
+
+    pub join-fork : (z x : ℕ) → (x ≡ a → ⊥) → forkSeen (takeOver y a b) z x ≡ forkSeen y z x
+    join-fork z x k = join-sees (y .forkOf z) x k
+
+    pub join-fork-joiner : (z : ℕ) → forkSeen (takeOver y a b) z a ≡ (forkSeen y z a || forkSeen y z b)
+    join-fork-joiner z = join-joiner (y .forkOf z) (fork-low z)
+
+    pub caught-join : (o x : ℕ) → (x ≡ a → ⊥) → caught (takeOver y a b) o x ≡ caught y o x
+    caught-join o x k = follow d (jv ∷ d) (y .lastEvent o) (y .terminal x) (takeOver y a b .terminal x) (λ l e. join-sees l x k)
+
+    pub caught-joiner : (o : ℕ) → caught (takeOver y a b) o a ≡ (caught y o a || caught y o b)
+    caught-joiner o = follow-two d (jv ∷ d) (y .lastEvent o) (y .terminal a) (y .terminal b) (takeOver y a b .terminal a) (λ l e. join-joiner l (last-low o l e))

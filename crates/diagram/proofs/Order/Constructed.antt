@@ -2,6 +2,7 @@
 use Prim.Native.Nat.{_<_, suc, ℕ}
 use mathlib.Core.Bool.{Bool, false, false≢true, true}
 use mathlib.Core.Path.{_∙_, _≡_, ap, refl, sym}
+use mathlib.Core.Logic.{_⊎_, inl, inr}
 use mathlib.Core.Option.{Option, none, some}
 use mathlib.Core.List.{List, List·Memᴰ, List·Memᴰ·eq-of-singleton, List·Memᴰ·head, List·Memᴰ·not-nil, List·Memᴰ·tail, Memᴰ·append-left}
 use mathlib.Core.List.{Memᴰ·append-right, [], _++_, _∷_}
@@ -9,7 +10,6 @@ use native.Mathlib.Omega.{arith}
 use lib.ListN.{length}
 use lib.Dec.{eqb}
 use borrow.Author.Tests.{eqb-false, eqb-true}
-use Rattle.diagram.proofs.Arranged.Built.{linked}
 use Rattle.diagram.proofs.Days.Moves.{CanEnter, CanFork, CanJoin, can-enter, can-fork, can-join}
 use Rattle.diagram.proofs.Graph.Paths.{Ordered, edge-bounds, leads-path, no-vertex, one-more, path-leads}
 use Rattle.diagram.proofs.Graph.Tables.{tabulate-newest, tabulate-older}
@@ -21,7 +21,7 @@ use Rattle.diagram.specs.Diagram.{Diagram, Edge, Terminal, Vertex, event
 use Rattle.diagram.specs.Diagram.{s-sources, sources, start}
 use Rattle.diagram.specs.Effects.{startStep, startVertex, tabulate}
 use Rattle.diagram.specs.Steps.{Accepted, Event, Fork, Join, Step, Yield, accepted, after, close, enter, newUpdate, run, send, takeOver, yield}
-use Rattle.lists.proofs.Cases.{cases}
+use Rattle.lists.proofs.Cases.{cases, split}
 use Rattle.lists.proofs.Changed.{changed-other, changed-same}
 use Rattle.lists.specs.Lists.{changed}
 
@@ -54,6 +54,7 @@ terminal-older n m T = record { vertex = omega (arith, T .vertex); no-s = keeps-
 pub record Made (y : Day) : Type 0 where
   pub constructed : Constructed (y .diagram)
   pub starts : (r : ℕ) → r < y .revisions → startVertex (y .diagram) (y .terminal r) ≡ y .startOf r
+  pub distinct : (r s : ℕ) → r < y .revisions → s < y .revisions → y .startOf r ≡ y .startOf s → r ≡ s
   pub terminals : (r : ℕ) → IsOut y r → Terminal (y .diagram) (y .terminal r)
 
 made-fresh : Made fresh
@@ -61,6 +62,7 @@ unfolding tabulate
 made-fresh = record {
   constructed = rooted;
   starts = λ r h. refl;
+  distinct = λ r s h k e. let a : r < 1 = h in let b : s < 1 = k in omega arith;
   terminals = λ r o. terminal-newest (one-more {v = root} (λ p i. absurd (List·Memᴰ·not-nil i)) no-vertex);
 }
 
@@ -68,16 +70,16 @@ module _ (y : Day) (F : Fine y) (M : Made y) where
   abbrev d : Diagram
   d = y .diagram
 
-  low : (r : ℕ) → r < y .revisions → y .terminal r < length d
-  low r h = F .sound .real .term-bound r h
+  low : (r : ℕ) → y .terminal r < length d
+  low r = F .sound .real .linked .bound r
 
   ordered : Ordered d
-  ordered = linked (F .sound .real .built) .ordered
+  ordered = F .sound .real .linked .ordered
 
   -- no two revisions have one terminal
   apart : (r s : ℕ) → r < y .revisions → s < y .revisions → (r ≡ s → ⊥) → List·Memᴰ (y .terminal r) (y .terminal s ∷ []) → ⊥
   apart r s h k n i =
-      n (F .sound .real .inj r s h k (sym (M .starts r h) ∙ ap (startVertex d) (List·Memᴰ·eq-of-singleton i) ∙ M .starts s k))
+      n (M .distinct r s h k (sym (M .starts r h) ∙ ap (startVertex d) (List·Memᴰ·eq-of-singleton i) ∙ M .starts s k))
 
   -- a vertex that goes on from a revision's terminal
   module _ (v : Vertex) (r : ℕ) (hr : r < y .revisions) (on-line : startStep d (startVertex d) v ≡ startVertex d (y .terminal r)) where
@@ -85,7 +87,7 @@ module _ (y : Day) (F : Fine y) (M : Made y) where
     starts-on s h =
         cases (eqb s r)
         (λ e. rw (e, tabulate-newest startStep 0 v d, eqb-true s r e) (on-line ∙ M .starts r hr))
-        (λ e. rw (e, tabulate-older startStep 0 v d (y .terminal s) (low s h)) (M .starts s h))
+        (λ e. rw (e, tabulate-older startStep 0 v d (y .terminal s) (low s)) (M .starts s h))
 
     terminals-on : Ordered (v ∷ d) → s-sources v ≡ y .terminal r ∷ [] → (s : ℕ) → IsOut y s → (List·Memᴰ (y .terminal s) (j-sources v) → ⊥) → Terminal (v ∷ d) (changed (y .terminal) r (length d) s)
     terminals-on o q s os n =
@@ -94,12 +96,13 @@ module _ (y : Day) (F : Fine y) (M : Made y) where
         (λ e. rw e (terminal-older (λ i. apart s r (os .0) hr (eqb-false s r e) (rw q at i)) n (M .terminals s os)))
 
   one-source : (v : Vertex) (r : ℕ) → r < y .revisions → sources v ≡ y .terminal r ∷ [] → Ordered (v ∷ d)
-  one-source v r h q = one-more {v = v} {d = d} (λ p i. rw (List·Memᴰ·eq-of-singleton (rw q at i)) (low r h)) ordered
+  one-source v r h q = one-more {v = v} {d = d} (λ p i. rw (List·Memᴰ·eq-of-singleton (rw q at i)) (low r)) ordered
 
   made-enter : (c r : ℕ) (u : Bool) → CanEnter y c r → Made (enter y c r u)
   made-enter c r u E = record {
     constructed = entered (M .constructed) (M .terminals r (E .out)) c (newUpdate y u);
     starts = starts-on v r (E .out .0) refl;
+    distinct = M .distinct;
     terminals = λ s o. terminals-on v r (E .out .0) refl (one-source v r (E .out .0) refl) refl s o (λ i. List·Memᴰ·not-nil i);
   }
     where
@@ -107,11 +110,12 @@ module _ (y : Day) (F : Fine y) (M : Made y) where
       v = event (y .terminal r) c (newUpdate y u)
 
   made-close : (c t : ℕ) → Made (close y c t)
-  made-close c t = record { constructed = M .constructed; starts = M .starts; terminals = M .terminals }
+  made-close c t = record { constructed = M .constructed; starts = M .starts; distinct = M .distinct; terminals = M .terminals }
 
   made-send : (r : ℕ) → CanFork y r → Made (send y r)
   made-send r N = record {
     constructed = forked (M .constructed) (M .terminals r (N .out));
+    distinct = distinct′;
     starts = λ s h. cases (eqb s n) (λ e. rw e (tabulate-newest startStep 0 sv (fv ∷ d))) (λ e. rw e (starts′ s (was s h e)));
     terminals = λ s o. cases (eqb s n) (λ e. rw e (terminal-newest ordered2)) (λ e. rw e (terminals′ s (was s (o .0) e, rw e at (o .1))));
   }
@@ -134,11 +138,21 @@ module _ (y : Day) (F : Fine y) (M : Made y) where
       was : (s : ℕ) → s < suc n → eqb s n ≡ false → s < n
       was s h e = let k = eqb-false s n e in omega arith
 
-      fork-low : (s : ℕ) → s < n → changed (y .terminal) r (length d) s < length (fv ∷ d)
-      fork-low s h = cases (eqb s r) (λ e. rw e (omega arith)) (λ e. rw e (omega (arith, low s h)))
+      -- the new start vertex is none of the older ones
+      distinct′ : (s t : ℕ) → s < suc n → t < suc n → changed (y .startOf) n (suc (length d)) s ≡ changed (y .startOf) n (suc (length d)) t → s ≡ t
+      distinct′ s t h k e = pick (split (eqb s n)) (split (eqb t n))
+        where
+          pick : (eqb s n ≡ true) ⊎ (eqb s n ≡ false) → (eqb t n ≡ true) ⊎ (eqb t n ≡ false) → s ≡ t
+          pick (inl p) (inl q) = eqb-true s n p ∙ sym (eqb-true t n q)
+          pick (inl p) (inr q) = let f : suc (length d) ≡ y .startOf t = rw (p, q) at e in absurd (omega (arith, F .sound .real .starts-low t))
+          pick (inr p) (inl q) = let f : y .startOf s ≡ suc (length d) = rw (p, q) at e in absurd (omega (arith, F .sound .real .starts-low s))
+          pick (inr p) (inr q) = M .distinct s t (was s h p) (was t k q) (rw (p, q) at e)
+
+      fork-low : (s : ℕ) → changed (y .terminal) r (length d) s < length (fv ∷ d)
+      fork-low s = cases (eqb s r) (λ e. rw e (omega arith)) (λ e. rw e (omega (arith, low s)))
 
       starts′ : (s : ℕ) → s < n → startVertex (sv ∷ fv ∷ d) (changed (y .terminal) r (length d) s) ≡ y .startOf s
-      starts′ s h = tabulate-older startStep 0 sv (fv ∷ d) (changed (y .terminal) r (length d) s) (fork-low s h) ∙ starts-on fv r (N .out .0) refl s h
+      starts′ s h = tabulate-older startStep 0 sv (fv ∷ d) (changed (y .terminal) r (length d) s) (fork-low s) ∙ starts-on fv r (N .out .0) refl s h
 
       terminals′ : (s : ℕ) → IsOut y s → Terminal (sv ∷ fv ∷ d) (changed (y .terminal) r (length d) s)
       terminals′ s o =
@@ -149,6 +163,7 @@ module _ (y : Day) (F : Fine y) (M : Made y) where
   made-join a b H = record {
     constructed = joined (M .constructed) (M .terminals a (H .out-a)) (M .terminals b (H .out-b)) rule;
     starts = starts-on jv a (H .out-a .0) refl;
+    distinct = M .distinct;
     terminals = λ s o. let p = was s o in terminals-on jv a (H .out-a .0) refl two-sources refl s p (apart s b (p .0) (H .out-b .0) (not-b s o));
   }
     where
@@ -159,8 +174,8 @@ module _ (y : Day) (F : Fine y) (M : Made y) where
       two-sources = one-more {v = jv} {d = d} older-both ordered
         where
           older-both : (p : ℕ) → List·Memᴰ p (y .terminal a ∷ y .terminal b ∷ []) → p < length d
-          older-both p (List·Memᴰ·head e) = rw e (low a (H .out-a .0))
-          older-both p (List·Memᴰ·tail i) = rw (List·Memᴰ·eq-of-singleton i) (low b (H .out-b .0))
+          older-both p (List·Memᴰ·head e) = rw e (low a)
+          older-both p (List·Memᴰ·tail i) = rw (List·Memᴰ·eq-of-singleton i) (low b)
 
       not-b : (s : ℕ) → IsOut (takeOver y a b) s → s ≡ b → ⊥
       not-b s o e = false≢true (sym (o .1) ∙ ap (changed (y .joined) b true) e ∙ changed-same (y .joined) b true)
@@ -171,7 +186,7 @@ module _ (y : Day) (F : Fine y) (M : Made y) where
       rule : Joinable d (y .terminal a) (y .terminal b)
       rule = record {
         forked = y .forkOf b;
-        is-fork = F .sound .real .from-ok b (H .out-b .0) (H .not-main);
+        is-fork = F .sound .real .forks b (H .out-b .0) (H .not-main);
         fork-seen = leads-path d (y .forkOf b) (y .terminal a) (H .fork-seen);
         start-unseen = λ p. false≢true (sym (H .start-unseen) ∙ path-leads ordered (rw (M .starts b (H .out-b .0)) at p));
       }

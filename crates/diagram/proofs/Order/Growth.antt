@@ -28,18 +28,17 @@ use Rattle.lists.specs.Lists.{_∈_, changed}
 -- a day that is sound, with its layout
 pub record Fine (y : Day) : Type 0 where
   pub layout : List ℕ
-  pub at : ℕ → ℕ
   pub hold : ℕ → List ℕ
-  pub sound : Sound y layout at hold
+  pub sound : Sound y layout hold
 
 unfoldable pub fine-moves : (y z : Day) → Fine y → Moves y z → Fine z
-fine-moves y z F (enters c r u E) = let s = sound-enter y (F .layout) (F .at) (F .hold) (F .sound) c r u E in record { layout = F .layout; at = _; hold = s .0; sound = s .1 }
-fine-moves y z F (yields c h) = record { layout = F .layout; at = F .at; hold = F .hold; sound = sound-yield y (F .layout) (F .at) (F .hold) (F .sound) c (y .openBy c) refl }
-fine-moves y z F (sends r N) = record { layout = _; at = _; hold = _; sound = sound-send y (F .layout) (F .at) (F .hold) (F .sound) r N }
-fine-moves y z F (hands a b H) = record { layout = _; at = _; hold = _; sound = sound-hand y (F .layout) (F .at) (F .hold) (F .sound) a b H }
+fine-moves y z F (enters c r u E) = let s = sound-enter y (F .layout) (F .hold) (F .sound) c r u E in record { layout = F .layout; hold = s .0; sound = s .1 }
+fine-moves y z F (yields c h) = record { layout = F .layout; hold = F .hold; sound = sound-yield y (F .layout) (F .hold) (F .sound) c (y .openBy c) refl }
+fine-moves y z F (sends r N) = record { layout = _; hold = _; sound = sound-send y (F .layout) (F .hold) (F .sound) r N }
+fine-moves y z F (hands a b H) = record { layout = _; hold = _; sound = sound-hand y (F .layout) (F .hold) (F .sound) a b H }
 
 unfoldable pub fine-fresh : Fine fresh
-fine-fresh = record { layout = 0 ∷ []; at = λ x. 0; hold = λ x. []; sound = sound-fresh }
+fine-fresh = record { layout = 0 ∷ []; hold = λ x. []; sound = sound-fresh }
 
 -- growth only at the end
 pub extends : (y z : Day) → Fine y → Moves y z → Extends y z
@@ -50,7 +49,7 @@ extends y z F (enters c r u E) s o p = pick (split (eqb s r))
 
     pick : (eqb s r ≡ true) ⊎ (eqb s r ≡ false) → (more : List ℕ) × (view (v ∷ y .diagram) (changed (y .terminal) r (length (y .diagram)) s) ≡ view (y .diagram) (y .terminal s) ++ more)
     pick (inl e) = (entry (cond u (some (y .updates)) none), rw (e, tabulate-newest viewStep [] v (y .diagram), eqb-true s r e))
-    pick (inr e) = ([], rw (e, tabulate-older viewStep [] v (y .diagram) (y .terminal s) (F .sound .real .term-bound s (o .0))) (sym (append-nil _)))
+    pick (inr e) = ([], rw (e, tabulate-older viewStep [] v (y .diagram) (y .terminal s) (F .sound .real .linked .bound s)) (sym (append-nil _)))
 extends y z F (yields c h) r o p = by (y .openBy c)
   where
     by : (q : Option ℕ) → (more : List ℕ) × (view (yield y c q .diagram) (yield y c q .terminal r) ≡ view (y .diagram) (y .terminal r) ++ more)
@@ -68,7 +67,7 @@ extends y z F (sends r N) s o p = pick (split (eqb s (y .revisions))) (split (eq
     pick (inl e) g = let q = eqb-true s (y .revisions) e in absurd (omega (arith, o .0))
     pick (inr e) (inl g) = ([], rw (e, g, tabulate-older viewStep [] (start (length d)) (fv ∷ d) (length d) (omega arith), tabulate-newest viewStep [] fv d, eqb-true s r g) (sym (append-nil _)))
     pick (inr e) (inr g) =
-        let b = F .sound .real .term-bound s (o .0) in
+        let b = F .sound .real .linked .bound s in
         ([], rw (e, g, tabulate-older viewStep [] (start (length d)) (fv ∷ d) (y .terminal s) (omega arith), tabulate-older viewStep [] fv d (y .terminal s) b) (sym (append-nil _)))
 extends y z F (hands a b H) s o p = pick (split (eqb s a))
   where
@@ -77,7 +76,7 @@ extends y z F (hands a b H) s o p = pick (split (eqb s a))
 
     pick : (eqb s a ≡ true) ⊎ (eqb s a ≡ false) → (more : List ℕ) × (view (jv ∷ y .diagram) (changed (y .terminal) a (length (y .diagram)) s) ≡ view (y .diagram) (y .terminal s) ++ more)
     pick (inl e) = (own (y .diagram) (y .terminal b), rw (e, tabulate-newest viewStep [] jv (y .diagram), eqb-true s a e))
-    pick (inr e) = ([], rw (e, tabulate-older viewStep [] jv (y .diagram) (y .terminal s) (F .sound .real .term-bound s (o .0))) (sym (append-nil _)))
+    pick (inr e) = ([], rw (e, tabulate-older viewStep [] jv (y .diagram) (y .terminal s) (F .sound .real .linked .bound s)) (sym (append-nil _)))
 
 -- the diagram only grows, and what a vertex lists stays
 pub data Older (d : Diagram) : Diagram → Type 0 where
@@ -110,7 +109,7 @@ older-moves y z (hands a b H) = next same
 pub whole-of : (y : Day) → Fine y → (t x : ℕ) → t < y .transactions → x < length (y .diagram) → (x ∈ eventsOf y t → ⊥) → NoneSeen y t x ⊎ (AllSeen y t x × YieldedBy y t x)
 whole-of y F t x h l n = pick (split (leads (y .diagram) (f .0) x))
   where
-    S : Sound y (F .layout) (F .at) (F .hold)
+    S : Sound y (F .layout) (F .hold)
     S = F .sound
 
     f : (e : ℕ) × (e ∈ eventsOf y t)
@@ -120,4 +119,4 @@ whole-of y F t x h l n = pick (split (leads (y .diagram) (f .0) x))
     pick (inl e) =
         let s = S .whole .outside t x (f .0) h l n (f .1) e in
         inr (λ z i. leads-path (y .diagram) z x (s .whole z i), record { at = s .at; is = s .is; soon = s .before })
-    pick (inr e) = inl (λ z i p. let s = S .whole .outside t x z h l n i (path-leads (link y (F .layout) (F .at) (F .hold) S .ordered) p) in false≢true (sym e ∙ s .whole (f .0) (f .1)))
+    pick (inr e) = inl (λ z i p. let s = S .whole .outside t x z h l n i (path-leads (link y (F .layout) (F .hold) S .ordered) p) in false≢true (sym e ∙ s .whole (f .0) (f .1)))

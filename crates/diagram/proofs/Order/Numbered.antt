@@ -17,7 +17,7 @@ use Rattle.diagram.specs.Day.{Day}
 use Rattle.diagram.specs.Diagram.{Diagram, Vertex, event, fork, join, root, start}
 use Rattle.diagram.specs.Effects.{number, numberStep, tabulate}
 use Rattle.diagram.specs.Steps.{yield}
-use Rattle.lists.proofs.Cases.{cases, split}
+use Rattle.lists.proofs.Cases.{cases}
 
 pub number-new : (v : Vertex) (d : Diagram) (e : ℕ) → ((e ≡ length d) × (number (v ∷ d) e ≡ numberStep d (number d) v)) ⊎ (number (v ∷ d) e ≡ number d e)
 unfolding tabulate
@@ -68,11 +68,10 @@ numbered-update p c d n N = record {
     one′ e f k p q (inr a) (inr b) = N .one e f k (sym a ∙ p) (sym b ∙ q)
 
     all′ : (k : ℕ) → k < suc n → (e : ℕ) × (number (v ∷ d) e ≡ some k)
-    all′ k h = pick (split (eqb k n))
-      where
-        pick : (eqb k n ≡ true) ⊎ (eqb k n ≡ false) → (e : ℕ) × (number (v ∷ d) e ≡ some k)
-        pick (inl e) = (length d, tabulate-newest numberStep none v d ∙ ap (λ i. some i) (sym (eqb-true k n e)))
-        pick (inr e) = let z = eqb-false k n e in let a = N .all k (omega arith) in (a .0, tabulate-older numberStep none v d (a .0) (N .inside (a .0) k (a .1)) ∙ a .1)
+    all′ k h =
+        cases (eqb k n)
+        (λ e. (length d, tabulate-newest numberStep none v d ∙ ap (λ i. some i) (sym (eqb-true k n e))))
+        (λ e. let z = eqb-false k n e in let a = N .all k (omega arith) in (a .0, tabulate-older numberStep none v d (a .0) (N .inside (a .0) k (a .1)) ∙ a .1))
 
 pub numbered-fresh : Numbered (root ∷ []) 0
 unfolding tabulate

@@ -93,11 +93,11 @@ whole-idle : (y : Day) → Fine y → (t r : ℕ) → t < y .transactions → Is
 whole-idle y F t r h o b = pick (mem? (y .terminal r) (eventsOf y t))
   where
     low : y .terminal r < length (y .diagram)
-    low = F .sound .real .term-bound r (o .0)
+    low = F .sound .real .linked .bound r
 
     pick : (y .terminal r ∈ eventsOf y t) ⊎ (y .terminal r ∈ eventsOf y t → ⊥) → WholeAt y t (y .terminal r) (length (y .diagram))
     pick (inl i) =
-        let p = idle-past y (F .layout) (F .at) (F .hold) (F .sound) r t o (idle-all y r b) h i in
+        let p = idle-past y (F .layout) (F .hold) (F .sound) r t o (idle-all y r b) h i in
         inr (λ e j. leads-path (y .diagram) e (y .terminal r) (p .3 e j), record { at = p .0; is = p .1; soon = p .2 })
     pick (inr n) = either (whole-of y F t (y .terminal r) h low n) (λ k. inl k) (λ k. inr (k .0, record { at = k .1 .at; is = k .1 .is; soon = omega (arith, k .1 .soon, low) }))
 
@@ -111,17 +111,14 @@ module _ (ss : List Step) (A : Accepted ss) (F : Fine (run ss)) where
   abbrev layout : List ℕ
   layout = F .layout
 
-  abbrev at : ℕ → ℕ
-  at = F .at
-
   abbrev hold : ℕ → List ℕ
   hold = F .hold
 
-  S : Sound y layout at hold
+  S : Sound y layout hold
   S = F .sound
 
-  L : Linked d layout at
-  L = link y layout at hold S
+  L : Linked d layout (y .terminal) (y .startOf)
+  L = link y layout hold S
 
   abbrev order : List ℕ
   order = flatBack hold layout
@@ -131,7 +128,7 @@ module _ (ss : List Step) (A : Accepted ss) (F : Fine (run ss)) where
 
   -- what a vertex sees is a part of the order
   in-order : (x : ℕ) → x < length d → viewEvents d x ⊑ flat (eventsOf y) order
-  in-order x h = rw (flat-blocks y layout at hold (S .filed)) (held-order layout (contents d at) (may d at) (viewEvents d x) (L .inv) (L .past x h))
+  in-order x h = rw (flat-blocks y layout hold (S .filed)) (held-order layout (contents d (y .terminal)) (may d (y .terminal) (y .startOf)) (viewEvents d x) (L .inv) (L .past x h))
 
   event-in : (x : ℕ) → IsEvent x d → (t : ℕ) × (t < y .transactions) × (x ∈ eventsOf y t)
   event-in x i =
@@ -142,13 +139,13 @@ module _ (ss : List Step) (A : Accepted ss) (F : Fine (run ss)) where
   in-event : (x t : ℕ) → t < y .transactions → x ∈ eventsOf y t → IsEvent x d
   in-event x t h i =
       let p = S .filed .all t h in
-      let j : x ∈ ownEvents d (at (p .0)) = rw (S .filed .blocks-ok (p .0) (p .1)) (flat-in (eventsOf y) t x (hold (p .0)) (p .2) i) in
-      view-paths (L .ordered) (at (p .0)) (L .bound (p .0)) .0 x j .0
+      let j : x ∈ ownEvents d (y .terminal (p .0)) = rw (S .filed .blocks-ok (p .0) (p .1)) (flat-in (eventsOf y) t x (hold (p .0)) (p .2) i) in
+      view-paths (L .ordered) (y .terminal (p .0)) (L .bound (p .0)) .0 x j .0
 
   shows : (x : ℕ) → x < length d → Shows y order x (view d x)
   shows x h = record {
     seen = viewEvents d x;
-    exactly = only (Sees y x) (in-order x h) (flat-once y layout at hold S) (λ e i. visible (L .ordered) (L .joins-ok) e x h .0 i .1) back;
+    exactly = only (Sees y x) (in-order x h) (flat-once y layout hold S) (λ e i. visible (L .ordered) (L .joins-ok) e x h .0 i .1) back;
     are = view-numbers (L .ordered) x h .1;
   }
     where
@@ -170,13 +167,13 @@ module _ (ss : List Step) (A : Accepted ss) (F : Fine (run ss)) where
       let ee : IsEvent (T .earlier) d = in-event (T .earlier) s hs (T .earlier-in) in
       let low : T .later < length d = self fe .0 in
       let i : T .earlier ∈ viewEvents d (T .later) = visible (L .ordered) (L .joins-ok) (T .earlier) (T .later) low .1 (ee, T .path) in
-      flat-pair (eventsOf y) order s t (T .earlier) (T .later) (flat-once y layout at hold S) (complete s .1 hs) (complete t .1 ht) n (T .earlier-in) (T .later-in) (Sublistᴰ·trans (last-of (T .earlier) (T .later) fe notJoinable i) (in-order (T .later) low))
+      flat-pair (eventsOf y) order s t (T .earlier) (T .later) (flat-once y layout hold S) (complete s .1 hs) (complete t .1 ht) n (T .earlier-in) (T .later-in) (Sublistᴰ·trans (last-of (T .earlier) (T .later) fe notJoinable i) (in-order (T .later) low))
     where
       notJoinable : T .earlier ≡ T .later → ⊥
       notJoinable e = n (both (S .filed .all s hs) (S .filed .all t ht))
         where
           both : (x : ℕ) × (x ∈ layout) × (s ∈ hold x) → (x : ℕ) × (x ∈ layout) × (t ∈ hold x) → s ≡ t
-          both a b = same-block (eventsOf y) order (flat-once y layout at hold S) s t (T .later) (complete s .1 hs) (complete t .1 ht) (subst (λ z. z ∈ eventsOf y s) e (T .earlier-in)) (T .later-in)
+          both a b = same-block (eventsOf y) order (flat-once y layout hold S) s t (T .later) (complete s .1 hs) (complete t .1 ht) (subst (λ z. z ∈ eventsOf y s) e (T .earlier-in)) (T .later-in)
 
   -- what a vertex showed at any time of the run
   ever : (before rest : List Step) → ss ≡ before ++ rest → (x : ℕ) → x < length (run before .diagram) → Shows y order x (view (run before .diagram) x)
@@ -213,16 +210,16 @@ module _ (ss : List Step) (A : Accepted ss) (F : Fine (run ss)) where
   pub arbitrated : Arbitration ss
   arbitrated = record {
     order = order;
-    once = order-once y layout at hold S;
+    once = order-once y layout hold S;
     complete = complete;
     entered = λ x. (event-in x, λ p. in-event x (p .0) (p .1) (p .2));
-    one-each = flat-once y layout at hold S;
+    one-each = flat-once y layout hold S;
     numbered = numbered;
-    updates-once = numbers-nodup d (y .updates) (flat (eventsOf y) order) numbered (flat-once y layout at hold S);
+    updates-once = numbers-nodup d (y .updates) (flat (eventsOf y) order) numbered (flat-once y layout hold S);
     updates-all = updates-all;
     after-seen = after-seen;
-    listed = λ r o. shows (y .terminal r) (S .real .term-bound r (o .0));
-    in-order = λ r o. let h = S .real .term-bound r (o .0) in subst (λ z. z ⊑ numbers d (flat (eventsOf y) order)) (sym (view-numbers (L .ordered) (y .terminal r) h .1)) (numbers-sub d (in-order (y .terminal r) h));
+    listed = λ r o. shows (y .terminal r) (S .real .linked .bound r);
+    in-order = λ r o. let h = S .real .linked .bound r in subst (λ z. z ⊑ numbers d (flat (eventsOf y) order)) (sym (view-numbers (L .ordered) (y .terminal r) h .1)) (numbers-sub d (in-order (y .terminal r) h));
     queries = queries;
     ever = ever;
     grows = grows-from ss fresh fine-fresh A;
