@@ -8,3 +8,4 @@ pub mod Joining
 pub mod Bounded
 pub mod Kept
 pub mod Answers
+pub mod Passing

@@ -11,11 +11,12 @@ use Rattle.cells.specs.Cells.{Cells}
 use Rattle.cells.specs.CellSteps.{freshCells}
 use Rattle.cells.specs.Decode.{cells}
 use Rattle.cells.specs.Steps.{freshBytes}
-use Rattle.consistency.specs.Follow.{BytesFollowDays, CellsFollow, CellsFollowDays}
+use Rattle.consistency.specs.Follow.{BytesFollowDays, CellsFollow, CellsFollowDays, ChecksFollowDays}
 use Rattle.consistency.specs.Reached.{bytesAfter, bytesFrom, cellsAfter, cellsFrom, stepBytes, stepCells}
 use Rattle.consistency.proofs.Cells.Answers.{answers}
 use Rattle.consistency.proofs.Cells.Kept.{Kept, fresh-kept, kept-after}
 use Rattle.consistency.proofs.Cells.Laid.{laid}
+use Rattle.consistency.proofs.Cells.Passing.{passing}
 use Rattle.consistency.proofs.Bytes.Ranged.{ranged}
 use Rattle.consistency.proofs.Bytes.Stored.{Stored, fresh-stored, step-stored}
 
@@ -59,3 +60,6 @@ bytes-follow ss P =
     let m = machineFrom freshMachine ss in
     let K = subst (Kept y m) (sym (S .cells-are)) (kept-run ss P) in
     record { size = S .size-is; ranged = ranged y m (bytesAfter ss) K (S .unread); follow = kept-follows y m (cells (bytesAfter ss)) K }
+
+pub checks-follow : ChecksFollowDays
+checks-follow ss P = passing (run ss) (cells (bytesAfter ss)) (bytes-follow ss P .follow)

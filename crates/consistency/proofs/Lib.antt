@@ -2,3 +2,4 @@
 pub mod Cells
 pub mod Bytes
 pub mod Follow
+mod Examples

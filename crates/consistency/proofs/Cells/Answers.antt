@@ -1,6 +1,6 @@
 -- Cells that stand for the day's machine answer as the day does.
 use Prim.Native.Nat.{_<_, suc, zero, ℕ}
-use mathlib.Core.Bool.{Bool, _&&_, _||_, false, not, true}
+use mathlib.Core.Bool.{Bool, Bool·not-not, _&&_, _||_, false, not, or-comm, true}
 use mathlib.Core.Path.{_∙_, _≡_, ap, refl, sym}
 use mathlib.Core.Option.{Option, none, some}
 use native.Mathlib.Omega.{arith}
@@ -23,16 +23,6 @@ use Rattle.consistency.proofs.Cells.Laid.{Laid}
 use Rattle.consistency.proofs.Cells.Ordered.{order-is, shown-few}
 use Rattle.consistency.proofs.Cells.Represents.{Represents, count-is, openCell}
 
-or-comm : (a b : Bool) → (a || b) ≡ (b || a)
-or-comm true true = refl
-or-comm true false = refl
-or-comm false true = refl
-or-comm false false = refl
-
-not-not : (a : Bool) → not (not a) ≡ a
-not-not true = refl
-not-not false = refl
-
 -- a test of the clients, from below as from above
 some-any : (f g : ℕ → Bool) (n : ℕ) → ((i : ℕ) → i < n → f i ≡ g i) → Tables.some f n ≡ Day.anyBelow n g
 unfolding Tables.some
@@ -43,9 +33,6 @@ module _ (y : Day) (m : Machine) (k : Cells) (D : Follows y m) (L : Laid m) (h :
   -- a number that is given out
   low : (r : ℕ) → r < y .revisions → r < revisions
   low r l = let a = D .same-revisions in let b = h .given-is in let c = h .given-few in omega arith
-
-  out : (r : ℕ) → IsOut y r → r < revisions
-  out r o = low r (o .0)
 
   opened-is : (c : ℕ) → c < clients → k .opened c ≡ openCell (revisionOf (y .transaction) (y .openBy c))
   opened-is c l = h .opened-is c l ∙ ap openCell (D .same-openOn c)
@@ -90,13 +77,13 @@ module _ (y : Day) (m : Machine) (k : Cells) (D : Follows y m) (L : Laid m) (h :
     same-order = λ r o. order-is k m h L r (D .laid r o) ∙ D .same-shown r o;
     whole-order = λ r o. rw (D .same-shown r o) at (shown-few k m h L r (D .laid r o));
     same-own = λ r o. h .own-is r (D .laid r o) ∙ D .same-own r o;
-    same-client = λ c. sym (not-not (ltb c clients));
+    same-client = λ c. sym (Bool·not-not (ltb c clients));
     same-given = given-out;
     same-joined = joined-is;
-    same-elsewhere = λ c r l o. elsewhere c r l;
-    same-busyByOther = λ c r o. some-any _ _ clients (λ x l. ap (λ t. not (eqb x c) && t) (is-on x r l (out r o)));
-    same-busy = λ r o. some-any _ _ clients (λ x l. is-on x r l (out r o));
-    same-stale = λ c r l o. ap not (h .caught-is c r l (out r o) ∙ D .same-caughtUp c r o) ∙ not-not (Day.stale y c r);
+    same-elsewhere = elsewhere;
+    same-busyByOther = λ c r g. some-any _ _ clients (λ x l. ap (λ t. not (eqb x c) && t) (is-on x r l (low r g)));
+    same-busy = λ r g. some-any _ _ clients (λ x l. is-on x r l (low r g));
+    same-stale = λ c r l o. ap not (h .caught-is c r l (low r (o .0)) ∙ D .same-caughtUp c r o) ∙ Bool·not-not (Day.stale y c r);
     same-full = rw (h .updates-is, D .same-updates);
     same-left = rw (h .given-is, D .same-revisions);
     same-joinable = joinable-is;
