@@ -1,5 +1,4 @@
 -- 01, "Edges of a race day", on the cells, by computation: which steps pass, and what is listed, as on the day.
-use Prim.Native.Nat.{ℕ}
 use mathlib.Core.Bool.{Bool, cond}
 use mathlib.Core.Path.{_≡_, refl}
 use mathlib.Core.List.{List, [], _∷_}

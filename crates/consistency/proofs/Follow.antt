@@ -39,7 +39,7 @@ cells-follow ss P = kept-follows (run ss) (machineFrom freshMachine ss) (cellsAf
 stored-after : (y : Day) (m : Machine) (k : Cells) (d : List ℕ) (s : Step) → accepted y s ≡ true → Kept y m k → Stored d k → Stored (stepBytes d s) (stepCells k s)
 stored-after y m k d s e K S =
     let e′ = S .cells-are in
-    subst (λ z. Stored (stepBytes d s) (stepCells z s)) e′ (step-stored y m d (subst (Kept y m) (sym e′) K) (S .size-is) (S .unread) s e)
+    subst (λ z. Stored (stepBytes d s) (stepCells z s)) e′ (step-stored y m d (subst (Kept y m) (sym e′) K) (S .size-is) (S .hidden) s e)
 
 stored-from : (ss : List Step) (y : Day) (m : Machine) (k : Cells) (d : List ℕ) → AcceptedFrom y ss → Kept y m k → Stored d k → Stored (bytesFrom d ss) (cellsFrom k ss)
 unfolding bytesFrom cellsFrom
@@ -59,7 +59,7 @@ bytes-follow ss P =
     let y = run ss in
     let m = machineFrom freshMachine ss in
     let K = subst (Kept y m) (sym (S .cells-are)) (kept-run ss P) in
-    record { size = S .size-is; ranged = ranged y m (bytesAfter ss) K (S .unread); follow = kept-follows y m (cells (bytesAfter ss)) K }
+    record { size = S .size-is; ranged = ranged y m (bytesAfter ss) K (S .hidden); follow = kept-follows y m (cells (bytesAfter ss)) K }
 
 pub checks-follow : ChecksFollowDays
 checks-follow ss P = passing (run ss) (cells (bytesAfter ss)) (bytes-follow ss P .follow)

@@ -39,7 +39,8 @@ pub record CellsFollow (y : Day) (k : Cells) : Type 0 where
   -- 9 "4,096 updates taken", 10 "64 boxes started"
   pub same-full : Asked.logFull k ≡ Checks.logFull y
   pub same-left : Asked.noneLeft k ≡ Checks.noneLeft y
-  -- 11 "joinee is box 0, is the joiner, its fork isn't seen, or its start is"
+  -- 11 "joinee is box 0, is the joiner, its fork isn't seen, or its start is": a seen mark alone is this rule
+  pub same-seen : (a b : ℕ) → IsOut y a → IsOut y b → k .seen a b ≡ not (Checks.notJoinable y a b)
   pub same-joinable : (a b : ℕ) → IsOut y a → IsOut y b → Asked.joinable k a b ≡ not (Checks.notJoinable y a b)
   -- "Values when taken: update, the count of updates taken before it; .. fork, the new number"
   pub same-updates : k .updates ≡ y .updates

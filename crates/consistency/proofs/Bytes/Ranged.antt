@@ -20,7 +20,7 @@ use Rattle.cells.specs.Range.{bytesBelow, countersIn, inRange, signature, words
 use Rattle.consistency.proofs.Cells.Bounded.{Bounded, cond-all}
 use Rattle.consistency.proofs.Cells.Kept.{Kept, some-given}
 use Rattle.consistency.proofs.Cells.Represents.{Represents, openCell}
-use Rattle.consistency.proofs.Bytes.Stored.{Unread}
+use Rattle.consistency.proofs.Bytes.Stored.{HiddenIn}
 
 both : (a b : Bool) → a ≡ true → b ≡ true → (a && b) ≡ true
 both a b p q = rw (p, q)
@@ -42,7 +42,7 @@ byte-in [] i h = absurd (omega arith)
 byte-in (x ∷ l) zero h = List·Memᴰ·head refl
 byte-in (x ∷ l) (suc i) h = List·Memᴰ·tail (byte-in l i (omega arith))
 
-module _ (y : Day) (m : Machine) (d : List ℕ) (K : Kept y m (cells d)) (u : Unread (split d)) where
+module _ (y : Day) (m : Machine) (d : List ℕ) (K : Kept y m (cells d)) (u : HiddenIn (split d)) where
   abbrev p : Parts
   p = split d
 
@@ -95,4 +95,4 @@ module _ (y : Day) (m : Machine) (d : List ℕ) (K : Kept y m (cells d)) (u : Un
         bytes-low clients 65 (p openedPart) opened-low,
         counters-in,
       )
-      (all-below (λ i. eqb (byte (p signaturePart) i) (byte signature i)) 8 (λ i l. eq-eqb (byte (p signaturePart) i) (byte signature i) (ap (λ t. byte t i) (u .signature-is))))
+      (all-below (λ i. eqb (byte (p signaturePart) i) (byte signature i)) 8 (λ i l. eq-eqb (byte (p signaturePart) i) (byte signature i) (ap (λ t. byte t i) (u .signed-so))))

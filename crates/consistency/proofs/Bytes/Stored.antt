@@ -30,35 +30,38 @@ use Rattle.consistency.specs.Reached.{stepBytes, stepCells}
 use Rattle.consistency.proofs.Cells.Bounded.{cond-all}
 use Rattle.consistency.proofs.Cells.Kept.{Kept, log-room, number-left, out-low, some-given}
 
--- what is in range, and no cell that a step reads shows it
-pub record Unread (p : Parts) : Type 0 where
-  pub used-low : (r : ℕ) → r < revisions → byte (p usedPart) r < 2
-  pub queue-low : (i : ℕ) → i < revisions → byte (p queuePart) i < 64
-  pub signature-is : p signaturePart ≡ signature
+-- ranges that the decoded cells do not show: whether a row is in use, the queue, the signature
+pub record Hidden (used queue sign : List ℕ) : Type 0 where
+  pub used-low : (r : ℕ) → r < revisions → byte used r < 2
+  pub queue-low : (i : ℕ) → i < revisions → byte queue i < revisions
+  pub signed-so : sign ≡ signature
+
+abbrev pub HiddenIn : Parts → Type 0
+HiddenIn p = Hidden (p usedPart) (p queuePart) (p signaturePart)
 
 -- bytes that keep cells k
 pub record Stored (d : List ℕ) (k : Cells) : Type 0 where
   pub size-is : length d ≡ bytes
   pub cells-are : cells d ≡ k
-  pub unread : Unread (split d)
+  pub hidden : HiddenIn (split d)
 
-stored : (p : Parts) (k : Cells) → Sized p → decode p ≡ k → Unread p → Stored (glue p) k
+stored : (p : Parts) (k : Cells) → Sized p → decode p ≡ k → HiddenIn p → Stored (glue p) k
 unfolding cells
-stored p k h e u = let s = split-glue p h in record { size-is = glue-length p h; cells-are = ap decode s ∙ e; unread = subst Unread (sym s) u }
+stored p k h e u = let s = split-glue p h in record { size-is = glue-length p h; cells-are = ap decode s ∙ e; hidden = subst HiddenIn (sym s) u }
 
 pub fresh-stored : Stored freshBytes freshCells
 unfolding freshBytes size
 fresh-stored = stored freshParts freshCells fresh-sized fresh-follows (record {
   used-low = λ r l. rw (getD-replicate {A = ℕ} 64 r 0 0 l) (omega arith);
   queue-low = λ i l. rw (getD-replicate {A = ℕ} 64 i 0 0 l) (omega arith);
-  signature-is = refl;
+  signed-so = refl;
 })
 
 -- a fork writes whether the new revision's row is in use
 used-set : (l : List ℕ) (c v : ℕ) → ((r : ℕ) → r < revisions → byte l r < 2) → v < 2 → c < length l → (r : ℕ) → r < revisions → byte (set l c v) r < 2
 used-set l c v h g n r rl = rw (getD-changed l c v 0 r n) (cases (eqb r c) (λ e. rw e g) (λ e. rw e (h r rl)))
 
-module _ (y : Day) (m : Machine) (d : List ℕ) (K : Kept y m (cells d)) (size-is : length d ≡ bytes) (u : Unread (split d)) where
+module _ (y : Day) (m : Machine) (d : List ℕ) (K : Kept y m (cells d)) (size-is : length d ≡ bytes) (u : HiddenIn (split d)) where
   abbrev p : Parts
   p = split d
 
@@ -75,16 +78,13 @@ module _ (y : Day) (m : Machine) (d : List ℕ) (K : Kept y m (cells d)) (size-i
       let E = can-enter y c r true e in
       let cl = client c (E .client-ok) in
       let rl = out-low y m (cells d) K r (E .out) in
-      stored (updateParts p c r) _ (update-sized sized c r cl) (update-follows p sized c r cl rl (log-room y m (cells d) K c r e) (K .bounded .last-low r))
-      (record { used-low = u .used-low; queue-low = u .queue-low; signature-is = u .signature-is })
+      stored (updateParts p c r) _ (update-sized sized c r cl) (update-follows p sized c r cl rl (log-room y m (cells d) K c r e) (K .bounded .last-low r)) u
   step-stored (Event c r false) e =
       let E = can-enter y c r false e in
       let cl = client c (E .client-ok) in
-      stored (queryParts p c r) _ (query-sized sized c r cl) (query-follows p sized c r cl (out-low y m (cells d) K r (E .out)))
-      (record { used-low = u .used-low; queue-low = u .queue-low; signature-is = u .signature-is })
+      stored (queryParts p c r) _ (query-sized sized c r cl) (query-follows p sized c r cl (out-low y m (cells d) K r (E .out))) u
   step-stored (Yield c) e =
-      stored (closeParts p c) _ (close-sized sized c) (close-follows p sized c main (client c (can-yield y c e)) (omega arith))
-      (record { used-low = u .used-low; queue-low = u .queue-low; signature-is = u .signature-is })
+      stored (closeParts p c) _ (close-sized sized c) (close-follows p sized c main (client c (can-yield y c e)) (omega arith)) u
   step-stored (Fork r) e =
       let rl = out-low y m (cells d) K r (can-fork y r e .out) in
       let n = cells d .given in
@@ -92,9 +92,8 @@ module _ (y : Day) (m : Machine) (d : List ℕ) (K : Kept y m (cells d)) (size-i
       let pos = some-given y m (cells d) K in
       let l = sized .of usedPart in
       stored (forkParts p r n) _ (fork-sized sized r n nl) (fork-follows p sized r n rl nl (λ z. omega arith))
-      (record { used-low = used-set (p usedPart) n (cond (eqb r main) 0 1) (u .used-low) (cond-all (λ v. v < 2) (eqb r main) 0 1 (omega arith) (omega arith)) (omega arith); queue-low = u .queue-low; signature-is = u .signature-is })
+      (record { used-low = used-set (p usedPart) n (cond (eqb r main) 0 1) (u .used-low) (cond-all (λ v. v < 2) (eqb r main) 0 1 (omega arith) (omega arith)) (omega arith); queue-low = u .queue-low; signed-so = u .signed-so })
   step-stored (Join a b) e =
       let j = can-join y a b e in
       stored (joinParts p a b) _ (join-sized sized a b)
-      (join-follows p sized a b (out-low y m (cells d) K a (j .out-a)) (out-low y m (cells d) K b (j .out-b)) (K .bounded .first-low b) (K .bounded .last-low a))
-      (record { used-low = u .used-low; queue-low = u .queue-low; signature-is = u .signature-is })
+      (join-follows p sized a b (out-low y m (cells d) K a (j .out-a)) (out-low y m (cells d) K b (j .out-b)) (K .bounded .first-low b) (K .bounded .last-low a)) u

@@ -1,6 +1,6 @@
 -- Cells that stand for the day's machine answer as the day does.
 use Prim.Native.Nat.{_<_, suc, zero, ℕ}
-use mathlib.Core.Bool.{Bool, Bool·not-not, _&&_, _||_, false, not, or-comm, true}
+use mathlib.Core.Bool.{Bool, Bool·not-not, _&&_, not, or-comm}
 use mathlib.Core.Path.{_∙_, _≡_, ap, refl, sym}
 use mathlib.Core.Option.{Option, none, some}
 use native.Mathlib.Omega.{arith}
@@ -86,6 +86,7 @@ module _ (y : Day) (m : Machine) (k : Cells) (D : Follows y m) (L : Laid m) (h :
     same-stale = λ c r l o. ap not (h .caught-is c r l (low r (o .0)) ∙ D .same-caughtUp c r o) ∙ Bool·not-not (Day.stale y c r);
     same-full = rw (h .updates-is, D .same-updates);
     same-left = rw (h .given-is, D .same-revisions);
+    same-seen = λ a b oa ob. h .seen-is a b ∙ D .same-joinable a b oa ob;
     same-joinable = joinable-is;
     same-updates = h .updates-is ∙ D .same-updates;
     same-number = h .given-is ∙ D .same-revisions;

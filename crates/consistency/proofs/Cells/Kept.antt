@@ -1,8 +1,8 @@
 -- What is carried along a run, and that each accepted step keeps it.
 use Prim.Native.Nat.{_<_, ℕ}
-use mathlib.Core.Bool.{false, not, true}
+use mathlib.Core.Bool.{Bool, false, not, true}
 use mathlib.Core.Path.{_≡_, refl, sym}
-use mathlib.Core.List.{List·Memᴰ·head}
+use mathlib.Core.List.{List, List·Memᴰ·head, [], _++_, _∷_}
 use native.Mathlib.Omega.{arith}
 use lib.Dec.{eqb}
 use lib.ListN.{length-replicate}
@@ -14,7 +14,7 @@ use Rattle.diagram.specs.Sizes.{revisionLimit, updateLimit}
 use Rattle.diagram.specs.Day.{Day, IsOut, fresh}
 use Rattle.diagram.specs.Checks.{busy, busyByOther, logFull, noneLeft, openElsewhere, stale, strange}
 use Rattle.diagram.specs.Machine.{Machine, enterOn, freshMachine, joinOn, machineAfter}
-use Rattle.diagram.specs.Steps.{Event, Fork, Join, Step, Yield, accepted, after, notGiven}
+use Rattle.diagram.specs.Steps.{Event, Fork, Join, Step, Yield, accepted, after, noneOf, notGiven}
 use Rattle.diagram.proofs.Days.Moves.{can-enter, can-fork, can-join}
 use Rattle.diagram.proofs.Follow.Agrees.{Agree, agree-fresh}
 use Rattle.diagram.proofs.Follow.Shown.{follows}
@@ -60,6 +60,11 @@ fresh-represents = record {
 pub fresh-kept : Kept fresh freshMachine freshCells
 fresh-kept = record { agree = agree-fresh; represents = fresh-represents; bounded = fresh-bounded }
 
+-- where no check has found anything, the last has not
+last-quiet : (bs : List Bool) (b : Bool) → noneOf (bs ++ (b ∷ [])) ≡ true → b ≡ false
+last-quiet [] b e = not-true b (and-true (not b) true e .0)
+last-quiet (x ∷ bs) b e = last-quiet bs b (and-true (not x) (noneOf (bs ++ (b ∷ []))) e .1)
+
 module _ (y : Day) (m : Machine) (k : Cells) (K : Kept y m k) where
   abbrev A : Agree y m
   A = K .agree
@@ -83,23 +88,14 @@ module _ (y : Day) (m : Machine) (k : Cells) (K : Kept y m k) where
   pub log-room : (c r : ℕ) → accepted y (Event c r true) ≡ true → k .updates < updates
   unfolding accepted logFull updateLimit
   log-room c r e =
-      let e3 = and-true (not (strange c)) _ e .1 in
-      let e4 = and-true (not (notGiven y r)) _ e3 .1 in
-      let e6 = and-true (not (y .joined r)) _ e4 .1 in
-      let e7 = and-true (not (openElsewhere y c r)) _ e6 .1 in
-      let e8 = and-true (not (busyByOther y c r)) _ e7 .1 in
-      let e9 = and-true (not (stale y c r)) _ e8 .1 in
-      let a = ltb-true (y .updates) updates (not-false _ (not-true (logFull y) (and-true (not (logFull y)) true e9 .0))) in
-      rw (h .updates-is, A .same-updates) a
+      let room = last-quiet (strange c ∷ notGiven y r ∷ y .joined r ∷ openElsewhere y c r ∷ busyByOther y c r ∷ stale y c r ∷ []) (logFull y) e in
+      rw (h .updates-is, A .same-updates) (ltb-true (y .updates) updates (not-false _ room))
 
   pub number-left : (r : ℕ) → accepted y (Fork r) ≡ true → k .given < revisions
   unfolding accepted noneLeft revisionLimit
   number-left r e =
-      let e4 = and-true (not (notGiven y r)) _ e .1 in
-      let e7 = and-true (not (y .joined r)) _ e4 .1 in
-      let e10 = and-true (not (busy y r)) _ e7 .1 in
-      let a = ltb-true (y .revisions) revisions (not-false _ (not-true (noneLeft y) (and-true (not (noneLeft y)) true e10 .0))) in
-      rw (h .given-is, A .same-revisions) a
+      let left = last-quiet (notGiven y r ∷ y .joined r ∷ busy y r ∷ []) (noneLeft y) e in
+      rw (h .given-is, A .same-revisions) (ltb-true (y .revisions) revisions (not-false _ left))
 
   represents-after : (s : Step) → accepted y s ≡ true → Represents (stepCells k s) (machineAfter m s)
   unfolding stepCells machineAfter
