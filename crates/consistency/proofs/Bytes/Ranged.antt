@@ -3,12 +3,13 @@ use Prim.Native.Nat.{_<_, suc, zero, ℕ}
 use mathlib.Core.Bool.{Bool, _&&_, true}
 use mathlib.Core.Path.{_≡_, ap, refl}
 use mathlib.Core.Option.{Option, none, some}
-use mathlib.Core.List.{List, List·Memᴰ·head, List·Memᴰ·not-nil, List·Memᴰ·tail, [], _∷_}
+use mathlib.Core.List.{List, List·Memᴰ·not-nil}
 use native.Mathlib.Omega.{arith}
 use lib.Dec.{eqb, ltb}
-use lib.ListN.{length, take}
+use lib.ListN.{take}
 use borrow.Author.Tests.{eq-eqb, lt-ltb}
 use Rattle.lists.specs.Lists.{_∈_}
+use Rattle.lists.proofs.Places.{getD-in}
 use Rattle.diagram.specs.Day.{Day}
 use Rattle.diagram.specs.Machine.{Machine}
 use Rattle.cells.specs.Sizes.{clients, main, revisions}
@@ -35,12 +36,6 @@ bytes-low n limit t h = all-below (λ i. ltb (byte t i) limit) n (λ i l. lt-ltb
 
 words-low : (n limit : ℕ) (t : List ℕ) → ((i : ℕ) → i < n → word t i < limit) → wordsBelow n limit t ≡ true
 words-low n limit t h = all-below (λ i. ltb (word t i) limit) n (λ i l. lt-ltb (word t i) limit (h i l))
-
--- a list's element is in the list
-byte-in : (l : List ℕ) (i : ℕ) → i < length l → byte l i ∈ l
-byte-in [] i h = absurd (omega arith)
-byte-in (x ∷ l) zero h = List·Memᴰ·head refl
-byte-in (x ∷ l) (suc i) h = List·Memᴰ·tail (byte-in l i (omega arith))
 
 module _ (y : Day) (m : Machine) (d : List ℕ) (K : Kept y m (cells d)) (u : HiddenIn (split d)) where
   abbrev p : Parts
@@ -77,7 +72,13 @@ module _ (y : Day) (m : Machine) (d : List ℕ) (K : Kept y m (cells d)) (u : Hi
       let c = h .out-few in
       let e = h .given-few in
       let f = some-given y m (cells d) K in
-      rw (lt-ltb (word (p countersPart) 0) 4097 (omega arith), lt-ltb 0 (byte (p countersPart) 2) b, lt-ltb (byte (p countersPart) 2) 65 (omega arith), lt-ltb 0 (byte (p countersPart) 3) f, lt-ltb (byte (p countersPart) 3) 65 (omega arith))
+      rw (
+        lt-ltb (word (p countersPart) 0) 4097 (omega arith),
+        lt-ltb 0 (byte (p countersPart) 2) b,
+        lt-ltb (byte (p countersPart) 2) 65 (omega arith),
+        lt-ltb 0 (byte (p countersPart) 3) f,
+        lt-ltb (byte (p countersPart) 3) 65 (omega arith),
+      )
 
   pub ranged : inRange d ≡ true
   unfolding inRange cells
@@ -90,7 +91,7 @@ module _ (y : Day) (m : Machine) (d : List ℕ) (K : Kept y m (cells d)) (u : Hi
         words-low revisions 4096 (p firstPart) (λ r l. B .first-low r),
         words-low revisions 4097 (p countPart) (λ r l. let a = B .count-few r in omega arith),
         words-low revisions 4097 (p basePart) (λ r l. let a = B .base-few r in omega arith),
-        bytes-low revisions 64 (p layoutPart) (λ i l. B .places-low (byte (p layoutPart) i) (byte-in (p layoutPart) i (omega arith))),
+        bytes-low revisions 64 (p layoutPart) (λ i l. B .places-low (byte (p layoutPart) i) (getD-in (p layoutPart) i 0 (omega arith))),
         bytes-low revisions 64 (p queuePart) (u .queue-low),
         bytes-low clients 65 (p openedPart) opened-low,
         counters-in,

@@ -28,7 +28,7 @@ use Rattle.cells.proofs.Sized.{close-sized, fork-sized, fresh-sized, join-sized
 use Rattle.cells.proofs.Tables.{getD-changed}
 use Rattle.consistency.specs.Reached.{stepBytes, stepCells}
 use Rattle.consistency.proofs.Cells.Bounded.{cond-all}
-use Rattle.consistency.proofs.Cells.Kept.{Kept, log-room, number-left, out-low, some-given}
+use Rattle.consistency.proofs.Cells.Kept.{Kept, log-room, low, number-left, some-given}
 
 -- ranges that the decoded cells do not show: whether a row is in use, the queue, the signature
 pub record Hidden (used queue sign : List ℕ) : Type 0 where
@@ -77,16 +77,16 @@ module _ (y : Day) (m : Machine) (d : List ℕ) (K : Kept y m (cells d)) (size-i
   step-stored (Event c r true) e =
       let E = can-enter y c r true e in
       let cl = client c (E .client-ok) in
-      let rl = out-low y m (cells d) K r (E .out) in
+      let rl = low y m (cells d) K r (E .out) in
       stored (updateParts p c r) _ (update-sized sized c r cl) (update-follows p sized c r cl rl (log-room y m (cells d) K c r e) (K .bounded .last-low r)) u
   step-stored (Event c r false) e =
       let E = can-enter y c r false e in
       let cl = client c (E .client-ok) in
-      stored (queryParts p c r) _ (query-sized sized c r cl) (query-follows p sized c r cl (out-low y m (cells d) K r (E .out))) u
+      stored (queryParts p c r) _ (query-sized sized c r cl) (query-follows p sized c r cl (low y m (cells d) K r (E .out))) u
   step-stored (Yield c) e =
       stored (closeParts p c) _ (close-sized sized c) (close-follows p sized c main (client c (can-yield y c e)) (omega arith)) u
   step-stored (Fork r) e =
-      let rl = out-low y m (cells d) K r (can-fork y r e .out) in
+      let rl = low y m (cells d) K r (can-fork y r e .out) in
       let n = cells d .given in
       let nl = number-left y m (cells d) K r e in
       let pos = some-given y m (cells d) K in
@@ -96,4 +96,4 @@ module _ (y : Day) (m : Machine) (d : List ℕ) (K : Kept y m (cells d)) (size-i
   step-stored (Join a b) e =
       let j = can-join y a b e in
       stored (joinParts p a b) _ (join-sized sized a b)
-      (join-follows p sized a b (out-low y m (cells d) K a (j .out-a)) (out-low y m (cells d) K b (j .out-b)) (K .bounded .first-low b) (K .bounded .last-low a)) u
+      (join-follows p sized a b (low y m (cells d) K a (j .out-a)) (low y m (cells d) K b (j .out-b)) (K .bounded .first-low b) (K .bounded .last-low a)) u

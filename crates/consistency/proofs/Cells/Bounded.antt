@@ -1,15 +1,14 @@
 -- Every cell that a step writes stays in its range.
-use Prim.Native.Nat.{_+_, _≤_, _<_, suc, zero, ℕ}
+use Prim.Native.Nat.{_+_, _≤_, _<_, ℕ}
 use mathlib.Core.Bool.{Bool, cond, false, true}
-use mathlib.Core.Path.{_≡_, refl}
-use mathlib.Core.List.{List, List·Memᴰ·append-cases, List·Memᴰ·eq-of-singleton, List·Memᴰ·head, List·Memᴰ·not-nil, List·Memᴰ·tail, [], _++_, _∷_}
+use mathlib.Core.Path.{refl}
+use mathlib.Core.List.{List·Memᴰ·append-cases, List·Memᴰ·eq-of-singleton, [], _++_, _∷_}
 use native.Mathlib.Omega.{arith}
 use lib.Dec.{eqb}
-use lib.ListN.{replicate, take}
 use borrow.Author.Tests.{eq-eqb}
 use Rattle.lists.specs.Lists.{_∈_, changed, insert, remove}
 use Rattle.lists.proofs.Cases.{cases, either}
-use Rattle.lists.proofs.Places.{insert-back, remove-back}
+use Rattle.lists.proofs.Places.{insert-back, remove-back, replicate-in, take-in}
 use Rattle.diagram.specs.Machine.{Machine}
 use Rattle.cells.specs.Sizes.{main, revisions, updates}
 use Rattle.cells.specs.Cells.{Cells}
@@ -32,17 +31,6 @@ pub cond-all : {A : Type 0} (P : A → Type 0) (b : Bool) (x y : A) → P x → 
 cond-all P true x y h g = h
 cond-all P false x y h g = g
 
-in-take : (x n : ℕ) (l : List ℕ) → x ∈ take n l → x ∈ l
-in-take x zero l i = absurd (List·Memᴰ·not-nil i)
-in-take x (suc n) [] i = i
-in-take x (suc n) (z ∷ l) (List·Memᴰ·head e) = List·Memᴰ·head e
-in-take x (suc n) (z ∷ l) (List·Memᴰ·tail i) = List·Memᴰ·tail (in-take x n l i)
-
-in-replicate : (x n a : ℕ) → x ∈ replicate n a → x ≡ a
-in-replicate x zero a i = absurd (List·Memᴰ·not-nil i)
-in-replicate x (suc n) a (List·Memᴰ·head e) = e
-in-replicate x (suc n) a (List·Memᴰ·tail i) = in-replicate x n a i
-
 -- the own count of a revision out is no more than the log
 out-count : (k : Cells) (m : Machine) → Represents k m → Laid m → (r : ℕ) → r ∈ m .layout → k .count r ≤ updates
 out-count k m h L r i =
@@ -58,7 +46,7 @@ fresh-bounded = record {
   first-low = λ r. omega arith;
   count-few = λ r. omega arith;
   base-few = λ r. omega arith;
-  places-low = λ x i. let e = in-replicate x revisions 0 i in omega arith;
+  places-low = λ x i. let e = replicate-in x revisions 0 i in omega arith;
 }
 
 module _ (k : Cells) (B : Bounded k) where
@@ -74,7 +62,7 @@ module _ (k : Cells) (B : Bounded k) where
     first-low = B .first-low;
     count-few = changed-all (λ n. n ≤ updates) (k .count) c 0 (B .count-few) (omega arith);
     base-few = changed-all (λ n. n ≤ updates) (k .base) c _ (B .base-few) (cond-all (λ n. n ≤ updates) (eqb p main) (k .count main) (k .base p) (B .count-few main) (B .base-few p));
-    places-low = λ x i. either (insert-back p c x (k .layout) (in-take x revisions (insert p c (k .layout)) i)) (λ e. omega arith) (B .places-low x);
+    places-low = λ x i. either (insert-back p c x (k .layout) (take-in x revisions (insert p c (k .layout)) i)) (λ e. omega arith) (B .places-low x);
   }
 
   -- of an update and a join, the cells after it stand for a machine whose lists have no more than the log
@@ -96,5 +84,7 @@ module _ (k : Cells) (B : Bounded k) where
           (changed-all (λ n. n < updates) (k .first) a _ (B .first-low) (cond-all (λ n. n < updates) (eqb (k .count a) 0) (k .first b) (k .first a) (B .first-low b) (B .first-low a)));
       count-few = changed-all (λ n. n ≤ updates) (k .count) a (k .count a + k .count b) (B .count-few) (rw (eq-eqb a a refl) at (out-count (joinCells k a b) m h L a i));
       base-few = B .base-few;
-      places-low = λ x j. either (List·Memᴰ·append-cases (remove b (k .layout)) (in-take x revisions (remove b (k .layout) ++ (0 ∷ [])) j)) (λ o. B .places-low x (remove-back b x (k .layout) o)) (λ o. let e = List·Memᴰ·eq-of-singleton o in omega arith);
+      places-low = λ x j. either (List·Memᴰ·append-cases (remove b (k .layout)) (take-in x revisions (remove b (k .layout) ++ (0 ∷ [])) j))
+          (λ o. B .places-low x (remove-back b x (k .layout) o))
+          (λ o. let e = List·Memᴰ·eq-of-singleton o in omega arith);
     }

@@ -1,16 +1,15 @@
 -- An event and a yield: the cells follow.
-use Prim.Native.Nat.{_≤_, _<_, suc, ℕ}
+use Prim.Native.Nat.{_<_, suc, ℕ}
 use mathlib.Core.Bool.{cond, false, true}
 use mathlib.Core.Path.{_∙_, _≡_, ap, refl, sym}
 use mathlib.Core.Option.{Option, none, some}
-use mathlib.Core.List.{List, [], _++_, _∷_, append-nil, head-eq-of-cons-eq}
+use mathlib.Core.List.{List, [], _++_, _∷_, head-eq-of-cons-eq}
 use native.Mathlib.Omega.{arith}
 use lib.Dec.{eqb}
-use lib.ListN.{length, length-append, take}
-use lib.Seq.{take-append-le}
-use borrow.Author.Tests.{eq-eqb, eqb-true, ne-eqb}
+use borrow.Author.Tests.{eq-eqb}
 use Rattle.lists.specs.Lists.{_∈_, changed}
 use Rattle.lists.proofs.Cases.{cases}
+use Rattle.lists.proofs.Grown.{first-append, grown-longer, grown-none, grown-take}
 use Rattle.diagram.specs.Machine.{Machine, enterOn, yieldOn}
 use Rattle.cells.specs.Sizes.{clients, main, revisions, updates}
 use Rattle.cells.specs.Cells.{Cells, chain, own}
@@ -18,20 +17,6 @@ use Rattle.cells.specs.CellSteps.{closeCells, queryCells, updateCells}
 use Rattle.cells.proofs.Chain.{kept-chain}
 use Rattle.consistency.proofs.Cells.Laid.{Laid}
 use Rattle.consistency.proofs.Cells.Represents.{Represents, count-is, openCell}
-
--- a list that grows at its end keeps its front
-module _ (f : ℕ → List ℕ) (r : ℕ) (w : List ℕ) where
-  pub grown-take : (n x : ℕ) → n ≤ length (f x) → take n (changed f r (f r ++ w) x) ≡ take n (f x)
-  grown-take n x h = cases (eqb x r) (λ e. rw (e, ← (eqb-true x r e)) (take-append-le n (f x) w h)) (λ e. rw e)
-
-  pub grown-longer : (x : ℕ) → length (f x) ≤ length (changed f r (f r ++ w) x)
-  grown-longer x = cases (eqb x r) (λ e. rw (e, ← (eqb-true x r e), length-append) (omega arith)) (λ e. rw e (omega arith))
-
--- the first of two lists in a row
-pub head-append : (x y : List ℕ) (fx fy : ℕ) → ((f : ℕ) (l : List ℕ) → x ≡ f ∷ l → fx ≡ f) → ((f : ℕ) (l : List ℕ) → y ≡ f ∷ l → fy ≡ f)
-    → (f : ℕ) (l : List ℕ) → x ++ y ≡ f ∷ l → cond (eqb (length x) 0) fy fx ≡ f
-head-append [] y fx fy hx hy f l e = hy f l e
-head-append (z ∷ x) y fx fy hx hy f l e = rw (ne-eqb (suc (length x)) 0 (λ q. omega arith)) (hx z x refl ∙ head-eq-of-cons-eq e)
 
 module _ (k : Cells) (m : Machine) (h : Represents k m) where
   -- who has caught up, and whose transaction is open
@@ -70,10 +55,6 @@ module _ (k : Cells) (m : Machine) (h : Represents k m) where
     on-r : (x : ℕ) → some r ≡ some x → x < revisions
     on-r x e = let q : r ≡ x = cc in omega arith
 
-    -- a query's own list is longer by nothing
-    same-own : (x : ℕ) → changed (m .own) r (m .own r ++ []) x ≡ m .own x
-    same-own x = cases (eqb x r) (λ e. rw (e, append-nil, eqb-true x r e)) (λ e. rw e)
-
     pub queries : Represents (queryCells k c r) (enterOn m c r false)
     queries = record {
       layout-is = h .layout-is;
@@ -83,10 +64,10 @@ module _ (k : Cells) (m : Machine) (h : Represents k m) where
       given-few = h .given-few;
       state-is = h .state-is;
       main-out = h .main-out;
-      own-is = λ x i. h .own-is x i ∙ sym (same-own x);
-      first-is = λ x i f l e. h .first-is x i f l (sym (same-own x) ∙ e);
-      inherited-is = λ x i u. rw (same-own main) (h .inherited-is x i u);
-      base-few = λ x i. rw (same-own main) (h .base-few x i);
+      own-is = λ x i. h .own-is x i ∙ sym (grown-none (m .own) r x);
+      first-is = λ x i f l e. h .first-is x i f l (sym (grown-none (m .own) r x) ∙ e);
+      inherited-is = λ x i u. rw (grown-none (m .own) r main) (h .inherited-is x i u);
+      base-few = λ x i. rw (grown-none (m .own) r main) (h .base-few x i);
       main-inherits = h .main-inherits;
       seen-is = h .seen-is;
       caught-is = event-caught c r;
@@ -113,7 +94,7 @@ module _ (k : Cells) (m : Machine) (h : Represents k m) where
       update-first x j f l =
           rw (h .updates-is)
           (cases (eqb x r)
-          (λ e. rw (e, count-is k m h r i) (head-append (m .own r) (m .updates ∷ []) (k .first r) (m .updates) (h .first-is r i) (λ g w q. head-eq-of-cons-eq q) f l))
+          (λ e. rw (e, count-is k m h r i) (first-append (m .own r) (m .updates ∷ []) (k .first r) (m .updates) (h .first-is r i) (λ g w q. head-eq-of-cons-eq q) f l))
           (λ e. rw e (h .first-is x j f l)))
 
       pub updates-on : Represents (updateCells k c r) (enterOn m c r true)

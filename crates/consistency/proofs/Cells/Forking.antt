@@ -8,7 +8,7 @@ use lib.Dec.{eqb, ltb}
 use lib.ListN.{length, take}
 use lib.Seq.{length-take-le, take-all}
 use borrow.Author.Tests.{eq-eqb, eqb-false, eqb-true, le-ltb, lt-ltb, ltb-false, ltb-true, ne-eqb}
-use Rattle.lists.specs.Lists.{_∈_, changed, insert, member}
+use Rattle.lists.specs.Lists.{_∈_, insert, member}
 use Rattle.lists.proofs.Cases.{cases, either, or-assoc, or-cases, or-nil, or-right}
 use Rattle.lists.proofs.Keep.{member-++, member-in}
 use Rattle.lists.proofs.Places.{insert-back, insert-old}
@@ -18,7 +18,7 @@ use Rattle.cells.specs.Cells.{Cells, chain, marked, own}
 use Rattle.cells.specs.CellSteps.{forkCells, forkRow}
 use Rattle.cells.proofs.Places.{fork-outs, insert-length}
 use Rattle.consistency.proofs.Cells.Laid.{Laid}
-use Rattle.consistency.proofs.Cells.Represents.{Represents, count-is, stateCell}
+use Rattle.consistency.proofs.Cells.Represents.{Represents, count-is, out-low, stateCell}
 
 -- a test that implies a bound
 bounded : (b : Bool) (v n : ℕ) → (b ≡ true → v < n) → (ltb v n && b) ≡ b
@@ -85,13 +85,14 @@ module _ (k : Cells) (m : Machine) (h : Represents k m) (L : Laid m) (p : ℕ) (
   from-other v =
       rw (member-++, h .inherited-is p i v, or-assoc, h .own-is p i, bounded (marked k p v || member v (m .own p)) v updates (low-mark v))
 
-  new-inherited : (v : ℕ) → member v (m .inherited p ++ m .own p) ≡ (member v (take (cond (eqb p main) (k .count main) (k .base p)) (m .own main)) || (cond (eqb p main) false true && cond (eqb p main) (k .row) (changed (k .row) c (forkRow k p)) c v))
+  new-inherited : (v : ℕ)
+      → member v (m .inherited p ++ m .own p) ≡ (member v (take (cond (eqb p main) (k .count main) (k .base p)) (m .own main)) || (cond (eqb p main) false true && k′ .row c v))
   new-inherited v =
       cases (eqb p main)
       (λ e. rw e (from-main (eqb-true p main e) v))
       (λ e. rw (e, eq-eqb c c refl) (from-other v))
 
-  old-row : (x v : ℕ) → eqb x c ≡ false → cond (eqb p main) (k .row) (changed (k .row) c (forkRow k p)) x v ≡ k .row x v
+  old-row : (x v : ℕ) → eqb x c ≡ false → k′ .row x v ≡ k .row x v
   old-row x v e = cases (eqb p main) (λ q. rw q) (λ q. rw (q, e))
 
   fork-inherited : (x : ℕ) → x ∈ m′ .layout → (v : ℕ) → member v (m′ .inherited x) ≡ (member v (take (k′ .base x) (m′ .own main)) || marked k′ x v)
@@ -124,7 +125,7 @@ module _ (k : Cells) (m : Machine) (h : Represents k m) (L : Laid m) (p : ℕ) (
     base-few = fork-base;
     main-inherits = rw (ne-eqb main c not-main) (h .main-inherits);
     seen-is = λ x z. cases (eqb z c) (λ e. rw e) (λ e. rw e (cases (eqb x c) (λ q. rw q (h .seen-is p z)) (λ q. rw q (h .seen-is x z))));
-    caught-is = λ o x ol xl. cases (eqb x c) (λ e. rw e (let a = L .given p i in let b = h .given-is in h .caught-is o p ol (omega arith))) (λ e. rw e (h .caught-is o x ol xl));
+    caught-is = λ o x ol xl. cases (eqb x c) (λ e. rw e (h .caught-is o p ol (out-low k m h L p i))) (λ e. rw e (h .caught-is o x ol xl));
     opened-is = h .opened-is;
     opened-low = h .opened-low;
     updates-is = h .updates-is;

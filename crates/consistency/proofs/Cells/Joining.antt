@@ -11,6 +11,7 @@ use borrow.Author.Tests.{eq-eqb, eqb-true, lt-ltb, ne-eqb}
 use Rattle.lists.specs.Lists.{_∈_, remove}
 use Rattle.lists.proofs.Blocks.{flatBack-nodup, flatBack-one}
 use Rattle.lists.proofs.Cases.{cases}
+use Rattle.lists.proofs.Grown.{first-append, grown-longer, grown-take}
 use Rattle.lists.proofs.Places.{remove-back, remove-gone, remove-keep}
 use Rattle.diagram.specs.Machine.{Machine, joinOn}
 use Rattle.cells.specs.Sizes.{main, revisions}
@@ -18,9 +19,8 @@ use Rattle.cells.specs.Cells.{Cells, chain, own}
 use Rattle.cells.specs.CellSteps.{joinCells}
 use Rattle.cells.proofs.Chain.{chain-first, kept-chain, splice, walk}
 use Rattle.cells.proofs.Places.{join-outs, remove-length}
-use Rattle.consistency.proofs.Cells.Entering.{grown-longer, grown-take, head-append}
 use Rattle.consistency.proofs.Cells.Laid.{Laid}
-use Rattle.consistency.proofs.Cells.Represents.{Represents, count-is, stateCell}
+use Rattle.consistency.proofs.Cells.Represents.{Represents, count-is, out-low, stateCell}
 
 module _ (k : Cells) (m : Machine) (h : Represents k m) (L : Laid m) (a b : ℕ) (i : a ∈ m .layout) (j : b ∈ m .layout) (not-self : b ≡ a → ⊥) (not-main : b ≡ main → ⊥) where
   abbrev k′ : Cells
@@ -95,7 +95,7 @@ module _ (k : Cells) (m : Machine) (h : Represents k m) (L : Laid m) (a b : ℕ)
   join-first x o f l =
       cases (eqb (k .count b) 0)
       (λ z. rw z (cases (eqb x a) (λ q. rw (q, eqb-true x a q, b-none (eqb-true (k .count b) 0 z), append-nil) (h .first-is a i f l)) (λ q. rw q (h .first-is x (was x o) f l))))
-      (λ z. rw z (cases (eqb x a) (λ q. rw (q, count-is k m h a i) (head-append (m .own a) (m .own b) (k .first a) (k .first b) (h .first-is a i) (h .first-is b j) f l)) (λ q. rw q (h .first-is x (was x o) f l))))
+      (λ z. rw z (cases (eqb x a) (λ q. rw (q, count-is k m h a i) (first-append (m .own a) (m .own b) (k .first a) (k .first b) (h .first-is a i) (h .first-is b j) f l)) (λ q. rw q (h .first-is x (was x o) f l))))
 
   pub joins : Represents k′ m′
   joins = record {
@@ -112,7 +112,7 @@ module _ (k : Cells) (m : Machine) (h : Represents k m) (L : Laid m) (a b : ℕ)
     base-few = λ x o. let p = h .base-few x (was x o) in let q = grown-longer (m .own) a (m .own b) main in omega arith;
     main-inherits = h .main-inherits;
     seen-is = λ x z. cases (eqb x a) (λ e. rw (e, h .seen-is a z, h .seen-is b z)) (λ e. rw e (h .seen-is x z));
-    caught-is = λ o x ol xl. let al = L .given a i in let bl = L .given b j in let g = h .given-is in let f = h .given-few in cases (eqb x a) (λ e. rw (e, h .caught-is o a ol (omega arith), h .caught-is o b ol (omega arith))) (λ e. rw e (h .caught-is o x ol xl));
+    caught-is = λ o x ol xl. cases (eqb x a) (λ e. rw (e, h .caught-is o a ol (out-low k m h L a i), h .caught-is o b ol (out-low k m h L b j))) (λ e. rw e (h .caught-is o x ol xl));
     opened-is = h .opened-is;
     opened-low = h .opened-low;
     updates-is = h .updates-is;

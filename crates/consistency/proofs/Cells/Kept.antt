@@ -27,7 +27,7 @@ use Rattle.consistency.proofs.Cells.Entering.{queries, updates-on, yiel
 use Rattle.consistency.proofs.Cells.Forking.{forks}
 use Rattle.consistency.proofs.Cells.Joining.{joins}
 use Rattle.consistency.proofs.Cells.Laid.{Laid, agree-after, laid}
-use Rattle.consistency.proofs.Cells.Represents.{Represents}
+use Rattle.consistency.proofs.Cells.Represents.{Represents, out-low}
 
 pub record Kept (y : Day) (m : Machine) (k : Cells) : Type 0 where
   pub agree : Agree y m
@@ -78,8 +78,8 @@ module _ (y : Day) (m : Machine) (k : Cells) (K : Kept y m k) where
   there : (r : ℕ) → IsOut y r → r ∈ m .layout
   there r o = follows y m A .laid r o
 
-  pub out-low : (r : ℕ) → IsOut y r → r < revisions
-  out-low r o = let a = L .given r (there r o) in let b = h .given-is in let c = h .given-few in omega arith
+  pub low : (r : ℕ) → IsOut y r → r < revisions
+  low r o = out-low k m h L r (there r o)
 
   pub some-given : 0 < k .given
   some-given = let a = L .given main (h .main-out) in let b = h .given-is in omega arith
@@ -99,8 +99,8 @@ module _ (y : Day) (m : Machine) (k : Cells) (K : Kept y m k) where
 
   represents-after : (s : Step) → accepted y s ≡ true → Represents (stepCells k s) (machineAfter m s)
   unfolding stepCells machineAfter
-  represents-after (Event c r true) e = let o = can-enter y c r true e .out in updates-on k m h c r (out-low r o) L (there r o) (log-room c r e)
-  represents-after (Event c r false) e = queries k m h c r (out-low r (can-enter y c r false e .out))
+  represents-after (Event c r true) e = let o = can-enter y c r true e .out in updates-on k m h c r (low r o) L (there r o) (log-room c r e)
+  represents-after (Event c r false) e = queries k m h c r (low r (can-enter y c r false e .out))
   represents-after (Yield c) e = yields k m h c
   represents-after (Fork r) e = forks k m h L r (there r (can-fork y r e .out)) (number-left r e)
   represents-after (Join a b) e = let j = can-join y a b e in joins k m h L a b (there a (j .out-a)) (there b (j .out-b)) (j .not-self) (j .not-main)

@@ -4,6 +4,7 @@ use mathlib.Core.Bool.{_||_, cond}
 use mathlib.Core.Path.{_∙_, _≡_, ap, sym}
 use mathlib.Core.Option.{Option, none, some}
 use mathlib.Core.List.{List, [], _∷_}
+use native.Mathlib.Omega.{arith}
 use lib.Dec.{ltb}
 use lib.ListN.{length, take}
 use Rattle.lists.specs.Lists.{_∈_, member}
@@ -11,6 +12,7 @@ use Rattle.diagram.specs.Machine.{Machine}
 use Rattle.cells.specs.Sizes.{clients, closed, isJoined, isOut, main, neverGiven, revisions, updates}
 use Rattle.cells.specs.Cells.{Cells, marked, outs, own}
 use Rattle.cells.proofs.Chain.{chain-length}
+use Rattle.consistency.proofs.Cells.Laid.{Laid}
 
 -- the cell for an open transaction, and for the state of a revision
 abbrev pub openCell : Option ℕ → ℕ
@@ -47,3 +49,6 @@ pub record Represents (k : Cells) (m : Machine) : Type 0 where
 module _ (k : Cells) (m : Machine) (h : Represents k m) where
   pub count-is : (r : ℕ) → r ∈ m .layout → k .count r ≡ length (m .own r)
   count-is r i = sym (chain-length (k .link) (k .last r) (k .count r)) ∙ ap length (h .own-is r i)
+
+  pub out-low : Laid m → (r : ℕ) → r ∈ m .layout → r < revisions
+  out-low L r i = let a = L .given r i in let b = h .given-is in let c = h .given-few in omega arith
