@@ -4,7 +4,7 @@ use mathlib.Core.Path.{_≡_, refl}
 use mathlib.Core.List.{List, [], _∷_}
 use Rattle.lists.specs.Lists.{behind, insert, remove}
 use Rattle.diagram.specs.Steps.{Step}
-use Rattle.diagram.specs.Examples.{e1, e1Answers, e1List, e2, e2Answers, e3, e3Answers, e4, e4Answers, e7, e7Answers}
+use Rattle.diagram.specs.Examples.{Example, e1, e1List, examples, expected}
 use Rattle.cells.specs.Tables.{some}
 use Rattle.cells.specs.Cells.{Cells, chain}
 use Rattle.cells.specs.CellSteps.{freshCells}
@@ -24,26 +24,14 @@ abbrev answers : Cells → List Step → List Bool
 answers k [] = []
 answers k (s ∷ ss) = passes k s ∷ answers (tried k s) ss
 
-e1-is : answers freshCells e1 ≡ e1Answers
-unfolding passes stepCells chain insert remove some
-e1-is = refl
+abbrev computed : List Example → List (List Bool)
+computed [] = []
+computed (e ∷ es) = answers freshCells (e .steps) ∷ computed es
 
-e1-listed : order (triedAll freshCells e1) 0 ≡ e1List
+examples-hold : computed examples ≡ expected examples
+unfolding passes stepCells chain insert remove some
+examples-hold = refl
+
+e1-list : order (triedAll freshCells e1) 0 ≡ e1List
 unfolding passes stepCells chain insert remove some behind order
-e1-listed = refl
-
-e2-is : answers freshCells e2 ≡ e2Answers
-unfolding passes stepCells chain insert remove some
-e2-is = refl
-
-e3-is : answers freshCells e3 ≡ e3Answers
-unfolding passes stepCells chain insert remove some
-e3-is = refl
-
-e4-is : answers freshCells e4 ≡ e4Answers
-unfolding passes stepCells chain insert remove some
-e4-is = refl
-
-e7-is : answers freshCells e7 ≡ e7Answers
-unfolding passes stepCells chain insert remove some
-e7-is = refl
+e1-list = refl

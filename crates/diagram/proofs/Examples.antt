@@ -9,27 +9,15 @@ use Rattle.diagram.specs.Effects.{tabulate, view, startVertex, forkVerte
 use Rattle.diagram.specs.Day.{fresh}
 use Rattle.diagram.specs.Checks.{strange, openElsewhere, busyByOther, busy, stale, logFull, noneLeft, notJoinable}
 use Rattle.diagram.specs.Steps.{accepted, after, Event}
-use Rattle.diagram.specs.Examples.{answers, triedAll, e1, e1Answers, e1List, e2, e2Answers, e3, e3Answers, e4, e4Answers, e7, e7Answers, beforeJoin, childJoinsParent}
+use Rattle.diagram.specs.Examples.{triedAll, e1, examples, expected, computed, e1List, beforeJoin, childJoinsParent}
 
-e1-answers : answers fresh e1 ≡ e1Answers
+examples-hold : computed examples ≡ expected examples
 unfolding accepted after leads tabulate strange openElsewhere busyByOther busy stale logFull noneLeft notJoinable revisionLimit clientLimit updateLimit
-e1-answers = refl
+examples-hold = refl
 
 e1-list : view (triedAll fresh e1 .diagram) (triedAll fresh e1 .terminal 0) ≡ e1List
 unfolding accepted after leads tabulate strange openElsewhere busyByOther busy stale logFull noneLeft notJoinable revisionLimit clientLimit updateLimit
 e1-list = refl
-
-e2-answers : answers fresh e2 ≡ e2Answers
-unfolding accepted after leads tabulate strange openElsewhere busyByOther busy stale logFull noneLeft notJoinable revisionLimit clientLimit updateLimit
-e2-answers = refl
-
-e3-answers : answers fresh e3 ≡ e3Answers
-unfolding accepted after leads tabulate strange openElsewhere busyByOther busy stale logFull noneLeft notJoinable revisionLimit clientLimit updateLimit
-e3-answers = refl
-
-e4-answers : answers fresh e4 ≡ e4Answers
-unfolding accepted after leads tabulate strange openElsewhere busyByOther busy stale logFull noneLeft notJoinable revisionLimit clientLimit updateLimit
-e4-answers = refl
 
 -- the code of E4's first join is 11 and not 7, that of its second is 7
 e4-first : (busy fresh 0 ≡ false) × (notJoinable fresh 0 0 ≡ true)
@@ -39,10 +27,6 @@ e4-first = (refl, refl)
 e4-second : busy (after fresh (Event 3 0 false)) 0 ≡ true
 unfolding after busy clientLimit
 e4-second = refl
-
-e7-answers : answers fresh e7 ≡ e7Answers
-unfolding accepted after leads tabulate strange openElsewhere busyByOther busy stale logFull noneLeft notJoinable revisionLimit clientLimit updateLimit
-e7-answers = refl
 
 -- the first half of the join rule holds of the child and its parent, the second does not, and the update is there twice
 first-half : (forkVertex beforeJoin 4 ≡ some 1) × (leads beforeJoin 1 5 ≡ true)

@@ -2,10 +2,10 @@
 -- step changes nothing. Last the diagram that shows why the join rule has a second half.
 use Prim.Native.Nat.{ℕ}
 use mathlib.Core.Bool.{Bool, true, false, cond}
-use mathlib.Core.Option.{none, some}
+use mathlib.Core.Option.{some}
 use mathlib.Core.List.{List, [], _∷_}
 use Rattle.diagram.specs.Diagram.{Diagram, root, start, event, fork, join}
-use Rattle.diagram.specs.Day.{Day}
+use Rattle.diagram.specs.Day.{Day, fresh}
 use Rattle.diagram.specs.Steps.{Step, Event, Yield, Fork, Join, accepted, after}
 
 abbrev pub tried : Day → Step → Day
@@ -19,47 +19,45 @@ abbrev pub answers : Day → List Step → List Bool
 answers y [] = []
 answers y (s ∷ ss) = accepted y s ∷ answers (tried y s) ss
 
--- E1, "The day above": client 0 on the main revision, client 1 on revision 1, then the main revision joins 1
+-- steps with what they answer
+pub record Example : Type 0 where
+  pub steps : List Step
+  pub accepts : List Bool
+
+abbrev example : List Step → List Bool → Example
+example steps accepts = record { steps = steps; accepts = accepts }
+
 abbrev pub e1 : List Step
 e1 =
     Event 0 0 true ∷ Yield 0 ∷ Fork 0 ∷ Event 1 1 true ∷ Fork 1 ∷ Yield 1 ∷ Event 0 0 true ∷ Yield 0 ∷ Event 0 1 false
     ∷ Join 0 1 ∷ Event 1 0 false ∷ Event 0 1 true ∷ []
 
-abbrev pub e1Answers : List Bool
-e1Answers = true ∷ true ∷ true ∷ true ∷ false ∷ true ∷ true ∷ true ∷ false ∷ true ∷ true ∷ false ∷ []
+abbrev pub examples : List Example
+examples =
+    -- E1, "The day above"
+    example e1 (true ∷ true ∷ true ∷ true ∷ false ∷ true ∷ true ∷ true ∷ false ∷ true ∷ true ∷ false ∷ [])
+    -- E2: "Box 0 sends 1, 1 sends 2: join 0 with 2 gives 11, and so does join 2 with 1; after join 0 with 1, join 0 with 2
+    -- is taken."
+    ∷ example (Fork 0 ∷ Fork 1 ∷ Join 0 2 ∷ Join 2 1 ∷ Join 0 1 ∷ Join 0 2 ∷ []) (true ∷ true ∷ false ∷ false ∷ true ∷ true ∷ [])
+    -- E3: "Box 0 sends 1, then 2: join 1 with 2 gives 11, and after it join 2 with 1 is taken."
+    ∷ example (Fork 0 ∷ Fork 0 ∷ Join 1 2 ∷ Join 2 1 ∷ []) (true ∷ true ∷ false ∷ true ∷ [])
+    -- E4: "Join 0 with 0: 11, but 7 while box 0 is busy."
+    ∷ example (Join 0 0 ∷ Event 3 0 false ∷ Join 0 0 ∷ []) (false ∷ true ∷ false ∷ [])
+    -- E7: "Two yields in a row: both taken."
+    ∷ example (Event 3 0 true ∷ Yield 3 ∷ Yield 3 ∷ []) (true ∷ true ∷ true ∷ [])
+    ∷ []
 
--- "the query at index 10": the joinee's update 1 comes after the joiner's update 2, and not by its number
+abbrev pub expected : List Example → List (List Bool)
+expected [] = []
+expected (e ∷ es) = e .accepts ∷ expected es
+
+abbrev pub computed : List Example → List (List Bool)
+computed [] = []
+computed (e ∷ es) = answers fresh (e .steps) ∷ computed es
+
+-- E1's query at index 10: the joinee's update 1 comes after the joiner's update 2, and not by its number
 abbrev pub e1List : List ℕ
 e1List = 0 ∷ 2 ∷ 1 ∷ []
-
--- E2: "Box 0 sends 1, 1 sends 2: join 0 with 2 gives 11, and so does join 2 with 1; after join 0 with 1, join 0 with 2 is
--- taken."
-abbrev pub e2 : List Step
-e2 = Fork 0 ∷ Fork 1 ∷ Join 0 2 ∷ Join 2 1 ∷ Join 0 1 ∷ Join 0 2 ∷ []
-
-abbrev pub e2Answers : List Bool
-e2Answers = true ∷ true ∷ false ∷ false ∷ true ∷ true ∷ []
-
--- E3: "Box 0 sends 1, then 2: join 1 with 2 gives 11, and after it join 2 with 1 is taken."
-abbrev pub e3 : List Step
-e3 = Fork 0 ∷ Fork 0 ∷ Join 1 2 ∷ Join 2 1 ∷ []
-
-abbrev pub e3Answers : List Bool
-e3Answers = true ∷ true ∷ false ∷ true ∷ []
-
--- E4: "Join 0 with 0: 11, but 7 while box 0 is busy."
-abbrev pub e4 : List Step
-e4 = Join 0 0 ∷ Event 3 0 false ∷ Join 0 0 ∷ []
-
-abbrev pub e4Answers : List Bool
-e4Answers = false ∷ true ∷ false ∷ []
-
--- E7: "Two yields in a row: both taken."
-abbrev pub e7 : List Step
-e7 = Event 3 0 true ∷ Yield 3 ∷ Yield 3 ∷ []
-
-abbrev pub e7Answers : List Bool
-e7Answers = true ∷ true ∷ true ∷ []
 
 -- Definition 6 as printed lets a child (start 5) join its own parent (start 2), which sent it at the fork 4: the fork 1 of
 -- the parent is seen at 5. But so is its start, and the parent's update 0 is applied twice.

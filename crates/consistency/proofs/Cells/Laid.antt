@@ -1,5 +1,5 @@
 -- What the layout machine's lists are on a day: nothing stands twice, and every number is one that was given.
--- Only here is the theory of `diagram` opened.
+-- Only here is what `diagram` proves of its layout taken apart.
 use Prim.Native.Nat.{_<_, _≤_, ℕ}
 use mathlib.Core.Bool.{true}
 use mathlib.Core.Path.{_∙_, _≡_, refl, subst, sym}
@@ -8,19 +8,17 @@ use lib.ListN.{length}
 use Rattle.lists.specs.Lists.{_∈_, flatBack}
 use Rattle.lists.proofs.Blocks.{flat-from, flatBack-nodup, flatBack-same}
 use Rattle.lists.proofs.Counts.{few-below}
+use Rattle.blocks.specs.Blocks.{blocks}
 use Rattle.diagram.specs.Day.{Day, IsOut}
 use Rattle.diagram.specs.Diagram.{Diagram}
 use Rattle.diagram.specs.Effects.{entry, number, numbers}
 use Rattle.diagram.specs.Machine.{Machine, machineAfter}
 use Rattle.diagram.specs.Steps.{Event, Fork, Join, Step, Yield, accepted, after}
 use Rattle.diagram.proofs.Arranged.Advance.{contents}
-use Rattle.diagram.proofs.Arranged.Blocks.{blocks}
 use Rattle.diagram.proofs.Days.Moves.{can-enter, can-fork, can-join}
 use Rattle.diagram.proofs.Days.Real.{Real}
 use Rattle.diagram.proofs.Follow.Agrees.{Agree, ordered, terminal-low}
-use Rattle.diagram.proofs.Follow.Entering.{agree-enter, agree-yield}
-use Rattle.diagram.proofs.Follow.Forking.{agree-send}
-use Rattle.diagram.proofs.Follow.Joining.{agree-join}
+use Rattle.diagram.proofs.Follow.Steps.{agree-enter, agree-join, agree-send, agree-yield}
 use Rattle.diagram.proofs.Graph.Events.{inheritedEvents, ownEvents}
 use Rattle.diagram.proofs.Graph.Visible.{view-numbers}
 use Rattle.diagram.proofs.Order.Inherited.{blocks-numbers, entry-is, numbers-nodup}

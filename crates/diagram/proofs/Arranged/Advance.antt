@@ -9,10 +9,8 @@ use native.Mathlib.Omega.{arith}
 use lib.ListN.{length}
 use lib.Dec.{eqb}
 use borrow.Author.Tests.{eqb-false, eqb-true}
-use Rattle.diagram.proofs.Arranged.Blocks.{Content, Contents}
-use Rattle.diagram.proofs.Arranged.Invariant.{Inv}
-use Rattle.diagram.proofs.Arranged.Joining.{blocks-same, carry-left}
-use Rattle.diagram.proofs.Arranged.Past.{Held}
+use Rattle.blocks.proofs.Joining.{blocks-same, carry-left}
+use Rattle.blocks.specs.Blocks.{Content, Contents, Held, Inv}
 use Rattle.diagram.proofs.Graph.Events.{JoinOk, Joined, inh-from, inheritedEvents, inheritedStep, ownEventStep, ownEvents}
 use Rattle.diagram.proofs.Graph.Events.{view-split, viewEventStep, viewEvents}
 use Rattle.diagram.proofs.Graph.Paths.{Ordered, any-elim, any-intro, leads-new, leads-old, one-more}

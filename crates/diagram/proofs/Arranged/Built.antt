@@ -11,13 +11,12 @@ use native.Mathlib.Omega.{arith}
 use lib.ListN.{length}
 use lib.Dec.{eqb}
 use borrow.Author.Tests.{eq-eqb, eqb-false, eqb-true, ne-eqb}
-use Rattle.diagram.proofs.Arranged.Advance.{Linked, May, advance, contents, inv-same, linked-fork, may, may-next, may-true, next}
-use Rattle.diagram.proofs.Arranged.Advance.{on, on-bound, on-other, on-self, one-may, one-older, sees-before, sees-on}
-use Rattle.diagram.proofs.Arranged.Advance.{sees-other, true-may, unseen-before}
-use Rattle.diagram.proofs.Arranged.Blocks.{Contents, blocks, seen}
-use Rattle.diagram.proofs.Arranged.Invariant.{Inv, fork-inv, forkContents, forkJ, join-inv, joinJ, update-inv}
-use Rattle.diagram.proofs.Arranged.Joining.{grow}
-use Rattle.diagram.proofs.Arranged.Past.{Held, held-grow, held-join, held-order}
+use Rattle.blocks.proofs.Invariant.{fork-inv, join-inv, update-inv}
+use Rattle.blocks.proofs.Past.{held-grow, held-join, held-order}
+use Rattle.blocks.specs.Blocks.{Contents, Held, Inv, blocks, forkContents, forkJ, grow, joinJ, seen}
+use Rattle.diagram.proofs.Arranged.Advance.{Linked, May, advance, contents, inv-same, linked-fork, may, may-next, may-true, next, on}
+use Rattle.diagram.proofs.Arranged.Advance.{on-bound, on-other, on-self, one-may, one-older, sees-before, sees-on, sees-other}
+use Rattle.diagram.proofs.Arranged.Advance.{true-may, unseen-before}
 use Rattle.diagram.proofs.Graph.Events.{inh-from, inheritedStep, ownEventStep, ownEvents, path-view, view-split, viewEventStep, viewEvents}
 use Rattle.diagram.proofs.Graph.Paths.{Ordered, leads-path, no-vertex, one-more, path-start}
 use Rattle.diagram.proofs.Graph.Tables.{tabulate-older}

@@ -36,7 +36,7 @@ module _ (y : Day) (layout : List ℕ) (hold : ℕ → List ℕ) (S : Sound y la
   tip-low : y .terminal r < length d
   tip-low = S .real .linked .bound r
 
-  -- an event of c's leads to where c goes on
+  -- an event of c leads to where c goes on
   mine-sees : (t e : ℕ) → t < y .transactions → y .transaction t .client ≡ c → e ∈ eventsOf y t → leads d e (y .terminal r) ≡ true
   mine-sees t e h q i =
       let l = S .sessions .last-sees t e h i in
@@ -311,7 +311,7 @@ module _ (y : Day) (layout : List ℕ) (hold : ℕ → List ℕ) (S : Sound y la
       raise : (t x z : ℕ) → (t ≡ t0 → ⊥) → Seal d (y .transaction t) x → x ≤ z → ((e : ℕ) → leads d e x ≡ true → leads (v ∷ d) e z ≡ true) → Seal (v ∷ d) (y′ .transaction t) z
       raise t x z n s h f = record { at = s .at; is = rw (w-old t n) (s .is); before = omega (arith, s .before); whole = λ e i. f e (s .whole e (rw (e-old t n) at i)) }
 
-      -- of another transaction whose event is the line end of r, the yield came
+      -- of another transaction whose event is the terminal of r, the yield came
       closedNow : (t : ℕ) → (t ≡ t0 → ⊥) → t < y .transactions → y .terminal r ∈ eventsOf y t → (q : Option ℕ) → y .transaction t .closed ≡ q → Seal (v ∷ d) (y′ .transaction t) x0
       closedNow t n h i none q =
           let bx = S .whole .own-revision r t (E .out) h i q in

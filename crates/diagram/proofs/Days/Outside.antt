@@ -49,7 +49,7 @@ outside-new d v n w low older past O t x e h l a i q = pick (split (eqb x (lengt
         record { at = k .at; is = k .is; before = k .before; whole = λ s j. leads-old v d s x b ∙ k .whole s j }
 
 module _ (y : Day) (layout : List ℕ) (hold : ℕ → List ℕ) (S : Sound y layout hold) where
-  -- at the line end of a box that is not busy no transaction is open
+  -- at the terminal of a revision that is not busy no transaction is open
   pub idle-past : (r t : ℕ) → IsOut y r → Idle y (λ o. Unit {0}) r → t < y .transactions → y .terminal r ∈ eventsOf y t → Past (y .diagram) (y .transaction t) (y .terminal r)
   idle-past r t o idle h i = by (y .transaction t .closed) refl
     where
@@ -59,7 +59,7 @@ module _ (y : Day) (layout : List ℕ) (hold : ℕ → List ℕ) (S : Sound y la
           absurd (false≢true (sym (rw f at (idle (y .transaction t .client) (S .runs _ t f .client-ok) tt)) ∙ eq-eqb (y .transaction t .revision) r (S .whole .own-revision r t o h i q)))
       by (some z) q = (z, q, S .whole .closed-low t z h q, S .whole .at-tip r t o h i)
 
-  -- an open transaction is on no such box
+  -- an open transaction is on no such revision
   pub idle-far : (r a s : ℕ) → Idle y (λ o. Unit {0}) r → y .openBy a ≡ some s → y .transaction s .revision ≡ r → ⊥
   idle-far r a s idle p e = false≢true (sym (rw p at (idle a (S .runs a s p .client-ok) tt)) ∙ eq-eqb (y .transaction s .revision) r e)
 

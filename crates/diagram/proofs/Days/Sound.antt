@@ -6,8 +6,8 @@ use mathlib.Core.Option.{Option, none, some}
 use mathlib.Core.List.{List, List·Memᴰ·head, List·Memᴰ·not-nil, List·Memᴰ·tail, List·Nodup, [], _++_, _∷_}
 use native.Mathlib.Omega.{arith}
 use lib.ListN.{length}
+use Rattle.blocks.specs.Blocks.{blocks}
 use Rattle.diagram.proofs.Arranged.Advance.{Linked, contents}
-use Rattle.diagram.proofs.Arranged.Blocks.{blocks}
 use Rattle.diagram.proofs.Days.Real.{Real, real-fresh}
 use Rattle.diagram.proofs.Graph.Events.{ownEvents}
 use Rattle.diagram.proofs.Graph.Paths.{leads-path, path-bound}
@@ -19,14 +19,14 @@ use Rattle.diagram.specs.Sizes.{clientLimit}
 use Rattle.lists.proofs.Blocks.{flat-++, flat-in, flat-nodup, flatBack-from}
 use Rattle.lists.specs.Lists.{_∈_, flat, flatBack}
 
--- each box that is out holds its transactions whole, one after another
+-- each revision that is out holds its transactions whole, one after another
 pub record Filed (y : Day) (layout : List ℕ) (hold : ℕ → List ℕ) : Type 0 where
   pub blocks-ok : (x : ℕ) → x ∈ layout → ownEvents (y .diagram) (y .terminal x) ≡ flat (eventsOf y) (hold x)
   pub all : (t : ℕ) → t < y .transactions → (x : ℕ) × (x ∈ layout) × (t ∈ hold x)
   pub low : (x t : ℕ) → x ∈ layout → t ∈ hold x → t < y .transactions
   pub first : (t : ℕ) → t < y .transactions → (e : ℕ) × (e ∈ eventsOf y t)
 
--- tablet c's open transaction is t
+-- client c's open transaction is t
 pub record Runs (y : Day) (hold : ℕ → List ℕ) (c t : ℕ) : Type 0 where
   pub known : t < y .transactions
   pub client : y .transaction t .client ≡ c
@@ -51,7 +51,7 @@ pub record Whole (y : Day) : Type 0 where
   pub own-revision : (r t : ℕ) → IsOut y r → t < y .transactions → y .terminal r ∈ eventsOf y t → y .transaction t .closed ≡ none → y .transaction t .revision ≡ r
   pub closed-low : (t n : ℕ) → t < y .transactions → y .transaction t .closed ≡ some n → n ≤ length (y .diagram)
 
--- a tablet's later transactions see its earlier ones
+-- a client's later transactions see its earlier ones
 pub record Sessions (y : Day) : Type 0 where
   pub last-low : (c l : ℕ) → y .lastEvent c ≡ some l → l < length (y .diagram)
   pub last-sees : (t e : ℕ) → t < y .transactions → e ∈ eventsOf y t → (l : ℕ) × (y .lastEvent (y .transaction t .client) ≡ some l) × (leads (y .diagram) e l ≡ true)

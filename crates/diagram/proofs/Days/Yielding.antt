@@ -39,24 +39,24 @@ module _ (y : Day) (layout : List ℕ) (hold : ℕ → List ℕ) (S : Sound y la
   by-case : {A : Type 0} (f : Transaction → A) → f (closedNow y (y .transaction t)) ≡ f (y .transaction t) → (s : ℕ) → f (y′ .transaction s) ≡ f (y .transaction s)
   by-case f h s = cases (eqb s t) (λ e. let z = eqb-true s t e in ap (λ i. f (y′ .transaction i)) z ∙ ap f w-same ∙ h ∙ ap (λ i. f (y .transaction i)) (sym z)) (λ e. ap f (w-other s (eqb-false s t e)))
 
-  evs : (s : ℕ) → eventsOf y′ s ≡ eventsOf y s
-  evs = by-case (λ w. w .events) refl
+  same-events : (s : ℕ) → eventsOf y′ s ≡ eventsOf y s
+  same-events = by-case (λ w. w .events) refl
 
-  tabs : (s : ℕ) → y′ .transaction s .client ≡ y .transaction s .client
-  tabs = by-case (λ w. w .client) refl
+  clients : (s : ℕ) → y′ .transaction s .client ≡ y .transaction s .client
+  clients = by-case (λ w. w .client) refl
 
-  boxs : (s : ℕ) → y′ .transaction s .revision ≡ y .transaction s .revision
-  boxs = by-case (λ w. w .revision) refl
+  revisions : (s : ℕ) → y′ .transaction s .revision ≡ y .transaction s .revision
+  revisions = by-case (λ w. w .revision) refl
 
   is-open : (s : ℕ) → y′ .transaction s .closed ≡ none → s ≡ t → ⊥
   is-open s e z = some≢none (y′ .transaction s .closed) (ap (λ i. y′ .transaction i .closed) z ∙ ap (λ w. w .closed) w-same) e
 
   filed′ : Filed y′ layout hold
   filed′ = record {
-    blocks-ok = λ x i. S .filed .blocks-ok x i ∙ flat-same (eventsOf y) (eventsOf y′) (hold x) (λ s j. sym (evs s));
+    blocks-ok = λ x i. S .filed .blocks-ok x i ∙ flat-same (eventsOf y) (eventsOf y′) (hold x) (λ s j. sym (same-events s));
     all = S .filed .all;
     low = S .filed .low;
-    first = λ s h. let f = S .filed .first s h in (f .0, rw (evs s) (f .1));
+    first = λ s h. let f = S .filed .first s h in (f .0, rw (same-events s) (f .1));
   }
 
   runs′ : (a s : ℕ) → y′ .openBy a ≡ some s → Runs y′ hold a s
@@ -72,7 +72,7 @@ module _ (y : Day) (layout : List ℕ) (hold : ℕ → List ℕ) (S : Sound y la
         last-is = rw w (Q .last-is);
         last-in = subst (λ z. y .terminal (z .revision) ∈ z .events) (sym w) (Q .last-in);
         at-end = (Q .at-end .0, rw w (Q .at-end .1));
-        latest = λ z l h g. Q .latest z l h (sym (tabs z) ∙ g);
+        latest = λ z l h g. Q .latest z l h (sym (clients z) ∙ g);
       }
         where
           Q : Runs y hold a s
@@ -94,22 +94,22 @@ module _ (y : Day) (layout : List ℕ) (hold : ℕ → List ℕ) (S : Sound y la
   whole′ : Whole y′
   whole′ = record {
     outside = outside′;
-    at-tip = λ r s o h i e j. S .whole .at-tip r s o h (rw (evs s) at i) e (rw (evs s) at j);
-    own-revision = λ r s o h i e. boxs s ∙ S .whole .own-revision r s o h (rw (evs s) at i) (sym (ap (λ w. w .closed) (w-other s (is-open s e))) ∙ e);
+    at-tip = λ r s o h i e j. S .whole .at-tip r s o h (rw (same-events s) at i) e (rw (same-events s) at j);
+    own-revision = λ r s o h i e. revisions s ∙ S .whole .own-revision r s o h (rw (same-events s) at i) (sym (ap (λ w. w .closed) (w-other s (is-open s e))) ∙ e);
     closed-low = λ s n h e. cases (eqb s t) (λ z. let f : some (length d) ≡ some n = rw z at e in let g : length d ≡ n = cc in omega arith) (λ z. S .whole .closed-low s n h (rw z at e));
   }
     where
       outside′ : (s x e : ℕ) → s < y .transactions → x < length d → (x ∈ eventsOf y′ s → ⊥) → e ∈ eventsOf y′ s → leads d e x ≡ true → Seal d (y′ .transaction s) x
       outside′ s x e h l n i g =
-          let f = S .whole .outside s x e h l (λ k. n (rw (evs s) k)) (rw (evs s) at i) g in
+          let f = S .whole .outside s x e h l (λ k. n (rw (same-events s) k)) (rw (same-events s) at i) g in
           let z : s ≡ t → ⊥ = λ k. some≢none (y .transaction s .closed) (f .is) (ap (λ i. y .transaction i .closed) k ∙ R .unshut) in
-          record { at = f .at; is = ap (λ w. w .closed) (w-other s z) ∙ f .is; before = f .before; whole = λ a j. f .whole a (rw (evs s) at j) }
+          record { at = f .at; is = ap (λ w. w .closed) (w-other s z) ∙ f .is; before = f .before; whole = λ a j. f .whole a (rw (same-events s) at j) }
 
   sessions′ : Sessions y′
   sessions′ = record {
     last-low = S .sessions .last-low;
-    last-sees = λ s e h i. rw (tabs s) (S .sessions .last-sees s e h (rw (evs s) at i));
-    later = λ a s e f l h p i j. S .sessions .later a s e f l h (sym (tabs a) ∙ p ∙ tabs s) (rw (evs a) at i) (rw (evs s) at j);
+    last-sees = λ s e h i. rw (clients s) (S .sessions .last-sees s e h (rw (same-events s) at i));
+    later = λ a s e f l h p i j. S .sessions .later a s e f l h (sym (clients a) ∙ p ∙ clients s) (rw (same-events a) at i) (rw (same-events s) at j);
   }
 
   pub sound-close : Sound (close y c t) layout hold

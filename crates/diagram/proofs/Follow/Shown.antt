@@ -3,14 +3,12 @@ use Prim.Native.Nat.{ℕ}
 use mathlib.Core.Bool.{true}
 use mathlib.Core.Path.{_∙_, _≡_, ap, refl, subst, sym}
 use mathlib.Core.List.{List, List·Nodup, Nodup·sublist, [], _++_, _∷_}
+use Rattle.blocks.specs.Blocks.{Good, blocks}
 use Rattle.diagram.proofs.Arranged.Advance.{contents}
-use Rattle.diagram.proofs.Arranged.Blocks.{Good, blocks}
 use Rattle.diagram.proofs.Days.Moves.{can-enter, can-fork, can-join}
 use Rattle.diagram.proofs.Days.Real.{Real}
 use Rattle.diagram.proofs.Follow.Agrees.{Agree, agree-fresh, ordered, terminal-low}
-use Rattle.diagram.proofs.Follow.Entering.{agree-enter, agree-yield}
-use Rattle.diagram.proofs.Follow.Forking.{agree-send}
-use Rattle.diagram.proofs.Follow.Joining.{agree-join}
+use Rattle.diagram.proofs.Follow.Steps.{agree-enter, agree-join, agree-send, agree-yield}
 use Rattle.diagram.proofs.Graph.Events.{ownEvents}
 use Rattle.diagram.proofs.Graph.Visible.{view-numbers}
 use Rattle.diagram.proofs.Order.Inherited.{blocks-left, blocks-numbers, good-under, inherited, numbers-nodup, numbers-sub, view-split-own}

@@ -11,7 +11,7 @@ use mathlib.Core.List.{nodup-cons, nodup-nil}
 use lib.ListN.{length}
 use lib.Dec.{eqb}
 use borrow.Author.Tests.{eqb-false, eqb-true}
-use Rattle.diagram.proofs.Arranged.Blocks.{Contents, Good, blocks}
+use Rattle.blocks.specs.Blocks.{Contents, Good, blocks}
 use Rattle.diagram.proofs.Graph.Events.{inheritedEvents, inheritedStep, ownEvents, view-split, viewEvents}
 use Rattle.diagram.proofs.Graph.Paths.{Ordered, path-start}
 use Rattle.diagram.proofs.Graph.Tables.{tabulate-newest, tabulate-older}
@@ -72,7 +72,7 @@ inherited-older v d o x h = ap (numbers (v ∷ d)) (tabulate-older inheritedStep
 pub inherited-along : (v : Vertex) (d : Diagram) → Ordered d → (p : ℕ) → p < length d → inheritedStep d (inheritedEvents d) v ≡ inheritedEvents d p → inherited (v ∷ d) (length d) ≡ inherited d p
 inherited-along v d o p h q = ap (numbers (v ∷ d)) (tabulate-newest inheritedStep [] v d ∙ q) ∙ numbers-old v d (inheritedEvents d p) (λ e i. inh-low o p e h i)
 
--- a new box inherits what its sender's line end lists
+-- a new revision inherits what its forker's terminal lists
 pub inherited-start : (d : Diagram) → Ordered d → (p : ℕ) → p < length d → inherited (start p ∷ d) (length d) ≡ view d p
 inherited-start d o p h = ap (numbers (start p ∷ d)) (tabulate-newest inheritedStep [] (start p) d) ∙ numbers-old (start p) d (viewEvents d p) (λ e i. path-start (view-paths o p h .1 e i .1)) ∙ sym (view-numbers o p h .1)
 

@@ -7,9 +7,9 @@ use mathlib.Core.List.{List, List·Memᴰ·append-cases, List·Memᴰ·eq-of-sin
 use mathlib.Core.List.{Sublistᴰ·refl, Sublistᴰ·trans, [], _++_, _∷_, append-assoc}
 use native.Mathlib.Omega.{arith}
 use lib.ListN.{length}
+use Rattle.blocks.proofs.Past.{held-order}
+use Rattle.blocks.specs.Blocks.{seen}
 use Rattle.diagram.proofs.Arranged.Advance.{Linked, contents, may}
-use Rattle.diagram.proofs.Arranged.Blocks.{seen}
-use Rattle.diagram.proofs.Arranged.Past.{held-order}
 use Rattle.diagram.proofs.Days.Moves.{idle-all, step-moves}
 use Rattle.diagram.proofs.Days.Outside.{idle-past}
 use Rattle.diagram.proofs.Days.Sound.{Sound, flat-blocks, flat-once, link, order-once}

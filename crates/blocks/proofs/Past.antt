@@ -7,20 +7,19 @@ use mathlib.Core.List.{List, List·Memᴰ·append-cases, List·Memᴰ·cases-con
 use mathlib.Core.List.{Sublistᴰ·refl, Sublistᴰ·trans, _++_, _∷_, append-assoc}
 use lib.Dec.{eqb}
 use borrow.Author.Tests.{eqb-true}
-use Rattle.diagram.proofs.Arranged.Blocks.{Contents, blocks, blocks-append, good-seen, seen}
-use Rattle.diagram.proofs.Arranged.Invariant.{Inv, join-inv}
-use Rattle.diagram.proofs.Arranged.Joining.{good-b, grow, heir-b, joined, over-b}
+use Rattle.blocks.proofs.Invariant.{join-inv}
+use Rattle.blocks.proofs.Joining.{good-b, heir-b, joined, over-b}
+use Rattle.blocks.proofs.Transfer.{blocks-append, good-seen}
+use Rattle.blocks.specs.Blocks.{Contents, Held, Inv, blocks, grow, seen}
 use Rattle.lists.proofs.Cases.{cases}
+use Rattle.lists.proofs.Places.{in-front}
 use Rattle.lists.proofs.Sublists.{sub-both, ⊑-left}
 use Rattle.lists.specs.Lists.{_∈_, _⊆_, _⊑_}
-
-abbrev pub Held : List ℕ → Contents → List ℕ → Type 0
-Held layout s w = (b : ℕ) × (b ∈ layout) × (w ⊑ seen (s b))
 
 pub held-order : (layout : List ℕ) (s : Contents) (J : ℕ → ℕ → Bool) (w : List ℕ) → Inv layout s J → Held layout s w → w ⊑ blocks s layout
 held-order layout s J w inv h = Sublistᴰ·trans (h .2) (good-seen s layout (inv .good) (h .0) (h .1))
 
--- a box that grows holds what it held
+-- a revision that grows holds what it held
 pub grow-sub : (s : Contents) (a : ℕ) (more : List ℕ) (x : ℕ) → seen (s x) ⊑ seen (grow s a more x)
 grow-sub s a more x = cases (eqb x a) (λ e. rw (e, ← append-assoc, eqb-true x a e) (⊑-left (seen (s a)) more)) (λ e. rw e (Sublistᴰ·refl (seen (s x))))
 

@@ -11,20 +11,15 @@ use mathlib.Core.List.{Sublistᴰ·nil-sublist, Sublistᴰ·refl, Sublistᴰ·tr
 use mathlib.Core.List.{perm-append-comm, perm-middle}
 use lib.Dec.{eqb}
 use borrow.Author.Tests.{eqb-false, eqb-true}
-use Rattle.diagram.proofs.Arranged.Blocks.{Contents, Good, Ok, Transfer, blocks, blocks-append, carry-all, good-seen, good-tail, seen}
-use Rattle.diagram.proofs.Arranged.Joining.{Any, blocks-same, carry-grown, carry-left, grow, grow-inh, grow-seen, heir-b, join-good}
-use Rattle.diagram.proofs.Arranged.Joining.{kept-any, other-l, other-m, other-r, row}
+use Rattle.blocks.proofs.Joining.{Any, blocks-same, carry-grown, carry-left, grow-inh, grow-seen, heir-b, join-good, kept-any}
+use Rattle.blocks.proofs.Joining.{other-l, other-m, other-r, row}
+use Rattle.blocks.proofs.Transfer.{Transfer, blocks-append, carry-all, good-seen, good-tail}
+use Rattle.blocks.specs.Blocks.{Contents, Good, Inv, Ok, blocks, forkContents, forkJ, grow, joinJ, seen}
 use Rattle.lists.proofs.Cases.{either, or-cases, split}
 use Rattle.lists.proofs.Changed.{changed-other, changed-same}
 use Rattle.lists.proofs.Places.{in-front}
 use Rattle.lists.proofs.Sublists.{nodup-apart, skip-one, ∈-⊑, ⊑-right, ⊑-⊆}
-use Rattle.lists.specs.Lists.{_∈_, _⊆_, _⊑_, changed}
-
-pub record Inv (layout : List ℕ) (s : Contents) (J : ℕ → ℕ → Bool) : Type 0 where
-  pub distinct : List·Nodup layout
-  pub once : List·Nodup (blocks s layout)
-  pub good : Good s layout
-  pub joins : (a b : ℕ) → a ∈ layout → b ∈ layout → J a b ≡ true → ((b ∷ a ∷ []) ⊑ layout) × (s b .inherited ⊆ seen (s a))
+use Rattle.lists.specs.Lists.{_∈_, _⊆_, _⊑_}
 
 -- an update
 module _ (r : List ℕ) (b : ℕ) (l : List ℕ) (s : Contents) (J : ℕ → ℕ → Bool) (n : ℕ) (inv : Inv (r ++ (b ∷ l)) s J) (fresh : n ∈ blocks s (r ++ (b ∷ l)) → ⊥) where
@@ -60,12 +55,6 @@ module _ (r : List ℕ) (b : ℕ) (l : List ℕ) (s : Contents) (J : ℕ → ℕ
   }
 
 -- a fork: c comes in right of p
-abbrev pub forkJ : (ℕ → ℕ → Bool) → ℕ → ℕ → ℕ → ℕ → Bool
-forkJ J p c x y = cond (eqb x c) (J p y) (cond (eqb x p) (J p y || eqb y c) (J x y))
-
-abbrev pub forkContents : Contents → ℕ → ℕ → Contents
-forkContents s p c = changed s c (record { inherited = seen (s p); own = [] })
-
 module _ (r : List ℕ) (p : ℕ) (l : List ℕ) (s : Contents) (J : ℕ → ℕ → Bool) (c : ℕ) (inv : Inv (r ++ (p ∷ l)) s J) (fresh : c ∈ (r ++ (p ∷ l)) → ⊥) (unasked : (x : ℕ) → J x c ≡ false) where
   abbrev ft : Contents
   ft = forkContents s p c
@@ -155,9 +144,6 @@ module _ (r : List ℕ) (p : ℕ) (l : List ℕ) (s : Contents) (J : ℕ → ℕ
   }
 
 -- a join: b goes, and what was its own is a's
-abbrev pub joinJ : (ℕ → ℕ → Bool) → ℕ → ℕ → ℕ → ℕ → Bool
-joinJ J a b x y = cond (eqb x a) (J a y || J b y) (J x y)
-
 module _ (r : List ℕ) (b : ℕ) (m : List ℕ) (a : ℕ) (l : List ℕ) (s : Contents) (J : ℕ → ℕ → Bool) (inv : Inv (r ++ (b ∷ (m ++ (a ∷ l)))) s J) (above : s b .inherited ⊆ seen (s a)) where
   abbrev jt : Contents
   jt = grow s a (s b .own)

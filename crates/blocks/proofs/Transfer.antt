@@ -1,26 +1,13 @@
--- The revisions that are out, laid out right to left, with what each inherited and what is its own; how a step carries the order.
+-- What stands in a row of blocks, and how a step carries the order from the revisions on the left to those right of them.
 use Prim.Native.Nat.{ℕ}
 use mathlib.Core.Path.{_∙_, _≡_, ap, refl, sym}
 use mathlib.Core.Logic.{_⊎_, inl, inr}
 use mathlib.Core.List.{List, List·Memᴰ·head, List·Memᴰ·tail, Memᴰ·append-left, Memᴰ·append-right, Sublistᴰ·append, Sublistᴰ·refl}
 use mathlib.Core.List.{Sublistᴰ·trans, [], _++_, _∷_, append-assoc, append-nil}
+use Rattle.blocks.specs.Blocks.{Contents, Good, Ok, blocks, seen}
 use Rattle.lists.proofs.Cases.{either}
 use Rattle.lists.proofs.Sublists.{parts, ⊑-left}
-use Rattle.lists.specs.Lists.{_∈_, _⊆_, _⊑_, flatBack}
-
-pub record Content : Type 0 where
-  pub inherited : List ℕ
-  pub own : List ℕ
-
-abbrev pub seen : Content → List ℕ
-seen b = b .inherited ++ b .own
-
-abbrev pub Contents : Type 0
-Contents = ℕ → Content
-
--- all updates, in their order: the blocks of the revisions from left to right
-abbrev pub blocks : Contents → List ℕ → List ℕ
-blocks s l = flatBack (λ x. s x .own) l
+use Rattle.lists.specs.Lists.{_∈_, _⊆_, _⊑_}
 
 pub blocks-append : (s : Contents) (r l : List ℕ) → blocks s (r ++ l) ≡ blocks s l ++ blocks s r
 blocks-append s [] l = sym (append-nil (blocks s l))
@@ -29,15 +16,6 @@ blocks-append s (x ∷ r) l = rw (blocks-append s r l) (append-assoc (blocks s l
 pub block-in : (s : Contents) (x : ℕ) (l : List ℕ) → x ∈ l → s x .own ⊆ blocks s l
 block-in s x (y ∷ l) (List·Memᴰ·head e) n m = Memᴰ·append-right (blocks s l) (rw e at m)
 block-in s x (y ∷ l) (List·Memᴰ·tail h) n m = Memᴰ·append-left (s y .own) (block-in s x l h n m)
-
--- I1 and I2 of one revision x, with `left` the revisions left of it
-pub record Ok (s : Contents) (left : List ℕ) (x : ℕ) : Type 0 where
-  pub under : s x .inherited ⊑ blocks s left
-  pub forked : (s x .inherited ≡ []) ⊎ ((h : ℕ) × (h ∈ left) × (s x .inherited ⊆ seen (s h)))
-
-abbrev pub Good : Contents → List ℕ → Type 0
-Good s [] = Unit {0}
-Good s (x ∷ left) = Ok s left x × Good s left
 
 -- so what a revision sees is an ordered sublist of the blocks up to its own
 pub good-seen : (s : Contents) (l : List ℕ) → Good s l → (h : ℕ) → h ∈ l → seen (s h) ⊑ blocks s l

@@ -7,16 +7,12 @@ use mathlib.Core.List.{Nodup·of-append-left, Nodup·of-append-right, Sublistᴰ
 use mathlib.Core.List.{append-nil, nodup-cons}
 use lib.Dec.{eqb}
 use borrow.Author.Tests.{eqb-true}
-use Rattle.diagram.proofs.Arranged.Blocks.{Contents, Good, Kept, Transfer, block-in, blocks, blocks-append, carry-all, carry-ok}
-use Rattle.diagram.proofs.Arranged.Blocks.{good-seen, good-tail, seen}
+use Rattle.blocks.proofs.Transfer.{Kept, Transfer, block-in, blocks-append, carry-all, carry-ok, good-seen, good-tail}
+use Rattle.blocks.specs.Blocks.{Contents, Good, blocks, grow, seen}
 use Rattle.lists.proofs.Cases.{cases}
 use Rattle.lists.proofs.Changed.{changed-other, changed-same}
 use Rattle.lists.proofs.Sublists.{apart-++, nodup-apart, parts, skip-mid, skip-right, ⊆-++, ⊑-left, ⊑-⊆}
-use Rattle.lists.specs.Lists.{Apart, _∈_, _⊆_, _⊑_, changed}
-
--- one box with more of its own
-abbrev pub grow : Contents → ℕ → List ℕ → Contents
-grow s a more = changed s a (record { inherited = s a .inherited; own = s a .own ++ more })
+use Rattle.lists.specs.Lists.{Apart, _∈_, _⊆_, _⊑_}
 
 pub grow-inh : (s : Contents) (a : ℕ) (more : List ℕ) (x : ℕ) → grow s a more x .inherited ≡ s x .inherited
 grow-inh s a more x = cases (eqb x a) (λ e. rw (e, eqb-true x a e)) (λ e. rw e)
@@ -42,7 +38,7 @@ pub blocks-same : (s t : Contents) (l : List ℕ) → ((x : ℕ) → x ∈ l →
 blocks-same s t [] k = refl
 blocks-same s t (x ∷ l) k = rw (blocks-same s t l (λ y m. k y (List·Memᴰ·tail m)), k x (List·Memᴰ·head refl))
 
--- one box that only grows
+-- a revision that only grows
 pub carry-grown : (s t : Contents) (a : ℕ) (l : List ℕ) (more : List ℕ) → t a ≡ record { inherited = s a .inherited; own = s a .own ++ more } → Good s (a ∷ l) → Good t l × Transfer s t Any l l
     → Good t (a ∷ l) × Transfer s t Any (a ∷ l) (a ∷ l)
 carry-grown s t a l more e g f =
