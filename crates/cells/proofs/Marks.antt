@@ -163,14 +163,27 @@ pub mark-pack : (n : ℕ) (f : ℕ → ℕ → Bool) → Within n f → (x y : �
 mark-pack n f out x y = packed n f x y ∙ cases (ltb x n && ltb y 64) (λ e. rw e) (λ e. rw e (sym (out x y e)))
 
 -- only the marks inside count
+byte-same : (f g : ℕ → Bool) → ((j : ℕ) → j < 8 → f j ≡ g j) → byteOf f ≡ byteOf g
+byte-same f g h = rw (h 0 (omega arith), h 1 (omega arith), h 2 (omega arith), h 3 (omega arith), h 4 (omega arith), h 5 (omega arith), h 6 (omega arith), h 7 (omega arith))
+
 pub pack-same : (n : ℕ) (f g : ℕ → ℕ → Bool) → ((x y : ℕ) → x < n → y < 64 → f x y ≡ g x y) → pack n f ≡ pack n g
 unfolding pack
-pack-same n f g h =
-    tab-same _ _ (8 * n) (λ i l.
-    let s : (j : ℕ) → j < 8 → f (i / 8) (8 * (i % 8) + j) ≡ g (i / 8) (8 * (i % 8) + j) = λ j m. h (i / 8) (8 * (i % 8) + j) (omega arith) (omega arith) in
-    rw (s 0 (omega arith), s 1 (omega arith), s 2 (omega arith), s 3 (omega arith), s 4 (omega arith), s 5 (omega arith), s 6 (omega arith), s 7 (omega arith)))
+pack-same n f g h = tab-same _ _ (8 * n) (λ i l. byte-same (λ j. f (i / 8) (8 * (i % 8) + j)) (λ j. g (i / 8) (8 * (i % 8) + j)) (λ j m. h (i / 8) (8 * (i % 8) + j) (omega arith) (omega arith)))
+
+pub putRow-same : (w : ℕ) (t : List ℕ) (x : ℕ) (f g : ℕ → Bool) → ((y : ℕ) → y < 8 * w → f y ≡ g y) → putRow w t x f ≡ putRow w t x g
+unfolding putRow rowBytes
+putRow-same w t x f g h =
+    ap (λ q. take (w * x) t ++ (q ++ drop (w * x + w) t)) (tab-same _ _ w (λ i l. byte-same (λ j. f (8 * i + j)) (λ j. g (8 * i + j)) (λ j m. h (8 * i + j) (omega arith))))
 
 -- rows by value
 pub mark-rows : (n : ℕ) (f : ℕ → ℕ → Bool) (x y : ℕ) → x < n → y < 64 → markOf (rows n f) x y ≡ f x y
 unfolding rows
 mark-rows n f x y h g = ap (λ r. getD r y false) (getD-tab (λ z. tab (f z) 64) n x [] h) ∙ getD-tab (f x) 64 y false g
+
+pub rows-same : (n : ℕ) (f g : ℕ → ℕ → Bool) → ((x y : ℕ) → x < n → y < 64 → f x y ≡ g x y) → rows n f ≡ rows n g
+unfolding rows
+rows-same n f g h = tab-same _ _ n (λ x l. tab-same (f x) (g x) 64 (λ y m. h x y l m))
+
+pub rows-length : (n : ℕ) (f : ℕ → ℕ → Bool) → length (rows n f) ≡ n
+unfolding rows
+rows-length n f = length-tab (λ x. tab (f x) 64) n

@@ -3,13 +3,13 @@ use Prim.Native.Nat.{ℕ, zero, suc, _+_, _<_, _≤_}
 use mathlib.Core.Bool.{Bool, true, false, cond, _&&_, _||_}
 use mathlib.Core.Path.{_≡_, refl, sym, ap, _∙_}
 use mathlib.Core.Logic.{_⊎_, inl, inr}
-use mathlib.Core.List.{List, [], _∷_, _++_, map}
-use native.Mathlib.Nat.{not-suc-le-zero}
+use mathlib.Core.List.{List, [], _∷_, _++_, append-assoc, map}
+use native.Mathlib.Nat.{add-zero, not-suc-le-zero}
 use native.Mathlib.Numerals.{add-one}
 use native.Mathlib.Omega.{arith}
 use lib.Dec.{eqb, ltb}
-use lib.ListN.{length, set, take, getD, length-append, length-set, length-map, List·getD-append, List·getD-eq-default, List·getD-map}
-use lib.Seq.{take-suc-set, take-all, getD-at, ext-getD, getD-set-same, getD-set-other}
+use lib.ListN.{length, set, take, drop, getD, length-append, length-drop, length-set, take-append-drop, length-map, List·getD-append, List·getD-eq-default, List·getD-map}
+use lib.Seq.{drop-cons, length-take-le, set-at, take-suc-set, take-all, getD-at, ext-getD, getD-set-same, getD-set-other}
 use borrow.Author.Tests.{eqb-true, eqb-false, eq-eqb, ltb-true, ltb-false}
 use Rattle.lists.specs.Lists.{changed}
 use Rattle.lists.proofs.Cases.{cases, and-true, or-cases, or-left, or-right, either}
@@ -74,6 +74,32 @@ map-tab g f (suc n) = map-append g (tab f n) (f n ∷ []) ∙ ap (λ z. z ++ (g 
     map-append : {A B : Type 0} (g : A → B) (a b : List A) → map g (a ++ b) ≡ map g a ++ map g b
     map-append g [] b = refl
     map-append g (x ∷ a) b = ap (λ z. g x ∷ z) (map-append g a b)
+
+-- a window of t filled from its front: k values stored from a on
+abbrev pub filled : {A : Type 0} → List A → ℕ → (ℕ → A) → ℕ → List A
+filled t a f k = take a t ++ (tab f k ++ drop (a + k) t)
+
+pub filled-none : {A : Type 0} (t : List A) (a : ℕ) (f : ℕ → A) → t ≡ filled t a f 0
+unfolding tab
+filled-none t a f = sym (rw add-zero (take-append-drop a t))
+
+pub filled-more : {A : Type 0} (t : List A) (a : ℕ) (f : ℕ → A) (k : ℕ) (v : A) → a + k < length t → v ≡ f k → set (filled t a f k) (a + k) v ≡ filled t a f (k + 1)
+unfolding tab
+filled-more t a f k v h e =
+    let l = length-take-le a t (omega arith) in
+    let m = length-tab f k in
+    let front = take a t ++ tab f k in
+    let n : length front ≡ a + k = rw (length-append, l, m) in
+    let next : a + (k + 1) ≡ suc (a + k) = omega arith in
+    ap (λ z. set z (a + k) v) (sym (append-assoc (take a t) (tab f k) (drop (a + k) t)) ∙ ap (λ z. front ++ z) (drop-cons t (a + k) v h))
+    ∙ set-at front (getD t (a + k) v) (drop (suc (a + k)) t) v (a + k) n
+    ∙ rw (next, add-one, e) (simp append-assoc)
+
+pub filled-length : {A : Type 0} (t : List A) (a : ℕ) (f : ℕ → A) (k : ℕ) → a + k ≤ length t → length (filled t a f k) ≡ length t
+filled-length t a f k h =
+    let l = length-take-le a t (omega arith) in
+    let m = length-tab f k in
+    rw (length-append, length-append, l, m, length-drop) (omega arith)
 
 -- one element changed
 pub getD-changed : {A : Type 0} (l : List A) (i : ℕ) (v d : A) (x : ℕ) → i < length l → getD (set l i v) x d ≡ changed (λ y. getD l y d) i v x
