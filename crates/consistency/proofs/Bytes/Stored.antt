@@ -91,8 +91,9 @@ module _ (y : Day) (m : Machine) (d : List ℕ) (K : Kept y m (cells d)) (size-i
       let nl = number-left y m (cells d) K r e in
       let pos = some-given y m (cells d) K in
       let l = sized .of usedPart in
+      let v = cond-all (λ v. v < 2) (eqb r main) 0 1 (omega arith) (omega arith) in
       stored (forkParts p r n) _ (fork-sized sized r n nl) (fork-follows p sized r n rl nl (λ z. omega arith))
-      (record { used-low = used-set (p usedPart) n (cond (eqb r main) 0 1) (u .used-low) (cond-all (λ v. v < 2) (eqb r main) 0 1 (omega arith) (omega arith)) (omega arith); queue-low = u .queue-low; signed-so = u .signed-so })
+      (record { used-low = used-set (p usedPart) n (cond (eqb r main) 0 1) (u .used-low) v (omega arith); queue-low = u .queue-low; signed-so = u .signed-so })
   step-stored (Join a b) e =
       let j = can-join y a b e in
       stored (joinParts p a b) _ (join-sized sized a b)

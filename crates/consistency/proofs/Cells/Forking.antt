@@ -2,7 +2,7 @@
 use Prim.Native.Nat.{_≤_, _<_, suc, ℕ}
 use mathlib.Core.Bool.{Bool, _&&_, _||_, cond, false, true}
 use mathlib.Core.Path.{_∙_, _≡_, ap, refl, subst, sym}
-use mathlib.Core.List.{List, List·Memᴰ·head, List·Memᴰ·not-nil, _++_, _∷_}
+use mathlib.Core.List.{List, _++_, _∷_}
 use native.Mathlib.Omega.{arith}
 use lib.Dec.{eqb, ltb}
 use lib.ListN.{length, take}
@@ -20,7 +20,7 @@ use Rattle.cells.proofs.Places.{fork-outs, insert-length}
 use Rattle.consistency.proofs.Cells.Laid.{Laid}
 use Rattle.consistency.proofs.Cells.Represents.{Represents, count-is, out-low, stateCell}
 
--- a test that implies a bound
+-- a test that implies a bound; a number that is not the next
 bounded : (b : Bool) (v n : ℕ) → (b ≡ true → v < n) → (ltb v n && b) ≡ b
 bounded true v n h = rw (lt-ltb v n (h refl))
 bounded false v n h = cases (ltb v n) (λ e. rw e) (λ e. rw e)
@@ -63,7 +63,7 @@ module _ (k : Cells) (m : Machine) (h : Represents k m) (L : Laid m) (p : ℕ) (
   fork-own x j = cases (eqb x c) (λ e. rw e) (λ e. rw e (h .own-is x (old x j e)))
 
   fork-first : (x : ℕ) → x ∈ m′ .layout → (f : ℕ) (l : List ℕ) → m′ .own x ≡ f ∷ l → k .first x ≡ f
-  fork-first x j f l = cases (eqb x c) (λ e. rw e (λ q. absurd (List·Memᴰ·not-nil (rw (← q) at (List·Memᴰ·head {x = f} {xs = l} refl))))) (λ e. rw e (h .first-is x (old x j e) f l))
+  fork-first x j f l = cases (eqb x c) (λ e. rw e (λ q. cc)) (λ e. rw e (h .first-is x (old x j e) f l))
 
   -- what is marked at p, or p's own, has a number
   low-mark : (v : ℕ) → (marked k p v || member v (m .own p)) ≡ true → v < updates

@@ -94,8 +94,12 @@ module _ (k : Cells) (m : Machine) (h : Represents k m) (L : Laid m) (a b : ℕ)
   join-first : (x : ℕ) → x ∈ m′ .layout → (f : ℕ) (l : List ℕ) → m′ .own x ≡ f ∷ l → k′ .first x ≡ f
   join-first x o f l =
       cases (eqb (k .count b) 0)
-      (λ z. rw z (cases (eqb x a) (λ q. rw (q, eqb-true x a q, b-none (eqb-true (k .count b) 0 z), append-nil) (h .first-is a i f l)) (λ q. rw q (h .first-is x (was x o) f l))))
-      (λ z. rw z (cases (eqb x a) (λ q. rw (q, count-is k m h a i) (first-append (m .own a) (m .own b) (k .first a) (k .first b) (h .first-is a i) (h .first-is b j) f l)) (λ q. rw q (h .first-is x (was x o) f l))))
+      (λ z. rw z (cases (eqb x a)
+      (λ q. rw (q, eqb-true x a q, b-none (eqb-true (k .count b) 0 z), append-nil) (h .first-is a i f l))
+      (λ q. rw q (h .first-is x (was x o) f l))))
+      (λ z. rw z (cases (eqb x a)
+      (λ q. rw (q, count-is k m h a i) (first-append (m .own a) (m .own b) (k .first a) (k .first b) (h .first-is a i) (h .first-is b j) f l))
+      (λ q. rw q (h .first-is x (was x o) f l))))
 
   pub joins : Represents k′ m′
   joins = record {

@@ -111,7 +111,9 @@ module _ (y : Day) (m : Machine) (k : Cells) (K : Kept y m k) where
   bounded-after (Event c r false) e L′ h′ = query-bounded k (K .bounded) c r
   bounded-after (Yield c) e L′ h′ = close-bounded k (K .bounded) c
   bounded-after (Fork r) e L′ h′ = fork-bounded k (K .bounded) r (k .given) (number-left r e)
-  bounded-after (Join a b) e L′ h′ = let j = can-join y a b e in join-bounded k (K .bounded) (joinOn m a b) L′ a b h′ (remove-keep b a (m .layout) (λ q. j .not-self (sym q)) (there a (j .out-a)))
+  bounded-after (Join a b) e L′ h′ =
+      let j = can-join y a b e in
+      join-bounded k (K .bounded) (joinOn m a b) L′ a b h′ (remove-keep b a (m .layout) (λ q. j .not-self (sym q)) (there a (j .out-a)))
 
   pub kept-after : (s : Step) → accepted y s ≡ true → Kept (after y s) (machineAfter m s) (stepCells k s)
   kept-after s e =

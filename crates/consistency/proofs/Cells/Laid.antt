@@ -23,6 +23,7 @@ use Rattle.diagram.proofs.Graph.Events.{inheritedEvents, ownEvents}
 use Rattle.diagram.proofs.Graph.Visible.{view-numbers}
 use Rattle.diagram.proofs.Order.Inherited.{blocks-numbers, entry-is, numbers-nodup}
 
+-- no revision twice in the layout, no update twice in the own lists; revisions and updates that were given out
 pub record Laid (m : Machine) : Type 0 where
   pub lone : List·Nodup (m .layout)
   pub once : List·Nodup (flatBack (m .own) (m .layout))

@@ -23,6 +23,7 @@ use Rattle.consistency.proofs.Cells.Laid.{Laid}
 use Rattle.consistency.proofs.Cells.Represents.{Represents}
 
 module _ (k : Cells) (m : Machine) (h : Represents k m) (L : Laid m) (r : ℕ) (i : r ∈ m .layout) where
+  -- whether r inherited an update
   abbrev came : ℕ → Bool
   came u = member u (m .inherited r)
 
@@ -45,11 +46,14 @@ module _ (k : Cells) (m : Machine) (h : Represents k m) (L : Laid m) (r : ℕ) (
   by-count : (u : ℕ) → u ∈ front → came u ≡ true
   by-count u o = h .inherited-is r i u ∙ or-left (member u front) (marked k r u) (in-member u front o)
 
+  main-picked : keep came (m .own main) ≡ front ++ keep (marked k r) back
+  main-picked = ap (keep came) (sym whole) ∙ keep-++ came front back ∙ rw (keep-all came front by-count, outside back (nodup-apart front back once))
+
   -- of each own list the cells pick what r inherited
   picked : (d : ℕ) → d ∈ m .layout → inherited k r d ≡ keep came (m .own d)
   picked d j =
       cases (eqb d main)
-      (λ e. rw (e, eqb-true d main e, h .own-is main (h .main-out)) (sym (ap (keep came) (sym whole) ∙ keep-++ came front back ∙ rw (keep-all came front by-count, outside back (nodup-apart front back once)))))
+      (λ e. rw (e, eqb-true d main e, h .own-is main (h .main-out)) (sym main-picked))
       (λ e. rw (e, h .own-is d j) (sym (outside (m .own d) (λ u a b.
       let o : u ∈ m .own main = rw whole at (Memᴰ·append-left back a) in
       eqb-false d main e (flatBack-one (m .own) (m .layout) (L .once) d main u j (h .main-out) b o)))))
