@@ -4,11 +4,13 @@ use mathlib.Core.Path.{_∙_, _≡_, refl, sym}
 use mathlib.Core.Logic.{_⊎_, inl, inr, ∥∥₁-elim}
 use mathlib.Core.HLevel.{⊥-prop}
 use mathlib.Core.List.{List, List·Memᴰ·append-cases, List·Memᴰ·cases-cons, List·Memᴰ·head, List·Memᴰ·not-nil, List·Memᴰ·tail, List·Nodup}
-use mathlib.Core.List.{Memᴰ·append-left, Memᴰ·append-right, Nodup·of-append-left, Nodup·of-append-right, Sublistᴰ·cons, Sublistᴰ·cons-cons, [], _++_, _∷_}
+use mathlib.Core.List.{Memᴰ·append-left, Memᴰ·append-right, Nodup·of-append-left, Nodup·of-append-right, Sublistᴰ·cons, Sublistᴰ·cons-cons, Sublistᴰ·refl, Sublistᴰ·trans, [], _++_, _∷_}
 use mathlib.Core.List.{append-assoc, map, nodup-cons, nodup-nil}
-use Rattle.lists.proofs.Cases.{either}
-use Rattle.lists.proofs.Sublists.{nodup-apart, parts, ∈-⊑, ⊑-⊆}
-use Rattle.lists.specs.Lists.{Apart, _∈_, _⊑_, flat, flatBack}
+use lib.Dec.{eqb}
+use borrow.Author.Tests.{eqb-false, eqb-true}
+use Rattle.lists.proofs.Cases.{cases, either}
+use Rattle.lists.proofs.Sublists.{nodup-apart, parts, ∈-⊑, ⊑-left, ⊑-⊆}
+use Rattle.lists.specs.Lists.{Apart, _∈_, _⊑_, behind, flat, flatBack}
 
 pub flat-++ : (f : ℕ → List ℕ) (a b : List ℕ) → flat f (a ++ b) ≡ flat f a ++ flat f b
 flat-++ f [] b = refl
@@ -113,3 +115,11 @@ flatBack-one hold (u ∷ l) d x z t i j p q = pick (List·Memᴰ·cases-cons i) 
 pub flatBack-nodup : (hold : ℕ → List ℕ) (x : ℕ) (l : List ℕ) → x ∈ l → List·Nodup (flatBack hold l) → List·Nodup (hold x)
 flatBack-nodup hold x (z ∷ l) (List·Memᴰ·head q) d = rw q (Nodup·of-append-right (flatBack hold l) d)
 flatBack-nodup hold x (z ∷ l) (List·Memᴰ·tail j) d = flatBack-nodup hold x l j (Nodup·of-append-left (hold z) d)
+
+-- the blocks behind r, and then r's, stand in the whole row in that order
+pub flatBack-behind : (hold : ℕ → List ℕ) (r : ℕ) (l : List ℕ) → r ∈ l → (flatBack hold (behind r l) ++ hold r) ⊑ flatBack hold l
+unfolding behind
+flatBack-behind hold r (x ∷ l) i =
+    cases (eqb x r)
+    (λ e. rw (e, eqb-true x r e) (Sublistᴰ·refl (flatBack hold l ++ hold r)))
+    (λ e. rw e (Sublistᴰ·trans (flatBack-behind hold r l (either (List·Memᴰ·cases-cons i) (λ q. absurd (eqb-false x r e (sym q))) (λ j. j))) (⊑-left (flatBack hold l) (hold x))))

@@ -8,7 +8,7 @@ use lib.Dec.{eqb}
 use borrow.Author.Tests.{eq-eqb, eqb-true, ne-eqb}
 use Rattle.lists.proofs.Cases.{cases, either, or-assoc, or-cases, or-left, or-right}
 use Rattle.lists.proofs.Sublists.{⊑-⊆}
-use Rattle.lists.specs.Lists.{_∈_, _⊑_, keep, member}
+use Rattle.lists.specs.Lists.{_∈_, _⊑_, flatBack, keep, member}
 
 pub member-++ : (u : ℕ) (a b : List ℕ) → member u (a ++ b) ≡ (member u a || member u b)
 member-++ u [] b = refl
@@ -29,6 +29,22 @@ keep-same p q (x ∷ l) h = rw (h x, keep-same p q l h)
 pub keep-in : (p q : ℕ → Bool) (l : List ℕ) → ((x : ℕ) → x ∈ l → p x ≡ q x) → keep p l ≡ keep q l
 keep-in p q [] h = refl
 keep-in p q (x ∷ l) h = rw (h x (List·Memᴰ·head refl), keep-in p q l (λ z i. h z (List·Memᴰ·tail i)))
+
+pub keep-all : (p : ℕ → Bool) (l : List ℕ) → ((x : ℕ) → x ∈ l → p x ≡ true) → keep p l ≡ l
+keep-all p [] h = refl
+keep-all p (x ∷ l) h = rw (h x (List·Memᴰ·head refl), keep-all p l (λ z i. h z (List·Memᴰ·tail i)))
+
+pub keep-++ : (p : ℕ → Bool) (a b : List ℕ) → keep p (a ++ b) ≡ keep p a ++ keep p b
+keep-++ p [] b = refl
+keep-++ p (x ∷ a) b = cases (p x) (λ e. rw (e, keep-++ p a b)) (λ e. rw (e, keep-++ p a b))
+
+pub keep-flatBack : (p : ℕ → Bool) (f : ℕ → List ℕ) (l : List ℕ) → keep p (flatBack f l) ≡ flatBack (λ x. keep p (f x)) l
+keep-flatBack p f [] = refl
+keep-flatBack p f (x ∷ l) = rw (keep-++, keep-flatBack p f l)
+
+pub keep-⊑ : (p : ℕ → Bool) (l : List ℕ) → keep p l ⊑ l
+keep-⊑ p [] = Sublistᴰ·slnil
+keep-⊑ p (x ∷ l) = cases (p x) (λ e. rw e (Sublistᴰ·cons-cons refl (keep-⊑ p l))) (λ e. rw e (Sublistᴰ·cons (keep-⊑ p l)))
 
 -- an ordered sublist of a list without duplicates is what is left of that list when its own elements stay
 pub keep-sublist : {w l : List ℕ} → w ⊑ l → List·Nodup l → w ≡ keep (λ u. member u w) l

@@ -1,12 +1,14 @@
 -- Where an element stands, and what putting one in or taking one out does.
-use Prim.Native.Nat.{ℕ}
+use Prim.Native.Nat.{_<_, suc, zero, ℕ}
 use mathlib.Core.Bool.{cond, false, true}
 use mathlib.Core.Path.{_∙_, _≡_, ap, refl, sym}
 use mathlib.Core.Logic.{_⊎_, inl, inr}
 use mathlib.Core.List.{List, List·Memᴰ·cases-cons, List·Memᴰ·head, List·Memᴰ·not-nil, List·Memᴰ·tail, List·Nodup, Memᴰ·cast}
 use mathlib.Core.List.{Nodup·of-append-right, Sublistᴰ·cases-cons, Sublistᴰ·cases-cons-cons, Sublistᴰ·cons, Sublistᴰ·cons-cons}
 use mathlib.Core.List.{Sublistᴰ·refl, [], _++_, _∷_, head-eq-of-cons-eq, nodup-cons}
+use native.Mathlib.Omega.{arith}
 use lib.Dec.{eqb}
+use lib.ListN.{getD, length, replicate, take}
 use borrow.Author.Tests.{eq-eqb, eqb-false, eqb-true, ne-eqb}
 use Rattle.lists.proofs.Cases.{either, split}
 use Rattle.lists.proofs.Sublists.{parts, ∈-⊑, ⊑-⊆}
@@ -161,3 +163,19 @@ behind-in r (z ∷ l) x i = pick (split (eqb z r)) (behind-in r l x)
     pick : (eqb z r ≡ true) ⊎ (eqb z r ≡ false) → (x ∈ behind r l → x ∈ l) → x ∈ (z ∷ l)
     pick (inl e) k = List·Memᴰ·tail (rw e at i)
     pick (inr e) k = List·Memᴰ·tail (k (rw e at i))
+
+pub take-in : (x n : ℕ) (l : List ℕ) → x ∈ take n l → x ∈ l
+take-in x zero l i = absurd (List·Memᴰ·not-nil i)
+take-in x (suc n) [] i = i
+take-in x (suc n) (z ∷ l) (List·Memᴰ·head e) = List·Memᴰ·head e
+take-in x (suc n) (z ∷ l) (List·Memᴰ·tail i) = List·Memᴰ·tail (take-in x n l i)
+
+pub getD-in : (l : List ℕ) (i d : ℕ) → i < length l → getD l i d ∈ l
+getD-in [] i d h = absurd (omega arith)
+getD-in (x ∷ l) zero d h = List·Memᴰ·head refl
+getD-in (x ∷ l) (suc i) d h = List·Memᴰ·tail (getD-in l i d (omega arith))
+
+pub replicate-in : (x n a : ℕ) → x ∈ replicate n a → x ≡ a
+replicate-in x zero a i = absurd (List·Memᴰ·not-nil i)
+replicate-in x (suc n) a (List·Memᴰ·head e) = e
+replicate-in x (suc n) a (List·Memᴰ·tail i) = replicate-in x n a i

@@ -1,0 +1,185 @@
+-- A step on the parts is the step on the cells: query, update, close and join.
+use Prim.Native.Nat.{ℕ, zero, suc, _+_, _-_, _<_, _≤_}
+use mathlib.Core.Bool.{Bool, true, false, cond, _||_, _&&_}
+use mathlib.Core.Path.{_≡_, refl, sym, _∙_, ap, fun-ext}
+use mathlib.Core.List.{List, [], _∷_, _++_}
+use native.Mathlib.Omega.{arith}
+use lib.Dec.{eqb, ltb}
+use lib.ListN.{length, set, getD}
+use lib.Seq.{getD-set-same, getD-set-other}
+use borrow.Author.Tests.{eqb-true, eqb-false, ne-eqb, ltb-true, ltb-false, lt-ltb, le-ltb}
+use Rattle.lists.specs.Lists.{changed}
+use Rattle.lists.proofs.Cases.{cases}
+use Rattle.cells.specs.Sizes.{revisions, clients, updates, closed}
+use Rattle.cells.specs.Parts.{Parts, Sized, size, lowPart, highPart, seenPart, caughtPart, statePart, lastPart, firstPart, countPart, openedPart, countersPart}
+use Rattle.cells.specs.Words.{byte}
+use Rattle.cells.specs.Marks.{markIn, putRow}
+use Rattle.cells.specs.Cells.{Cells}
+use Rattle.cells.specs.Decode.{decode}
+use Rattle.cells.specs.CellSteps.{onlyCaught, queryCells, updateCells, closeCells, joinSeen, joinCaught, joinCells}
+use Rattle.cells.specs.Steps.{queryParts, updateParts, closeParts, joinParts}
+use Rattle.cells.proofs.Tables.{getD-changed}
+use Rattle.cells.proofs.Words.{word-put, byte-put-other, word-set-other, link-put}
+use Rattle.cells.proofs.Marks.{mark-row, Within, marks-within, mark-pack}
+
+-- a test that implies a bound
+pub bounded : (x r n : ℕ) → r < n → (ltb x n && eqb x r) ≡ eqb x r
+bounded x r n h =
+    cases (ltb x n)
+    (λ e. rw e)
+    (λ e. let l = ltb-false x n e in rw (e, ne-eqb x r (omega arith)))
+
+module _ (p : Parts) (h : Sized p) (c r : ℕ) (cl : c < clients) (rl : r < revisions) where
+  pub caught-only : (x y : ℕ) → markIn 8 clients (putRow 8 (p caughtPart) c (λ z. eqb z r)) x y ≡ onlyCaught (decode p .caught) c r x y
+  unfolding size
+  caught-only x y =
+      mark-row 8 clients (p caughtPart) c (λ z. eqb z r) (h .of caughtPart) cl x y
+      ∙ cases (eqb x c) (λ e. rw e (bounded y r revisions rl)) (λ e. rw e)
+
+  pub opened-changed : (v x : ℕ) → byte (set (p openedPart) c v) x ≡ changed (decode p .opened) c v x
+  unfolding size
+  opened-changed v x = let s = h .of openedPart in getD-changed (p openedPart) c v 0 x (omega arith)
+
+  pub query-follows : decode (queryParts p c r) ≡ queryCells (decode p) c r
+  query-follows = λ i. record {
+    state = decode p .state;
+    used = decode p .used;
+    last = decode p .last;
+    first = decode p .first;
+    count = decode p .count;
+    base = decode p .base;
+    row = decode p .row;
+    link = decode p .link;
+    seen = decode p .seen;
+    caught = fun-ext (λ x. fun-ext (caught-only x)) i;
+    layout = decode p .layout;
+    out = decode p .out;
+    opened = fun-ext (opened-changed r) i;
+    updates = decode p .updates;
+    given = decode p .given;
+  }
+
+  pub close-follows : decode (closeParts p c) ≡ closeCells (decode p) c
+  close-follows = λ i. record {
+    state = decode p .state;
+    used = decode p .used;
+    last = decode p .last;
+    first = decode p .first;
+    count = decode p .count;
+    base = decode p .base;
+    row = decode p .row;
+    link = decode p .link;
+    seen = decode p .seen;
+    caught = decode p .caught;
+    layout = decode p .layout;
+    out = decode p .out;
+    opened = fun-ext (opened-changed closed) i;
+    updates = decode p .updates;
+    given = decode p .given;
+  }
+
+  module _ (ul : decode p .updates < updates) (ll : decode p .last r < updates) where
+    abbrev u : ℕ
+    u = decode p .updates
+
+    pub update-follows : decode (updateParts p c r) ≡ updateCells (decode p) c r
+    unfolding size
+    update-follows =
+        let a = h .of lastPart in
+        let b = h .of firstPart in
+        let d = h .of countPart in
+        let e = h .of countersPart in
+        let f = h .of lowPart in
+        let g = h .of highPart in
+        λ i. record {
+          state = decode p .state;
+          used = decode p .used;
+          last = fun-ext (λ x. word-put (p lastPart) r u x (omega arith)) i;
+          first = fun-ext (λ x. word-put (p firstPart) r (cond (eqb (decode p .count r) 0) u (decode p .first r)) x (omega arith)) i;
+          count = fun-ext (λ x. word-put (p countPart) r (suc (decode p .count r)) x (omega arith)) i;
+          base = decode p .base;
+          row = decode p .row;
+          link = fun-ext (λ x. link-put (p lowPart) (p highPart) u (decode p .last r) x (omega arith) (omega arith) ll) i;
+          seen = decode p .seen;
+          caught = fun-ext (λ x. fun-ext (caught-only x)) i;
+          layout = decode p .layout;
+          out = byte-put-other (p countersPart) 0 (suc u) 2 (omega arith) (omega arith) i;
+          opened = fun-ext (opened-changed r) i;
+          updates = word-put (p countersPart) 0 (suc u) 0 (omega arith) i;
+          given = byte-put-other (p countersPart) 0 (suc u) 3 (omega arith) (omega arith) i;
+        }
+
+-- a row or a column of marks changed, inside the rows
+within-row : (n : ℕ) (f : ℕ → ℕ → Bool) (a : ℕ) (g : ℕ → Bool) → a < n → Within n f → ((y : ℕ) → ltb y 64 ≡ false → g y ≡ false) → Within n (changed f a g)
+within-row n f a g al w wg x y e =
+    cases (eqb x a)
+    (λ q. rw q (wg y (rw (eqb-true x a q, lt-ltb a n al) at e)))
+    (λ q. rw q (w x y e))
+
+pub within-column : (n : ℕ) (f : ℕ → ℕ → Bool) (a : ℕ) (g : ℕ → Bool) → a < 64 → Within n f → ((x : ℕ) → ltb x n ≡ false → g x ≡ false) → Within n (λ x. changed (f x) a (g x))
+within-column n f a g al w wg x y e =
+    cases (eqb y a)
+    (λ q. rw q (wg x (cases (ltb x n) (λ z. z ∙ (rw (z, eqb-true y a q, lt-ltb a 64 al) at e)) (λ z. z))))
+    (λ q. rw q (w x y e))
+
+-- a mark outside is false
+pub outside-row : (n : ℕ) (f : ℕ → ℕ → Bool) → Within n f → (x y : ℕ) → ltb x n ≡ false → f x y ≡ false
+outside-row n f w x y e = w x y (rw e)
+
+pub outside-column : (n : ℕ) (f : ℕ → ℕ → Bool) → Within n f → (x y : ℕ) → ltb y 64 ≡ false → f x y ≡ false
+outside-column n f w x y e = w x y (cases (ltb x n) (λ q. rw (q, e)) (λ q. rw q))
+
+module _ (p : Parts) (h : Sized p) (a b : ℕ) (al : a < revisions) (bl : b < revisions) (fl : decode p .first b < updates) (ll : decode p .last a < updates) where
+  abbrev k : Cells
+  k = decode p
+
+  join-seen : (x y : ℕ) → decode (joinParts p a b) .seen x y ≡ joinSeen (k .seen) a b x y
+  join-seen =
+      let w = marks-within revisions (p seenPart) in
+      mark-pack revisions (joinSeen (k .seen) a b)
+      (within-row revisions (k .seen) a _ al w (λ y e. rw (outside-column revisions (k .seen) w a y e, outside-column revisions (k .seen) w b y e)))
+
+  join-caught : (x y : ℕ) → decode (joinParts p a b) .caught x y ≡ joinCaught (k .caught) a b x y
+  join-caught =
+      let w = marks-within clients (p caughtPart) in
+      mark-pack clients (joinCaught (k .caught) a b)
+      (within-column clients (k .caught) a _ al w (λ x e. rw (outside-row clients (k .caught) w x a e, outside-row clients (k .caught) w x b e)))
+
+  join-link : (x : ℕ) → decode (joinParts p a b) .link x ≡ joinCells k a b .link x
+  unfolding size
+  join-link x =
+      let m = h .of lowPart in
+      let n = h .of highPart in
+      cases (eqb (k .count b) 0) (λ e. rw e) (λ e. rw e (link-put (p lowPart) (p highPart) (k .first b) (k .last a) x (omega arith) (omega arith) ll))
+
+  join-last : (x : ℕ) → decode (joinParts p a b) .last x ≡ joinCells k a b .last x
+  unfolding size
+  join-last x = let m = h .of lastPart in cases (eqb (k .count b) 0) (λ e. rw e) (λ e. rw e (word-put (p lastPart) a (k .last b) x (omega arith)))
+
+  join-first : (x : ℕ) → decode (joinParts p a b) .first x ≡ joinCells k a b .first x
+  unfolding size
+  join-first x = let m = h .of firstPart in cases (eqb (k .count b) 0) (λ e. rw e) (λ e. rw e (word-put (p firstPart) a (cond (eqb (k .count a) 0) (k .first b) (k .first a)) x (omega arith)))
+
+  pub join-follows : decode (joinParts p a b) ≡ joinCells k a b
+  unfolding size
+  join-follows =
+      let m = h .of countPart in
+      let n = h .of statePart in
+      let o = h .of countersPart in
+      λ i. record {
+        state = fun-ext (λ x. getD-changed (p statePart) b 2 0 x (omega arith)) i;
+        used = decode p .used;
+        last = fun-ext join-last i;
+        first = fun-ext join-first i;
+        count = fun-ext (λ x. word-put (p countPart) a (k .count a + k .count b) x (omega arith)) i;
+        base = decode p .base;
+        row = decode p .row;
+        link = fun-ext join-link i;
+        seen = fun-ext (λ x. fun-ext (join-seen x)) i;
+        caught = fun-ext (λ x. fun-ext (join-caught x)) i;
+        layout = decode (joinParts p a b) .layout;
+        out = getD-set-same (p countersPart) 2 (k .out - 1) 0 (omega arith) i;
+        opened = decode p .opened;
+        updates = word-set-other (p countersPart) 0 (k .out - 1) 2 (omega arith) (omega arith) i;
+        given = getD-set-other (p countersPart) 2 3 (k .out - 1) 0 (omega arith) i;
+      }

@@ -1,0 +1,13 @@
+-- Laws of the definitions, each said once, over variables.
+pub mod Tables
+pub mod Parts
+pub mod Words
+pub mod Marks
+pub mod Chain
+pub mod Places
+pub mod Sized
+pub mod Follow
+pub mod FollowFork
+pub mod FollowFresh
+pub mod Range
+pub mod Example

@@ -1,0 +1,73 @@
+-- What a content in range says of each cell; and that a fresh table is in range.
+use Prim.Native.Nat.{ℕ, _<_, _≤_}
+use mathlib.Core.Bool.{Bool, true, _&&_}
+use mathlib.Core.Path.{_≡_, refl, ap, sym, subst}
+use mathlib.Core.List.{List}
+use lib.Dec.{ltb, eqb}
+use borrow.Author.Tests.{ltb-true}
+use native.Mathlib.Omega.{arith}
+use Rattle.lists.proofs.Cases.{and-true}
+use Rattle.cells.specs.Sizes.{revisions, clients, updates}
+use Rattle.cells.specs.Tables.{every}
+use Rattle.cells.specs.Parts.{Parts, split, statePart, usedPart, lastPart, firstPart, countPart, basePart, layoutPart, queuePart, openedPart, countersPart, signaturePart}
+use Rattle.cells.specs.Words.{byte, word}
+use Rattle.cells.specs.Decode.{decode}
+use Rattle.cells.specs.Range.{bytesBelow, wordsBelow, countersIn, signed, partsIn, inRange}
+use Rattle.cells.proofs.Tables.{every-at}
+
+-- the ranges that the steps rely on
+pub record Ranges (p : Parts) : Type 0 where
+  pub last : (r : ℕ) → r < revisions → decode p .last r < updates
+  pub first : (r : ℕ) → r < revisions → decode p .first r < updates
+  pub count : (r : ℕ) → r < revisions → decode p .count r ≤ updates
+  pub base : (r : ℕ) → r < revisions → decode p .base r ≤ updates
+  pub layout : (i : ℕ) → i < revisions → byte (p layoutPart) i < revisions
+  pub taken : decode p .updates ≤ updates
+  pub some-out : 0 < decode p .out
+  pub most-out : decode p .out ≤ revisions
+  pub some-given : 0 < decode p .given
+  pub most-given : decode p .given ≤ revisions
+
+module _ (n limit : ℕ) (t : List ℕ) where
+  byte-below : bytesBelow n limit t ≡ true → (i : ℕ) → i < n → byte t i < limit
+  byte-below e i h = ltb-true (byte t i) limit (every-at (λ j. ltb (byte t j) limit) n i e h)
+
+  word-below : wordsBelow n limit t ≡ true → (i : ℕ) → i < n → word t i < limit
+  word-below e i h = ltb-true (word t i) limit (every-at (λ j. ltb (word t j) limit) n i e h)
+
+counters-in : (t : List ℕ) → countersIn t ≡ true → (word t 0 < 4097) × (0 < byte t 2) × (byte t 2 < 65) × (0 < byte t 3) × (byte t 3 < 65)
+counters-in t e =
+    let a = and-true (ltb (word t 0) 4097) _ e in
+    let b = and-true (ltb 0 (byte t 2)) _ (a .1) in
+    let c = and-true (ltb (byte t 2) 65) _ (b .1) in
+    let d = and-true (ltb 0 (byte t 3)) (ltb (byte t 3) 65) (c .1) in
+    (ltb-true _ _ (a .0), ltb-true _ _ (b .0), ltb-true _ _ (c .0), ltb-true _ _ (d .0), ltb-true _ _ (d .1))
+
+pub parts-ranges : (p : Parts) → partsIn p ≡ true → Ranges p
+parts-ranges p e =
+    let a = and-true (bytesBelow revisions 3 (p statePart)) _ e in
+    let b = and-true (bytesBelow revisions 2 (p usedPart)) _ (a .1) in
+    let c = and-true (wordsBelow revisions 4096 (p lastPart)) _ (b .1) in
+    let d = and-true (wordsBelow revisions 4096 (p firstPart)) _ (c .1) in
+    let f = and-true (wordsBelow revisions 4097 (p countPart)) _ (d .1) in
+    let g = and-true (wordsBelow revisions 4097 (p basePart)) _ (f .1) in
+    let h = and-true (bytesBelow revisions 64 (p layoutPart)) _ (g .1) in
+    let i = and-true (bytesBelow revisions 64 (p queuePart)) _ (h .1) in
+    let j = and-true (bytesBelow clients 65 (p openedPart)) _ (i .1) in
+    let m = counters-in (p countersPart) (and-true (countersIn (p countersPart)) (signed (p signaturePart)) (j .1) .0) in
+    record {
+      last = word-below revisions 4096 (p lastPart) (c .0);
+      first = word-below revisions 4096 (p firstPart) (d .0);
+      count = λ r l. let z = word-below revisions 4097 (p countPart) (f .0) r l in omega arith;
+      base = λ r l. let z = word-below revisions 4097 (p basePart) (g .0) r l in omega arith;
+      layout = byte-below revisions 64 (p layoutPart) (h .0);
+      taken = let z = m .0 in omega arith;
+      some-out = m .1;
+      most-out = let z = m .2 in omega arith;
+      some-given = m .3;
+      most-given = let z = m .4 in omega arith;
+    }
+
+pub ranges : (d : List ℕ) → inRange d ≡ true → Ranges (split d)
+unfolding inRange
+ranges d e = parts-ranges (split d) e

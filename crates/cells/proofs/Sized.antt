@@ -1,0 +1,122 @@
+-- Every part keeps its size through each step.
+use Prim.Native.Nat.{ℕ, zero, suc, _+_, _-_, _/_, _%_, _<_, _≤_}
+use mathlib.Core.Bool.{Bool, true, false, cond}
+use mathlib.Core.Path.{_≡_, refl, sym, _∙_, ap}
+use mathlib.Core.List.{List, [], _∷_, _++_}
+use native.Mathlib.Omega.{arith}
+use lib.Dec.{eqb}
+use lib.ListN.{length, set, take, replicate, length-set, length-replicate}
+use lib.Seq.{length-take-le}
+use Rattle.lists.specs.Lists.{insert, remove}
+use Rattle.cells.specs.Sizes.{revisions, clients, main, closed, isOut, isJoined}
+use Rattle.cells.specs.Parts.{Parts, Sized, size, _⟨_≔_⟩, rowsPart, lowPart, highPart, seenPart, caughtPart, statePart, usedPart, lastPart, firstPart}
+use Rattle.cells.specs.Parts.{countPart, basePart, layoutPart, openedPart, countersPart, signaturePart}
+use Rattle.cells.specs.Words.{putWord, putHalf}
+use Rattle.cells.specs.Marks.{pack, putRow}
+use Rattle.cells.specs.Decode.{decode}
+use Rattle.cells.specs.Range.{signature}
+use Rattle.cells.specs.CellSteps.{forkRow, forkSeen, forkCaught, spliced, joinSeen, joinCaught}
+use Rattle.cells.specs.Steps.{freshParts, queryParts, linkParts, appendParts, updateParts, closeParts, putRowOf, inheritParts, forkParts, spliceParts, joinParts}
+use Rattle.cells.proofs.Parts.{sized-with}
+use Rattle.cells.proofs.Words.{putWord-length, putHalf-length}
+use Rattle.cells.proofs.Marks.{putRow-length, pack-length}
+use Rattle.cells.proofs.Places.{insert-length, remove-length}
+
+pub putRowOf-length : (t : List ℕ) (r : ℕ) (f : ℕ → Bool) → length t ≡ 32256 → r < revisions → length (putRowOf t r f) ≡ length t
+putRowOf-length t zero f l h = refl
+putRowOf-length t (suc r) f l h = putRow-length 512 63 t r f (omega arith) (omega arith)
+
+-- one part written
+pub word-sized : {p : Parts} → Sized p → (i r v : ℕ) → Sized (p ⟨ i ≔ putWord (p i) r v ⟩)
+word-sized {p} h i r v = sized-with h i (putWord (p i) r v) (putWord-length (p i) r v ∙ h .of i)
+
+pub byte-sized : {p : Parts} → Sized p → (i r v : ℕ) → Sized (p ⟨ i ≔ set (p i) r v ⟩)
+byte-sized {p} h i r v = sized-with h i (set (p i) r v) (length-set (p i) r v ∙ h .of i)
+
+pub seen-sized : {p : Parts} → Sized p → (f : ℕ → ℕ → Bool) → Sized (p ⟨ seenPart ≔ pack revisions f ⟩)
+unfolding size
+seen-sized h f = sized-with h seenPart (pack revisions f) (pack-length revisions f)
+
+pub caught-sized : {p : Parts} → Sized p → (f : ℕ → ℕ → Bool) → Sized (p ⟨ caughtPart ≔ pack clients f ⟩)
+unfolding size
+caught-sized h f = sized-with h caughtPart (pack clients f) (pack-length clients f)
+
+pub caughtRow-sized : {p : Parts} → Sized p → (c : ℕ) (f : ℕ → Bool) → c < clients → Sized (p ⟨ caughtPart ≔ putRow 8 (p caughtPart) c f ⟩)
+unfolding size
+caughtRow-sized {p} h c f l = let s = h .of caughtPart in sized-with h caughtPart (putRow 8 (p caughtPart) c f) (putRow-length 8 clients (p caughtPart) c f s l ∙ s)
+
+-- the first 64 places of a longer layout
+pub layout-sized : {p : Parts} → Sized p → (l : List ℕ) → length (p layoutPart) ≤ length l → Sized (p ⟨ layoutPart ≔ take revisions l ⟩)
+unfolding size
+layout-sized h l m = let s = h .of layoutPart in sized-with h layoutPart (take revisions l) (length-take-le revisions l (omega arith))
+
+pub link-sized : {p : Parts} → Sized p → (u v : ℕ) → Sized (linkParts p u v)
+link-sized {p} h u v = sized-with (sized-with h lowPart (set (p lowPart) u (v % 256)) (length-set (p lowPart) u _ ∙ h .of lowPart)) highPart (putHalf (p highPart) u (v / 256)) (putHalf-length (p highPart) u _ ∙ h .of highPart)
+
+pub row-sized : {p : Parts} → Sized p → (b : Bool) (c : ℕ) (f : ℕ → Bool) → c < revisions → Sized (p ⟨ rowsPart ≔ cond b (p rowsPart) (putRowOf (p rowsPart) c f) ⟩)
+unfolding size
+row-sized {p} h true c f l = sized-with h rowsPart (p rowsPart) (h .of rowsPart)
+row-sized {p} h false c f l = let s = h .of rowsPart in sized-with h rowsPart (putRowOf (p rowsPart) c f) (putRowOf-length (p rowsPart) c f s l ∙ s)
+
+-- the steps
+pub query-sized : {p : Parts} → Sized p → (c r : ℕ) → c < clients → Sized (queryParts p c r)
+query-sized h c r l = byte-sized (caughtRow-sized h c (λ x. eqb x r) l) openedPart c r
+
+pub append-sized : {p : Parts} → Sized p → (r : ℕ) → Sized (appendParts p r)
+append-sized {p} h r =
+    let k = decode p in
+    let a = word-sized (link-sized h (k .updates) (k .last r)) lastPart r (k .updates) in
+    let b = word-sized a firstPart r (cond (eqb (k .count r) 0) (k .updates) (k .first r)) in
+    word-sized (word-sized b countPart r (suc (k .count r))) countersPart 0 (suc (k .updates))
+
+pub update-sized : {p : Parts} → Sized p → (c r : ℕ) → c < clients → Sized (updateParts p c r)
+update-sized h c r l = query-sized (append-sized h r) c r l
+
+pub close-sized : {p : Parts} → Sized p → (c : ℕ) → Sized (closeParts p c)
+close-sized h c = byte-sized h openedPart c closed
+
+pub inherit-sized : {p : Parts} → Sized p → (q c : ℕ) → c < revisions → Sized (inheritParts p q c)
+inherit-sized {p} h q c l =
+    let k = decode p in
+    let a = byte-sized (row-sized h (eqb q main) c (forkRow k q) l) usedPart c (cond (eqb q main) 0 1) in
+    word-sized (word-sized a basePart c (cond (eqb q main) (k .count main) (k .base q))) countPart c 0
+
+pub fork-sized : {p : Parts} → Sized p → (q c : ℕ) → c < revisions → Sized (forkParts p q c)
+fork-sized {p} h q c l =
+    let k = decode p in
+    let a = caught-sized (seen-sized (inherit-sized h q c l) (forkSeen (k .seen) q c)) (forkCaught (k .caught) q c) in
+    let b = layout-sized (byte-sized a statePart c isOut) (insert q c (p layoutPart)) (insert-length q c (p layoutPart)) in
+    sized-with b countersPart (set (set (p countersPart) 2 (suc (k .out))) 3 (suc (k .given))) (simp length-set (h .of countersPart))
+
+pub splice-sized : {p : Parts} → Sized p → (a b : ℕ) → Sized (spliceParts p a b)
+splice-sized {p} h a b =
+    let k = decode p in
+    let t = sized-with h lowPart (spliced k b (p lowPart) (set (p lowPart) (k .first b) (k .last a % 256))) (either-size (eqb (k .count b) 0) lowPart _ (length-set (p lowPart) (k .first b) _)) in
+    let u = sized-with t highPart (spliced k b (p highPart) (putHalf (p highPart) (k .first b) (k .last a / 256))) (either-size (eqb (k .count b) 0) highPart _ (putHalf-length (p highPart) (k .first b) _)) in
+    let v = sized-with u lastPart (spliced k b (p lastPart) (putWord (p lastPart) a (k .last b))) (either-size (eqb (k .count b) 0) lastPart _ (putWord-length (p lastPart) a _)) in
+    sized-with v firstPart (spliced k b (p firstPart) (putWord (p firstPart) a (cond (eqb (k .count a) 0) (k .first b) (k .first a)))) (either-size (eqb (k .count b) 0) firstPart _ (putWord-length (p firstPart) a _))
+  where
+    either-size : (t : Bool) (i : ℕ) (l : List ℕ) → length l ≡ length (p i) → length (cond t (p i) l) ≡ size i
+    either-size true i l e = h .of i
+    either-size false i l e = e ∙ h .of i
+
+pub join-sized : {p : Parts} → Sized p → (a b : ℕ) → Sized (joinParts p a b)
+unfolding size
+join-sized {p} h a b =
+    let k = decode p in
+    let s = sized-with (splice-sized h a b) countPart (putWord (p countPart) a (k .count a + k .count b)) (putWord-length (p countPart) a _ ∙ h .of countPart) in
+    let m = caught-sized (seen-sized s (joinSeen (k .seen) a b)) (joinCaught (k .caught) a b) in
+    let t = sized-with m statePart (set (p statePart) b isJoined) (length-set (p statePart) b _ ∙ h .of statePart) in
+    let l = sized-with t layoutPart (take revisions (remove b (p layoutPart) ++ (0 ∷ []))) (whole (remove b (p layoutPart) ++ (0 ∷ [])) (remove-length b (p layoutPart))) in
+    sized-with l countersPart (set (p countersPart) 2 (k .out - 1)) (length-set (p countersPart) 2 _ ∙ h .of countersPart)
+  where
+    whole : (l : List ℕ) → length (p layoutPart) ≤ length l → length (take revisions l) ≡ size layoutPart
+    whole l m = let s = h .of layoutPart in length-take-le revisions l (omega arith)
+
+pub fresh-sized : Sized freshParts
+unfolding size signature
+fresh-sized =
+    let z : Sized (λ i. replicate (size i) 0) = record { of = λ i. length-replicate (size i) 0 } in
+    let a = sized-with (caught-sized z (λ c r. true)) statePart (set (replicate 64 0) main isOut) refl in
+    let b = sized-with (sized-with a openedPart (replicate 16 closed) refl) countersPart (0 ∷ 0 ∷ 1 ∷ 1 ∷ []) refl in
+    sized-with b signaturePart signature refl

@@ -1,0 +1,155 @@
+-- What each accepted step does to the cells: docs/CELLS.md, "What each step writes".
+use Prim.Native.Nat.{ℕ, suc, _+_, _-_}
+use mathlib.Core.Bool.{Bool, true, false, cond, _||_, _&&_}
+use mathlib.Core.List.{List, [], _∷_, _++_}
+use lib.Dec.{eqb, ltb}
+use lib.ListN.{take, replicate}
+use Rattle.lists.specs.Lists.{changed, member, insert, remove}
+use Rattle.cells.specs.Sizes.{revisions, clients, updates, main, closed, isOut, isJoined}
+use Rattle.cells.specs.Cells.{Cells, own, marked}
+
+-- a fresh day: the main revision is out; a client without events may start anywhere
+abbrev pub freshCells : Cells
+freshCells = record {
+  state = λ r. cond (eqb r main) isOut 0;
+  used = λ r. false;
+  last = λ r. 0;
+  first = λ r. 0;
+  count = λ r. 0;
+  base = λ r. 0;
+  row = λ r u. false;
+  link = λ u. 0;
+  seen = λ a b. false;
+  caught = λ c r. ltb c clients && ltb r revisions;
+  layout = replicate revisions 0;
+  out = 1;
+  opened = λ c. cond (ltb c clients) closed 0;
+  updates = 0;
+  given = 1;
+}
+
+-- after its event a client has caught up with that revision alone
+abbrev pub onlyCaught : (ℕ → ℕ → Bool) → ℕ → ℕ → ℕ → ℕ → Bool
+onlyCaught caught c r = changed caught c (λ x. eqb x r)
+
+-- a query by client c on r: an event, in c's transaction on r
+abbrev pub queryCells : Cells → ℕ → ℕ → Cells
+queryCells k c r = record {
+  state = k .state;
+  used = k .used;
+  last = k .last;
+  first = k .first;
+  count = k .count;
+  base = k .base;
+  row = k .row;
+  link = k .link;
+  seen = k .seen;
+  caught = onlyCaught (k .caught) c r;
+  layout = k .layout;
+  out = k .out;
+  opened = changed (k .opened) c r;
+  updates = k .updates;
+  given = k .given;
+}
+
+-- an update besides: the next number goes to the end of r's own list
+abbrev pub updateCells : Cells → ℕ → ℕ → Cells
+updateCells k c r = record {
+  state = k .state;
+  used = k .used;
+  last = changed (k .last) r (k .updates);
+  first = changed (k .first) r (cond (eqb (k .count r) 0) (k .updates) (k .first r));
+  count = changed (k .count) r (suc (k .count r));
+  base = k .base;
+  row = k .row;
+  link = changed (k .link) (k .updates) (k .last r);
+  seen = k .seen;
+  caught = onlyCaught (k .caught) c r;
+  layout = k .layout;
+  out = k .out;
+  opened = changed (k .opened) c r;
+  updates = suc (k .updates);
+  given = k .given;
+}
+
+-- "Yield: the open transaction, if any, is closed."
+abbrev pub closeCells : Cells → ℕ → Cells
+closeCells k c = record {
+  state = k .state;
+  used = k .used;
+  last = k .last;
+  first = k .first;
+  count = k .count;
+  base = k .base;
+  row = k .row;
+  link = k .link;
+  seen = k .seen;
+  caught = k .caught;
+  layout = k .layout;
+  out = k .out;
+  opened = changed (k .opened) c closed;
+  updates = k .updates;
+  given = k .given;
+}
+
+-- c has seen what p has; of c's fork only p has seen anything
+abbrev pub forkSeen : (ℕ → ℕ → Bool) → ℕ → ℕ → ℕ → ℕ → Bool
+forkSeen seen p c x = changed (changed seen c (seen p) x) c (eqb x p)
+
+-- who has caught up with p has caught up with c
+abbrev pub forkCaught : (ℕ → ℕ → Bool) → ℕ → ℕ → ℕ → ℕ → Bool
+forkCaught caught p c x = changed (caught x) c (caught x p)
+
+-- what a revision forked from p inherits otherwise than by its base count
+abbrev pub forkRow : Cells → ℕ → ℕ → Bool
+forkRow k p u = ltb u updates && (marked k p u || member u (own k p))
+
+-- p forks c. From the main revision c inherits by count alone; else p's count, p's row and p's own list
+abbrev pub forkCells : Cells → ℕ → ℕ → Cells
+forkCells k p c = record {
+  state = changed (k .state) c isOut;
+  used = changed (k .used) c (cond (eqb p main) false true);
+  last = k .last;
+  first = k .first;
+  count = changed (k .count) c 0;
+  base = changed (k .base) c (cond (eqb p main) (k .count main) (k .base p));
+  row = cond (eqb p main) (k .row) (changed (k .row) c (forkRow k p));
+  link = k .link;
+  seen = forkSeen (k .seen) p c;
+  caught = forkCaught (k .caught) p c;
+  layout = take revisions (insert p c (k .layout));
+  out = suc (k .out);
+  opened = k .opened;
+  updates = k .updates;
+  given = suc (k .given);
+}
+
+-- where b has updates of its own they go to the end of a's list
+abbrev pub spliced : {A : Type 0} → Cells → ℕ → A → A → A
+spliced k b kept new = cond (eqb (k .count b) 0) kept new
+
+abbrev pub joinSeen : (ℕ → ℕ → Bool) → ℕ → ℕ → ℕ → ℕ → Bool
+joinSeen seen a b = changed seen a (λ y. seen a y || seen b y)
+
+abbrev pub joinCaught : (ℕ → ℕ → Bool) → ℕ → ℕ → ℕ → ℕ → Bool
+joinCaught caught a b x = changed (caught x) a (caught x a || caught x b)
+
+-- a joins b: a gets b's own list, what b has seen, and who has caught up with b; b is out of the layout
+abbrev pub joinCells : Cells → ℕ → ℕ → Cells
+joinCells k a b = record {
+  state = changed (k .state) b isJoined;
+  used = k .used;
+  last = spliced k b (k .last) (changed (k .last) a (k .last b));
+  first = spliced k b (k .first) (changed (k .first) a (cond (eqb (k .count a) 0) (k .first b) (k .first a)));
+  count = changed (k .count) a (k .count a + k .count b);
+  base = k .base;
+  row = k .row;
+  link = spliced k b (k .link) (changed (k .link) (k .first b) (k .last a));
+  seen = joinSeen (k .seen) a b;
+  caught = joinCaught (k .caught) a b;
+  layout = take revisions (remove b (k .layout) ++ (0 ∷ []));
+  out = k .out - 1;
+  opened = k .opened;
+  updates = k .updates;
+  given = k .given;
+}

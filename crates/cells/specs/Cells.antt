@@ -1,0 +1,48 @@
+-- The cells as functions of a revision, a client or an update: docs/CELLS.md, "What the cells mean".
+use Prim.Native.Nat.{ℕ, zero, suc}
+use mathlib.Core.Bool.{Bool, _&&_}
+use mathlib.Core.List.{List, [], _∷_, _++_}
+use lib.ListN.{take}
+
+pub record Cells : Type 0 where
+  -- 0 never given out, 1 out, 2 joined
+  pub state : ℕ → ℕ
+  -- whether the revision's row of inherited updates is in use
+  pub used : ℕ → Bool
+  -- last and first update of the own list, how many it has, how many of the main revision's list were inherited by count
+  pub last : ℕ → ℕ
+  pub first : ℕ → ℕ
+  pub count : ℕ → ℕ
+  pub base : ℕ → ℕ
+  -- of a revision and an update: inherited otherwise than by the base count
+  pub row : ℕ → ℕ → Bool
+  -- the update before this one in the own list that it stands in
+  pub link : ℕ → ℕ
+  -- of a joiner and a joinee: the joinee's fork is seen at the joiner's terminal and the joinee's start is not
+  pub seen : ℕ → ℕ → Bool
+  -- of a client and a revision: the client's last event is seen at the revision's terminal
+  pub caught : ℕ → ℕ → Bool
+  -- the revisions out, right to left, in the first `out` of 64 places
+  pub layout : List ℕ
+  pub out : ℕ
+  -- the revision of a client's open transaction, or 64
+  pub opened : ℕ → ℕ
+  -- updates taken, and revision numbers given out
+  pub updates : ℕ
+  pub given : ℕ
+
+-- n updates that end at `at`, along the links; the first one's link is not looked at
+unfoldable pub chain : (ℕ → ℕ) → ℕ → ℕ → List ℕ
+chain link at zero = []
+chain link at (suc n) = chain link (link at) n ++ (at ∷ [])
+
+-- the revision's own updates: taken on it or joined into it
+abbrev pub own : Cells → ℕ → List ℕ
+own k r = chain (k .link) (k .last r) (k .count r)
+
+-- the revisions that are out, right to left
+abbrev pub outs : Cells → List ℕ
+outs k = take (k .out) (k .layout)
+
+abbrev pub marked : Cells → ℕ → ℕ → Bool
+marked k r u = k .used r && k .row r u

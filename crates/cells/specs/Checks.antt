@@ -1,0 +1,47 @@
+-- What the codes of the desk ask of the cells: 01, "Codes of the desk". Each answer follows from the cells alone.
+use Prim.Native.Nat.{ℕ}
+use mathlib.Core.Bool.{Bool, not, _&&_}
+use lib.Dec.{eqb, ltb}
+use Rattle.cells.specs.Sizes.{revisions, clients, updates, main, closed, neverGiven, isJoined}
+use Rattle.cells.specs.Tables.{some}
+use Rattle.cells.specs.Cells.{Cells}
+
+-- 2 "tablet above 15": not of this
+abbrev pub isClient : ℕ → Bool
+isClient n = ltb n clients
+
+-- 3 "box number not yet given out": not of this
+abbrev pub givenOut : Cells → ℕ → Bool
+givenOut k r = ltb r revisions && not (eqb (k .state r) neverGiven)
+
+-- 4 "box already a joinee"
+abbrev pub joined : Cells → ℕ → Bool
+joined k r = eqb (k .state r) isJoined
+
+-- 6 "the tablet's open transaction is on another box"
+abbrev pub openElsewhere : Cells → ℕ → ℕ → Bool
+openElsewhere k c r = not (eqb (k .opened c) closed) && not (eqb (k .opened c) r)
+
+-- 7 "the box, or either box, is busy"
+abbrev pub busy : Cells → ℕ → Bool
+busy k r = some (λ x. eqb (k .opened x) r) clients
+
+-- 7 for update and query: "another tablet has the box busy"
+abbrev pub busyByOther : Cells → ℕ → ℕ → Bool
+busyByOther k c r = some (λ x. not (eqb x c) && eqb (k .opened x) r) clients
+
+-- 8 "the path from the tablet's last event is missing"
+abbrev pub stale : Cells → ℕ → ℕ → Bool
+stale k c r = not (k .caught c r)
+
+-- 9 "4,096 updates taken"
+abbrev pub logFull : Cells → Bool
+logFull k = not (ltb (k .updates) updates)
+
+-- 10 "64 boxes started"
+abbrev pub noneLeft : Cells → Bool
+noneLeft k = not (ltb (k .given) revisions)
+
+-- 11 "joinee is box 0, is the joiner, its fork isn't seen, or its start is": not of this
+abbrev pub joinable : Cells → ℕ → ℕ → Bool
+joinable k a b = (not (eqb b main) && not (eqb a b)) && k .seen a b

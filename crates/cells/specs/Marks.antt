@@ -1,0 +1,42 @@
+-- Marks in bytes: eight to a byte, the first of them lowest; rows of w bytes, so of 8 * w marks.
+use Prim.Native.Nat.{ℕ, _+_, _*_, _/_, _%_, _^_}
+use mathlib.Core.Bool.{Bool, true, false, _&&_}
+use mathlib.Core.List.{List, [], _∷_, _++_}
+use lib.Dec.{eqb, ltb}
+use lib.ListN.{getD, take, drop}
+use Rattle.cells.specs.Tables.{tab}
+use Rattle.cells.specs.Words.{byte}
+
+abbrev pub bit : ℕ → ℕ → Bool
+bit b k = eqb (b / 2 ^ k % 2) 1
+
+-- mark y of row x; no mark outside n rows
+abbrev pub markIn : ℕ → ℕ → List ℕ → ℕ → ℕ → Bool
+markIn w n t x y = (ltb x n && ltb y (8 * w)) && bit (byte t (w * x + y / 8)) (y % 8)
+
+abbrev pub worth : Bool → ℕ → ℕ
+worth true w = w
+worth false w = 0
+
+-- eight marks as a byte
+abbrev pub byteOf : (ℕ → Bool) → ℕ
+byteOf f = worth (f 0) 1 + worth (f 1) 2 + worth (f 2) 4 + worth (f 3) 8 + worth (f 4) 16 + worth (f 5) 32 + worth (f 6) 64 + worth (f 7) 128
+
+-- a row of marks as w bytes
+unfoldable pub rowBytes : ℕ → (ℕ → Bool) → List ℕ
+rowBytes w f = tab (λ i. byteOf (λ j. f (8 * i + j))) w
+
+-- row x replaced
+unfoldable pub putRow : ℕ → List ℕ → ℕ → (ℕ → Bool) → List ℕ
+putRow w t x f = take (w * x) t ++ (rowBytes w f ++ drop (w * x + w) t)
+
+-- n rows of 64 marks as bytes
+unfoldable pub pack : ℕ → (ℕ → ℕ → Bool) → List ℕ
+pack n f = tab (λ i. byteOf (λ j. f (i / 8) (8 * (i % 8) + j))) (8 * n)
+
+-- n rows of 64 marks as lists, which is how code has them by value; and a mark of such rows
+unfoldable pub rows : ℕ → (ℕ → ℕ → Bool) → List (List Bool)
+rows n f = tab (λ x. tab (f x) 64) n
+
+abbrev pub markOf : List (List Bool) → ℕ → ℕ → Bool
+markOf s x y = getD (getD s x []) y false

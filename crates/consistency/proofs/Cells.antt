@@ -1,0 +1,11 @@
+-- The cells stand for the layout machine of the day, and so they answer as the day does.
+pub mod Laid
+pub mod Represents
+pub mod Ordered
+pub mod Entering
+pub mod Forking
+pub mod Joining
+pub mod Bounded
+pub mod Kept
+pub mod Answers
+pub mod Passing

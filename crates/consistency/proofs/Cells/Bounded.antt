@@ -1,0 +1,90 @@
+-- Every cell that a step writes stays in its range.
+use Prim.Native.Nat.{_+_, _≤_, _<_, ℕ}
+use mathlib.Core.Bool.{Bool, cond, false, true}
+use mathlib.Core.Path.{refl}
+use mathlib.Core.List.{List·Memᴰ·append-cases, List·Memᴰ·eq-of-singleton, [], _++_, _∷_}
+use native.Mathlib.Omega.{arith}
+use lib.Dec.{eqb}
+use borrow.Author.Tests.{eq-eqb}
+use Rattle.lists.specs.Lists.{_∈_, changed, insert, remove}
+use Rattle.lists.proofs.Cases.{cases, either}
+use Rattle.lists.proofs.Places.{insert-back, remove-back, replicate-in, take-in}
+use Rattle.diagram.specs.Machine.{Machine}
+use Rattle.cells.specs.Sizes.{main, revisions, updates}
+use Rattle.cells.specs.Cells.{Cells}
+use Rattle.cells.specs.CellSteps.{closeCells, forkCells, freshCells, joinCells, queryCells, updateCells}
+use Rattle.consistency.proofs.Cells.Laid.{Laid, own-few}
+use Rattle.consistency.proofs.Cells.Represents.{Represents, count-is}
+
+pub record Bounded (k : Cells) : Type 0 where
+  pub last-low : (r : ℕ) → k .last r < updates
+  pub first-low : (r : ℕ) → k .first r < updates
+  pub count-few : (r : ℕ) → k .count r ≤ updates
+  pub base-few : (r : ℕ) → k .base r ≤ updates
+  pub places-low : (x : ℕ) → x ∈ k .layout → x < revisions
+
+-- what holds of each value still does when one that has it is put in
+changed-all : (P : ℕ → Type 0) (f : ℕ → ℕ) (a v : ℕ) → ((r : ℕ) → P (f r)) → P v → (r : ℕ) → P (changed f a v r)
+changed-all P f a v h g r = cases (eqb r a) (λ e. rw e g) (λ e. rw e (h r))
+
+pub cond-all : {A : Type 0} (P : A → Type 0) (b : Bool) (x y : A) → P x → P y → P (cond b x y)
+cond-all P true x y h g = h
+cond-all P false x y h g = g
+
+-- the own count of a revision out is no more than the log
+out-count : (k : Cells) (m : Machine) → Represents k m → Laid m → (r : ℕ) → r ∈ m .layout → k .count r ≤ updates
+out-count k m h L r i =
+    let a = own-few m L r i in
+    let b = count-is k m h r i in
+    let c = h .updates-is in
+    let d = h .updates-few in
+    omega arith
+
+pub fresh-bounded : Bounded freshCells
+fresh-bounded = record {
+  last-low = λ r. omega arith;
+  first-low = λ r. omega arith;
+  count-few = λ r. omega arith;
+  base-few = λ r. omega arith;
+  places-low = λ x i. let e = replicate-in x revisions 0 i in omega arith;
+}
+
+module _ (k : Cells) (B : Bounded k) where
+  pub query-bounded : (c r : ℕ) → Bounded (queryCells k c r)
+  query-bounded c r = record { last-low = B .last-low; first-low = B .first-low; count-few = B .count-few; base-few = B .base-few; places-low = B .places-low }
+
+  pub close-bounded : (c : ℕ) → Bounded (closeCells k c)
+  close-bounded c = record { last-low = B .last-low; first-low = B .first-low; count-few = B .count-few; base-few = B .base-few; places-low = B .places-low }
+
+  pub fork-bounded : (p c : ℕ) → c < revisions → Bounded (forkCells k p c)
+  fork-bounded p c l = record {
+    last-low = B .last-low;
+    first-low = B .first-low;
+    count-few = changed-all (λ n. n ≤ updates) (k .count) c 0 (B .count-few) (omega arith);
+    base-few = changed-all (λ n. n ≤ updates) (k .base) c _ (B .base-few) (cond-all (λ n. n ≤ updates) (eqb p main) (k .count main) (k .base p) (B .count-few main) (B .base-few p));
+    places-low = λ x i. either (insert-back p c x (k .layout) (take-in x revisions (insert p c (k .layout)) i)) (λ e. omega arith) (B .places-low x);
+  }
+
+  -- of an update and a join, the cells after it stand for a machine whose lists have no more than the log
+  module _ (m : Machine) (L : Laid m) where
+    pub update-bounded : (c r : ℕ) → Represents (updateCells k c r) m → r ∈ m .layout → k .updates < updates → Bounded (updateCells k c r)
+    update-bounded c r h i l = record {
+      last-low = changed-all (λ n. n < updates) (k .last) r (k .updates) (B .last-low) l;
+      first-low = changed-all (λ n. n < updates) (k .first) r _ (B .first-low) (cond-all (λ n. n < updates) (eqb (k .count r) 0) (k .updates) (k .first r) l (B .first-low r));
+      count-few = changed-all (λ n. n ≤ updates) (k .count) r _ (B .count-few) (rw (eq-eqb r r refl) at (out-count (updateCells k c r) m h L r i));
+      base-few = B .base-few;
+      places-low = B .places-low;
+    }
+
+    pub join-bounded : (a b : ℕ) → Represents (joinCells k a b) m → a ∈ m .layout → Bounded (joinCells k a b)
+    join-bounded a b h i = record {
+      last-low = cond-all (λ f. (r : ℕ) → f r < updates) (eqb (k .count b) 0) (k .last) _ (B .last-low) (changed-all (λ n. n < updates) (k .last) a (k .last b) (B .last-low) (B .last-low b));
+      first-low =
+          cond-all (λ f. (r : ℕ) → f r < updates) (eqb (k .count b) 0) (k .first) _ (B .first-low)
+          (changed-all (λ n. n < updates) (k .first) a _ (B .first-low) (cond-all (λ n. n < updates) (eqb (k .count a) 0) (k .first b) (k .first a) (B .first-low b) (B .first-low a)));
+      count-few = changed-all (λ n. n ≤ updates) (k .count) a (k .count a + k .count b) (B .count-few) (rw (eq-eqb a a refl) at (out-count (joinCells k a b) m h L a i));
+      base-few = B .base-few;
+      places-low = λ x j. either (List·Memᴰ·append-cases (remove b (k .layout)) (take-in x revisions (remove b (k .layout) ++ (0 ∷ [])) j))
+          (λ o. B .places-low x (remove-back b x (k .layout) o))
+          (λ o. let e = List·Memᴰ·eq-of-singleton o in omega arith);
+    }

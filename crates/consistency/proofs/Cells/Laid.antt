@@ -1,0 +1,76 @@
+-- What the layout machine's lists are on a day: nothing stands twice, and every number is one that was given.
+-- Only here is what `diagram` proves of its layout taken apart.
+use Prim.Native.Nat.{_<_, _≤_, ℕ}
+use mathlib.Core.Bool.{true}
+use mathlib.Core.Path.{_∙_, _≡_, refl, subst, sym}
+use mathlib.Core.List.{List, List·Nodup}
+use lib.ListN.{length}
+use Rattle.lists.specs.Lists.{_∈_, flatBack}
+use Rattle.lists.proofs.Blocks.{flat-from, flatBack-nodup, flatBack-same}
+use Rattle.lists.proofs.Counts.{few-below}
+use Rattle.blocks.specs.Blocks.{blocks}
+use Rattle.diagram.specs.Day.{Day, IsOut}
+use Rattle.diagram.specs.Diagram.{Diagram}
+use Rattle.diagram.specs.Effects.{entry, number, numbers}
+use Rattle.diagram.specs.Machine.{Machine, machineAfter}
+use Rattle.diagram.specs.Steps.{Event, Fork, Join, Step, Yield, accepted, after}
+use Rattle.diagram.proofs.Arranged.Advance.{contents}
+use Rattle.diagram.proofs.Days.Moves.{can-enter, can-fork, can-join}
+use Rattle.diagram.proofs.Days.Real.{Real}
+use Rattle.diagram.proofs.Follow.Agrees.{Agree, ordered, terminal-low}
+use Rattle.diagram.proofs.Follow.Steps.{agree-enter, agree-join, agree-send, agree-yield}
+use Rattle.diagram.proofs.Graph.Events.{inheritedEvents, ownEvents}
+use Rattle.diagram.proofs.Graph.Visible.{view-numbers}
+use Rattle.diagram.proofs.Order.Inherited.{blocks-numbers, entry-is, numbers-nodup}
+
+-- no revision twice in the layout, no update twice in the own lists; revisions and updates that were given out
+pub record Laid (m : Machine) : Type 0 where
+  pub lone : List·Nodup (m .layout)
+  pub once : List·Nodup (flatBack (m .own) (m .layout))
+  pub given : (r : ℕ) → r ∈ m .layout → r < m .revisions
+  pub own-low : (r : ℕ) → r ∈ m .layout → (u : ℕ) → u ∈ m .own r → u < m .updates
+  pub inherited-low : (r : ℕ) → r ∈ m .layout → (u : ℕ) → u ∈ m .inherited r → u < m .updates
+
+-- so an own list is not longer than the log
+pub own-few : (m : Machine) → Laid m → (r : ℕ) → r ∈ m .layout → length (m .own r) ≤ m .updates
+own-few m L r i = few-below (m .updates) (m .own r) (flatBack-nodup (m .own) r (m .layout) i (L .once)) (L .own-low r i)
+
+module _ (y : Day) (m : Machine) (A : Agree y m) where
+  abbrev d : Diagram
+  d = y .diagram
+
+  abbrev R : Real y (A .marked .fine .layout)
+  R = A .marked .fine .sound .real
+
+  out : (r : ℕ) → r ∈ m .layout → IsOut y r
+  out r i = R .back r (rw (A .same-layout) i)
+
+  low : (l : List ℕ) (u : ℕ) → u ∈ numbers d l → u < m .updates
+  low l u i = let p = flat-from (λ e. entry (number d e)) u l i in rw (A .same-updates) (A .numbered .low (p .0) u (entry-is (number d (p .0)) u (p .2)))
+
+  own-numbers : (r : ℕ) → r ∈ m .layout → m .own r ≡ numbers d (ownEvents d (y .terminal r))
+  own-numbers r i = A .same-own r (out r i) ∙ view-numbers (ordered y m A) (y .terminal r) (terminal-low y m A r) .0
+
+  all-is : numbers d (blocks (contents d (y .terminal)) (m .layout)) ≡ flatBack (m .own) (m .layout)
+  all-is =
+      blocks-numbers d (contents d (y .terminal)) (m .layout)
+      ∙ flatBack-same (λ r. numbers d (ownEvents d (y .terminal r))) (m .own) (m .layout) (λ r i. sym (own-numbers r i))
+
+  pub laid : Laid m
+  laid =
+      let once : List·Nodup (blocks (contents d (y .terminal)) (m .layout)) = rw (A .same-layout) at (R .linked .inv .once) in
+      record {
+        lone = rw (A .same-layout) at (R .linked .inv .distinct);
+        once = subst List·Nodup all-is (numbers-nodup d (y .updates) _ (A .numbered) once);
+        given = λ r i. rw (A .same-revisions) (out r i .0);
+        own-low = λ r i u j. low (ownEvents d (y .terminal r)) u (rw (own-numbers r i) at j);
+        inherited-low = λ r i u j. low (inheritedEvents d (y .terminal r)) u (rw (A .same-inherited r (out r i)) at j);
+      }
+
+-- each step keeps the agreement of machine and day
+pub agree-after : (y : Day) (m : Machine) (s : Step) → accepted y s ≡ true → Agree y m → Agree (after y s) (machineAfter m s)
+unfolding after machineAfter
+agree-after y m (Event c r u) e A = agree-enter y m A c r u (can-enter y c r u e)
+agree-after y m (Yield c) e A = agree-yield y m A c (y .openBy c) refl
+agree-after y m (Fork r) e A = agree-send y m A r (can-fork y r e)
+agree-after y m (Join a b) e A = agree-join y m A a b (can-join y a b e)

@@ -1,0 +1,37 @@
+-- 01, "Edges of a race day", on the cells, by computation: which steps pass, and what is listed, as on the day.
+use mathlib.Core.Bool.{Bool, cond}
+use mathlib.Core.Path.{_≡_, refl}
+use mathlib.Core.List.{List, [], _∷_}
+use Rattle.lists.specs.Lists.{behind, insert, remove}
+use Rattle.diagram.specs.Steps.{Step}
+use Rattle.diagram.specs.Examples.{Example, e1, e1List, examples, expected}
+use Rattle.cells.specs.Tables.{some}
+use Rattle.cells.specs.Cells.{Cells, chain}
+use Rattle.cells.specs.CellSteps.{freshCells}
+use Rattle.cells.specs.Order.{order}
+use Rattle.consistency.specs.Follow.{passes}
+use Rattle.consistency.specs.Reached.{stepCells}
+
+-- a step that does not pass changes nothing
+abbrev tried : Cells → Step → Cells
+tried k s = cond (passes k s) (stepCells k s) k
+
+abbrev triedAll : Cells → List Step → Cells
+triedAll k [] = k
+triedAll k (s ∷ ss) = triedAll (tried k s) ss
+
+abbrev answers : Cells → List Step → List Bool
+answers k [] = []
+answers k (s ∷ ss) = passes k s ∷ answers (tried k s) ss
+
+abbrev computed : List Example → List (List Bool)
+computed [] = []
+computed (e ∷ es) = answers freshCells (e .steps) ∷ computed es
+
+examples-hold : computed examples ≡ expected examples
+unfolding passes stepCells chain insert remove some
+examples-hold = refl
+
+e1-list : order (triedAll freshCells e1) 0 ≡ e1List
+unfolding passes stepCells chain insert remove some behind order
+e1-list = refl

@@ -1,0 +1,19 @@
+-- `marks::packed::fork_seen` meets its contract: what was loaded, changed and stored. Assumes nothing.
+use mathlib.Core.Path.{_∙_}
+use native.Mathlib.Omega.{arith}
+use borrow.Author.Needs.{needs}
+use Rattle.marks.proofs.Laws.{fork-seen-stored}
+use Rattle.marks.proofs.packed.fork_seen.Statement.{statement}
+use Rattle.marks.proofs.packed.fork_seen.Tie as tie
+
+returns : tie.Need-returns
+returns c =
+    c .before .before .store64 .ensures ∙ fork-seen-stored (c .before .before .before .before .before .before .before .before .args .t .now) (c .before .before .before .before .before .load64 .result) (c .before .before .before .before .fork-seen .result) (c .before .before .before .before .before .before .before .before .args .p) (c .before .before .before .before .before .before .before .before .args .c) (omega arith) (omega arith) (c .before .before .before .before .before .load64 .ensures) (c .before .before .before .before .fork-seen .ensures)
+
+pub fork-seen-spec : {M : Type 1} → statement M
+fork-seen-spec = tie.close (tie.spec
+    (λ c κs. search needs)
+    (λ c κs. search needs)
+    (λ c κs. search needs)
+    (λ c. search needs)
+    returns)

@@ -1,0 +1,54 @@
+// What a fork, a join and an event make of packed marks: loaded, changed by value, stored.
+ghost use mathlib.Core.Path.{_≡_};
+ghost use Prim.Native.Nat.{_<_};
+ghost use lib.Dec.{eqb};
+ghost use lib.ListN.{length};
+ghost use Rattle.cells.specs.Marks.{markIn, pack, putRow};
+ghost use Rattle.cells.specs.CellSteps.{forkSeen, forkCaught, joinSeen, joinCaught};
+use crate::change;
+use crate::rows;
+
+pub fn fork_seen(t: &mut [u8], p: usize, c: usize)
+    requires { ⌜ (length (now t) ≡ 512) × (p < 64) × (c < 64) ⌝ }
+    ensures { λ _. ⌜ now (t .exit) ≡ pack 64 (forkSeen (markIn 8 64 (now (t .entry))) p c) ⌝ }
+{
+    let s = rows::load64(t);
+    let z = change::fork_seen(s, p, c);
+    rows::store64(t, z);
+}
+
+pub fn join_seen(t: &mut [u8], a: usize, b: usize)
+    requires { ⌜ (length (now t) ≡ 512) × (a < 64) × (b < 64) ⌝ }
+    ensures { λ _. ⌜ now (t .exit) ≡ pack 64 (joinSeen (markIn 8 64 (now (t .entry))) a b) ⌝ }
+{
+    let s = rows::load64(t);
+    let z = change::join_seen(s, a, b);
+    rows::store64(t, z);
+}
+
+pub fn fork_caught(t: &mut [u8], p: usize, c: usize)
+    requires { ⌜ (length (now t) ≡ 128) × (p < 64) × (c < 64) ⌝ }
+    ensures { λ _. ⌜ now (t .exit) ≡ pack 16 (forkCaught (markIn 8 16 (now (t .entry))) p c) ⌝ }
+{
+    let s = rows::load16(t);
+    let z = change::fork_caught(s, p, c);
+    rows::store16(t, z);
+}
+
+pub fn join_caught(t: &mut [u8], a: usize, b: usize)
+    requires { ⌜ (length (now t) ≡ 128) × (a < 64) × (b < 64) ⌝ }
+    ensures { λ _. ⌜ now (t .exit) ≡ pack 16 (joinCaught (markIn 8 16 (now (t .entry))) a b) ⌝ }
+{
+    let s = rows::load16(t);
+    let z = change::join_caught(s, a, b);
+    rows::store16(t, z);
+}
+
+// Row c has mark r alone.
+pub fn set_only(t: &mut [u8], c: usize, r: usize)
+    requires { ⌜ (length (now t) ≡ 128) × (c < 16) × (r < 64) ⌝ }
+    ensures { λ _. ⌜ now (t .exit) ≡ putRow 8 (now (t .entry)) c (λ y. eqb y r) ⌝ }
+{
+    let row = change::only(r);
+    rows::store_row(t, c, row);
+}
