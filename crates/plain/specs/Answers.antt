@@ -29,6 +29,10 @@ refused p code = record { next = p; answer = record { code = code; value = 0; li
 abbrev pub taken : PlainDay → ℕ → Outcome
 taken p value = record { next = p; answer = record { code = 0; value = value; lines = [] } }
 
+-- "List: nothing" happens to the day; the numbers of the updates are shown, each with what it was
+abbrev pub shown : PlainDay → List ℕ → Outcome
+shown p numbers = record { next = p; answer = record { code = 0; value = length numbers; lines = linesOf (p .entries) numbers } }
+
 -- a check that applies ends the call
 abbrev pub check : Bool → ℕ → PlainDay → Outcome → Outcome
 check applies code p rest = cond applies (refused p code) rest
@@ -94,20 +98,13 @@ called p (Join n m) =
     check (notJoinable (p .day) a b) 11 p (
     taken (stepped p (Steps.Join a b)) (length (own (p .day .diagram) (p .day .terminal b))))))))
 -- "List: 1, 3, 4, 7, 12"; its value: "the count n of updates visible at the line end"; "The sheet receives n entries of 12
--- bytes, in the order in which the effects apply on the way from the root". "List: nothing" happens to the day.
+-- bytes, in the order in which the effects apply on the way from the root"
 called p (Show n room) =
     given (meant (p .day) n) p (λ r.
     check (p .day .joined r) 4 p (
     check (busy (p .day) r) 7 p (
     check (ltb room (12 * length (view (p .day .diagram) (p .day .terminal r)))) 12 p (
-    record {
-      next = p;
-      answer = record {
-        code = 0;
-        value = length (view (p .day .diagram) (p .day .terminal r));
-        lines = linesOf (p .entries) (view (p .day .diagram) (p .day .terminal r));
-      };
-    }))))
+    shown p (view (p .day .diagram) (p .day .terminal r))))))
 
 -- the day after a list of calls, each getting it "as the last one left it"; and what they answer
 unfoldable pub dayFrom : PlainDay → List Call → PlainDay

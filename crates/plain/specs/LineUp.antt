@@ -14,7 +14,7 @@ use Rattle.updates.specs.Kinds.{kindCheck}
 use Rattle.diagram.specs.Effects.{view, numbers}
 use Rattle.diagram.specs.Day.{Day, IsOut, meant}
 use Rattle.diagram.specs.Arbitration.{IsEvent, eventsOf, Sees, SeesTransaction, Shows, WholeAt, Extends}
-use Rattle.plain.specs.Calls.{Call, Update, Query, Show}
+use Rattle.plain.specs.Calls.{Call, Update, Query, Show, Answer}
 use Rattle.plain.specs.Record.{PlainDay, freshDay, valueOf, linesOf}
 use Rattle.plain.specs.Answers.{called, dayAfter}
 
@@ -32,6 +32,13 @@ pub record Answers (cs : List Call) (order : List ℕ) (x bib value : ℕ) : Typ
   pub updates : List ℕ
   pub shown : Shows (endOf cs) order x updates
   pub is : value ≡ valueOf (dayAfter cs .entries) bib updates
+
+-- what a taken list wrote: the updates seen at vertex x, in the order of a line-up, each as it was entered
+pub record Lists (cs : List Call) (order : List ℕ) (x : ℕ) (answer : Answer) : Type 0 where
+  pub updates : List ℕ
+  pub shown : Shows (endOf cs) order x updates
+  pub count : answer .value ≡ length updates
+  pub are : answer .lines ≡ linesOf (dayAfter cs .entries) updates
 
 -- "For a box that stays out, the list before a call begins the list after it."
 abbrev pub GrowsEach : PlainDay → List Call → Type 0
@@ -59,6 +66,8 @@ pub record LineUp (cs : List Call) : Type 0 where
   -- "The visible updates of a box are those its line end sees, in the listing's order, busy or not."
   pub visible : (r : ℕ) → IsOut (endOf cs) r → Shows (endOf cs) order (endOf cs .terminal r) (view (endOf cs .diagram) (endOf cs .terminal r))
   pub in-order : (r : ℕ) → IsOut (endOf cs) r → view (endOf cs .diagram) (endOf cs .terminal r) ⊑ numbers (endOf cs .diagram) (flat (eventsOf (endOf cs)) order)
+  pub listed : (before rest : List Call) (n room r : ℕ) → Taken cs before (Show n room) rest → meant (endOf before) n ≡ some r
+      → Lists cs order (endOf before .terminal r) (called (dayAfter before) (Show n room) .answer)
   -- "For a box that stays out, the list before a call begins the list after it."
   pub grows : GrowsEach freshDay cs
   -- "A vertex outside a transaction sees all its events or none, and any only if its yield came before the vertex."

@@ -1,0 +1,241 @@
+-- The theorem: every list of calls has one line-up.
+use Prim.Native.Nat.{_<_, suc, zero, ℕ}
+use mathlib.Core.Bool.{false}
+use mathlib.Core.Path.{_∙_, _≡_, ap, refl, subst, sym}
+use mathlib.Core.Option.{Option, none, some}
+use mathlib.Core.List.{List, List·Memᴰ·head, List·Memᴰ·tail, [], _++_, _∷_, append-assoc, append-nil}
+use native.Mathlib.Omega.{arith}
+use lib.ListN.{length}
+use borrow.Author.Tests.{ltb-true, not-false}
+use Rattle.diagram.proofs.Days.Accepting.{meant-given}
+use Rattle.diagram.proofs.Days.Moves.{step-moves}
+use Rattle.diagram.proofs.Graph.Visible.{visible}
+use Rattle.diagram.proofs.Order.Growth.{Fine, extends, fine-fresh}
+use Rattle.diagram.proofs.Order.Inherited.{entry-is}
+use Rattle.diagram.proofs.Order.Theorem.{accepted-first, along, arbitration, fine-run, fine-step, run-step}
+use Rattle.diagram.specs.Arbitration.{Arbitration, Extends, WholeAt}
+use Rattle.diagram.specs.Checks.{busy}
+use Rattle.diagram.specs.Construction.{entered}
+use Rattle.diagram.specs.Day.{Day, IsOut, meant}
+use Rattle.diagram.specs.Effects.{entry, number, view}
+use Rattle.diagram.specs.Steps.{Accepted, AcceptedFrom, Event, Step, after, run, runFrom}
+use Rattle.lists.proofs.Blocks.{flat-from}
+use Rattle.lists.proofs.Changed.{changed-same}
+use Rattle.lists.specs.Lists.{_∈_}
+use Rattle.plain.proofs.Ends.{QueryTaken, ShowTaken, UpdateTaken, query-ends, show-ends, update-ends, was-taken}
+use Rattle.plain.proofs.Steps.{day-both, did, ifTaken, onRevision, ran, stepOf, steps-both, stepsFrom, stepsOf}
+use Rattle.plain.specs.Answers.{called, dayAfter, dayFrom, shown}
+use Rattle.plain.specs.Calls.{Call, Entry, Fork, Join, Query, Show, Update, Yield}
+use Rattle.plain.specs.LineUp.{Answers, GrowsEach, LineUp, Lists, Taken, endOf}
+use Rattle.plain.specs.Record.{PlainDay, freshDay, linesOf, noted, ofBib, valueOf}
+use Rattle.updates.specs.Applied.{applied, freshValue}
+use Rattle.updates.specs.declared.kind.KindCheck.the-variants.{Known}
+use Rattle.updates.specs.Kinds.{kindCheck}
+use Rattle.updates.specs.declared.kind.Kind.{Kind}
+
+-- numbers shown at a vertex are those of updates taken
+view-low : (ss : List Step) → Accepted ss → (x n : ℕ) → x < length (run ss .diagram) → n ∈ view (run ss .diagram) x → n < run ss .updates
+view-low ss P x n h i =
+    let A = arbitration ss P in
+    let s = A .ever ss [] (sym (append-nil ss)) x h in
+    let e = flat-from (λ e. entry (number (run ss .diagram) e)) n (s .seen) (rw (s .are) at i) in
+    A .numbered .low (e .0) n (entry-is (number (run ss .diagram) (e .0)) n (e .2))
+
+-- what some entries give does not depend on the others
+ofBib-same : (f g : ℕ → Entry) (bib : ℕ) (ns : List ℕ) → ((n : ℕ) → n ∈ ns → f n ≡ g n) → ofBib f bib ns ≡ ofBib g bib ns
+ofBib-same f g bib [] h = refl
+ofBib-same f g bib (n ∷ ns) h = rw (h n (List·Memᴰ·head refl), ofBib-same f g bib ns (λ m i. h m (List·Memᴰ·tail i)))
+
+linesOf-same : (f g : ℕ → Entry) (ns : List ℕ) → ((n : ℕ) → n ∈ ns → f n ≡ g n) → linesOf f ns ≡ linesOf g ns
+linesOf-same f g [] h = refl
+linesOf-same f g (n ∷ ns) h = rw (h n (List·Memᴰ·head refl), linesOf-same f g ns (λ m i. h m (List·Memᴰ·tail i)))
+
+-- a revision that a number means is one of the day's
+meant-low : (y : Day) (n r : ℕ) → meant y n ≡ some r → r < y .revisions
+meant-low y n r e = ltb-true r (y .revisions) (not-false _ (meant-given y n r e))
+
+-- a list of calls as a run of steps
+abbrev stepsAfter : List Call → List Step
+stepsAfter cs = stepsFrom freshDay cs
+
+accepts : (cs : List Call) → Accepted (stepsAfter cs)
+accepts cs = ran cs freshDay .accepts
+
+same : (cs : List Call) → endOf cs ≡ run (stepsAfter cs)
+unfolding dayAfter run
+same cs = ran cs freshDay .same
+
+-- growth at each call
+data Short : List Step → Type 0 where
+  none-of : Short []
+  one-of : (s : Step) → Short (s ∷ [])
+
+short-on : (o : Option ℕ) (f : ℕ → List Step) → ((r : ℕ) → Short (f r)) → Short (onRevision o f)
+short-on none f h = none-of
+short-on (some r) f h = h r
+
+short-step : (p : PlainDay) (c : Call) → Short (stepOf p c)
+short-step p (Update c n k bib v) = short-on (meant (p .day) n) _ (λ r. one-of _)
+short-step p (Query c n bib) = short-on (meant (p .day) n) _ (λ r. one-of _)
+short-step p (Yield c) = one-of _
+short-step p (Fork n) = short-on (meant (p .day) n) _ (λ r. one-of _)
+short-step p (Join n m) = short-on (meant (p .day) n) _ (λ a. short-on (meant (p .day) m) _ (λ b. one-of _))
+short-step p (Show n room) = none-of
+
+short-if : (k : ℕ) (ss : List Step) → Short ss → Short (ifTaken k ss)
+short-if zero ss h = h
+short-if (suc k) ss h = none-of
+
+extends-short : (y : Day) → Fine y → {ss : List Step} → Short ss → AcceptedFrom y ss → Extends y (runFrom y ss)
+unfolding runFrom
+extends-short y F none-of P = λ r o q. ([], sym (append-nil _))
+extends-short y F (one-of s) P = extends y (after y s) F (step-moves y s (P .0))
+
+grows-from : (cs : List Call) (p : PlainDay) → Fine (p .day) → GrowsEach p cs
+grows-from [] p F = tt
+grows-from (c ∷ cs) p F =
+    let d = did p c in
+    (subst (λ y. Extends (p .day) y) (sym (d .same)) (extends-short (p .day) F (short-if (called p c .answer .code) (stepOf p c) (short-step p c)) (d .accepts)), grows-from cs (called p c .next) (subst Fine (sym (d .same)) (along Fine fine-step (stepsOf p c) (p .day) (d .accepts) F)))
+
+module _ (cs : List Call) where
+  abbrev A : Arbitration (stepsAfter cs)
+  A = arbitration (stepsAfter cs) (accepts cs)
+
+  e : endOf cs ≡ run (stepsAfter cs)
+  e = same cs
+
+  -- a call c within the list, and the day before it
+  module _ (before : List Call) (c : Call) (rest : List Call) (T : Taken cs before c rest) where
+    abbrev p : PlainDay
+    p = dayAfter before
+
+    e1 : p .day ≡ run (stepsAfter before)
+    e1 = same before
+
+    after-steps : stepsAfter cs ≡ stepsAfter before ++ (stepsOf p c ++ stepsFrom (called p c .next) rest)
+    unfolding stepsFrom dayAfter
+    after-steps = ap stepsAfter (T .place) ∙ steps-both before (c ∷ rest) freshDay
+
+    -- where the call was taken its steps are there
+    taken-steps : (ss : List Step) → stepOf p c ≡ ss → stepsAfter cs ≡ stepsAfter before ++ (ss ++ stepsFrom (called p c .next) rest)
+    taken-steps ss q = after-steps ∙ ap (λ k. stepsAfter before ++ (ifTaken k (stepOf p c) ++ stepsFrom (called p c .next) rest)) (T .code) ∙ ap (λ z. stepsAfter before ++ (z ++ stepsFrom (called p c .next) rest)) q
+
+    day-is : dayAfter cs ≡ dayFrom p (c ∷ rest)
+    unfolding dayAfter
+    day-is = ap (dayFrom freshDay) (T .place) ∙ day-both before (c ∷ rest) freshDay
+
+    -- the entries that were there are there at the end
+    entries-stay : (n : ℕ) → n < p .day .updates → p .entries n ≡ dayAfter cs .entries n
+    entries-stay n h = sym (ap (λ z. z .entries n) day-is ∙ ran (c ∷ rest) p .kept n h)
+
+  queries : (before rest : List Call) (c n bib : ℕ) → Taken cs before (Query c n bib) rest → Answers cs (A .order) (length (endOf before .diagram)) bib (called (dayAfter before) (Query c n bib) .answer .value)
+  unfolding after
+  queries before rest c n bib T = record { updates = shown; shown = rw (e, same before) (A .queries (stepsAfter before) more c r place); is = ap (λ o. o .answer .value) (h .is) ∙ ap (λ y. valueOf (q .entries) bib (view (after y (Event c r false) .diagram) (length (y .diagram)))) (same before) ∙ ap (λ us. applied us freshValue) (ofBib-same (q .entries) (dayAfter cs .entries) bib shown kept) }
+    where
+      q : PlainDay
+      q = dayAfter before
+
+      h : QueryTaken q c n bib (called q (Query c n bib))
+      h = was-taken (query-ends q c n bib) (T .code)
+
+      r : ℕ
+      r = h .step .revision
+
+      y1 : Day
+      y1 = run (stepsAfter before)
+
+      shown : List ℕ
+      shown = view (after y1 (Event c r false) .diagram) (length (y1 .diagram))
+
+      more : List Step
+      more = stepsFrom (called q (Query c n bib) .next) rest
+
+      place : stepsAfter cs ≡ stepsAfter before ++ (Event c r false ∷ more)
+      place = taken-steps before (Query c n bib) rest T (Event c r false ∷ []) (ap (λ m. onRevision m (λ r. Event c r false ∷ [])) (h .step .means))
+
+      through : Accepted (stepsAfter before ++ (Event c r false ∷ []))
+      through = accepted-first (stepsAfter before ++ (Event c r false ∷ [])) more (subst Accepted (place ∙ sym (append-assoc (stepsAfter before) (Event c r false ∷ []) more)) (accepts cs))
+
+      low : (n : ℕ) → n ∈ shown → n < y1 .updates
+      low n i = subst (λ z. n < z .updates) (run-step (stepsAfter before) (Event c r false)) (view-low _ through (length (y1 .diagram)) n (subst (λ z. length (y1 .diagram) < length (z .diagram)) (sym (run-step (stepsAfter before) (Event c r false))) (omega arith)) (subst (λ z. n ∈ view (z .diagram) (length (y1 .diagram))) (sym (run-step (stepsAfter before) (Event c r false))) i))
+
+      kept : (n : ℕ) → n ∈ shown → q .entries n ≡ dayAfter cs .entries n
+      kept n i = entries-stay before (Query c _ bib) rest T n (rw (same before) (low n i))
+
+  listed : (before rest : List Call) (n room r : ℕ) → Taken cs before (Show n room) rest → meant (endOf before) n ≡ some r → Lists cs (A .order) (endOf before .terminal r) (called (dayAfter before) (Show n room) .answer)
+  listed before rest n room r T m = record {
+    updates = updates;
+    shown = rw (e, same before) (A .ever (stepsAfter before) _ (after-steps before (Show n room) rest T) (y1 .terminal r) low);
+    count = ap (λ o. o .answer .value) is;
+    are = ap (λ o. o .answer .lines) is ∙ linesOf-same (q .entries) (dayAfter cs .entries) updates (λ n i. entries-stay before (Show _ room) rest T n (rw (same before) (view-low (stepsAfter before) (accepts before) (y1 .terminal r) n low (rw (same before) at i))));
+  }
+    where
+      q : PlainDay
+      q = dayAfter before
+
+      y1 : Day
+      y1 = run (stepsAfter before)
+
+      updates : List ℕ
+      updates = view (endOf before .diagram) (endOf before .terminal r)
+
+      h : ShowTaken q n room (called q (Show n room))
+      h = was-taken (show-ends q n room) (T .code)
+
+      is : called q (Show n room) ≡ shown q updates
+      is = let z : h .revision ≡ r = cc (h .means) in h .is ∙ ap (λ s. shown q (view (q .day .diagram) (q .day .terminal s))) z
+
+      low : y1 .terminal r < length (y1 .diagram)
+      low = fine-run (stepsAfter before) (accepts before) .sound .real .linked .bound r
+
+  lists : (before rest : List Call) (n room r : ℕ) → Taken cs before (Show n room) rest → meant (endOf before) n ≡ some r
+      → (t : ℕ) → t < endOf before .transactions → WholeAt (endOf before) t (endOf before .terminal r) (length (endOf before .diagram))
+  lists before rest n room r T m =
+      let h = was-taken (show-ends (dayAfter before) n room) (T .code) in
+      let z : h .revision ≡ r = cc (h .means) in
+      let out : IsOut (endOf before) r = (meant-low (endOf before) n r m, rw z at (h .out)) in
+      let idle : busy (endOf before) r ≡ false = rw z at (h .idle) in
+      rw (same before) (A .lists (stepsAfter before) _ (after-steps before (Show n room) rest T) r (rw (same before) at out) (rw (same before) at idle))
+
+  noted-is : (before rest : List Call) (c r k bib v : ℕ) (kind : Kind) → Taken cs before (Update c r k bib v) rest → kindCheck k ≡ Known kind
+      → dayAfter cs .entries (called (dayAfter before) (Update c r k bib v) .answer .value) ≡ record { kind = kind; client = c; bib = bib; v = v }
+  unfolding dayFrom after
+  noted-is before rest c r k bib v kind T f =
+      ap (dayAfter cs .entries) (ap (λ o. o .answer .value) (h .is)) ∙ ap (λ z. z .entries n) (day-is before (Update c r k bib v) rest T)
+      ∙ ap (λ o. dayFrom (o .next) rest .entries n) (h .is) ∙ ran rest next .kept n (omega arith) ∙ changed-same (q .entries) n _ ∙ λ i. record { kind = same-kind i; client = c; bib = bib; v = v }
+    where
+      q : PlainDay
+      q = dayAfter before
+
+      h : UpdateTaken q c r k bib v (called q (Update c r k bib v))
+      h = was-taken (update-ends q c r k bib v) (T .code)
+
+      n : ℕ
+      n = q .day .updates
+
+      next : PlainDay
+      next = noted q c (h .step .revision) (h .kind) bib v
+
+      same-kind : h .kind ≡ kind
+      same-kind = let g = h .is-kind in cc
+
+  pub lined-up : LineUp cs
+  lined-up = record {
+    order = A .order;
+    once = A .once;
+    complete = λ t. rw e (A .complete t);
+    entered = λ x. rw e (A .entered x);
+    one-each = rw e (A .one-each);
+    updates-once = rw e (A .updates-once);
+    updates-all = λ n. rw e (A .updates-all n);
+    noted = noted-is;
+    after-seen = rw e (A .after-seen);
+    queries = queries;
+    visible = rw e (A .listed);
+    in-order = rw e (A .in-order);
+    listed = listed;
+    grows = grows-from cs freshDay fine-fresh;
+    whole = rw e (A .whole);
+    lists = lists;
+    sessions = rw e (A .sessions);
+  }
