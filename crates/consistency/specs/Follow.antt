@@ -24,7 +24,7 @@ pub record CellsFollow (y : Day) (k : Cells) : Type 0 where
   pub whole-order : (r : ℕ) → IsOut y r → length (Effects.view (y .diagram) (y .terminal r)) ≤ updates
   pub same-own : (r : ℕ) → IsOut y r → own k r ≡ Effects.own (y .diagram) (y .terminal r)
   -- 2 "tablet above 15"
-  pub same-client : (c : ℕ) → Asked.isClient c ≡ not (Checks.strange c)
+  pub same-client : (c : ℕ) → Asked.isClient c ≡ not (Checks.unknownClient c)
   -- 3 "box number not yet given out"
   pub same-given : (r : ℕ) → Asked.givenOut k r ≡ not (notGiven y r)
   -- 4 "box already a joinee"

@@ -7,16 +7,16 @@ use Rattle.diagram.specs.Sizes.{revisionLimit, clientLimit, updateLimit}
 use Rattle.diagram.specs.Diagram.{leads}
 use Rattle.diagram.specs.Effects.{tabulate, view, startVertex, forkVertex}
 use Rattle.diagram.specs.Day.{fresh}
-use Rattle.diagram.specs.Checks.{strange, openElsewhere, busyByOther, busy, stale, logFull, noneLeft, notJoinable}
+use Rattle.diagram.specs.Checks.{unknownClient, openElsewhere, busyByOther, busy, stale, logFull, noneLeft, notJoinable}
 use Rattle.diagram.specs.Steps.{accepted, after, Event}
 use Rattle.diagram.specs.Examples.{triedAll, e1, examples, expected, computed, e1List, beforeJoin, childJoinsParent}
 
 examples-hold : computed examples ≡ expected examples
-unfolding accepted after leads tabulate strange openElsewhere busyByOther busy stale logFull noneLeft notJoinable revisionLimit clientLimit updateLimit
+unfolding accepted after leads tabulate unknownClient openElsewhere busyByOther busy stale logFull noneLeft notJoinable revisionLimit clientLimit updateLimit
 examples-hold = refl
 
 e1-list : view (triedAll fresh e1 .diagram) (triedAll fresh e1 .terminal 0) ≡ e1List
-unfolding accepted after leads tabulate strange openElsewhere busyByOther busy stale logFull noneLeft notJoinable revisionLimit clientLimit updateLimit
+unfolding accepted after leads tabulate unknownClient openElsewhere busyByOther busy stale logFull noneLeft notJoinable revisionLimit clientLimit updateLimit
 e1-list = refl
 
 -- the code of E4's first join is 11 and not 7, that of its second is 7

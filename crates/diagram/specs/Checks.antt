@@ -9,8 +9,8 @@ use Rattle.diagram.specs.Diagram.{Diagram, leads}
 use Rattle.diagram.specs.Day.{Day}
 
 -- 2: "tablet above 15"
-unfoldable pub strange : ℕ → Bool
-strange c = not (ltb c clientLimit)
+unfoldable pub unknownClient : ℕ → Bool
+unknownClient c = not (ltb c clientLimit)
 
 -- whether a client's open transaction, if any, is on revision r, and whether it is on another
 abbrev pub isOn : Day → Option ℕ → ℕ → Bool

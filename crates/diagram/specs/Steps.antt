@@ -9,7 +9,7 @@ use lib.Dec.{ltb}
 use Rattle.lists.specs.Lists.{changed}
 use Rattle.diagram.specs.Diagram.{start, event, fork, join}
 use Rattle.diagram.specs.Day.{Transaction, Day, fresh}
-use Rattle.diagram.specs.Checks.{strange, openElsewhere, busyByOther, busy, stale, logFull, noneLeft, notJoinable}
+use Rattle.diagram.specs.Checks.{unknownClient, openElsewhere, busyByOther, busy, stale, logFull, noneLeft, notJoinable}
 
 -- a step names clients and revisions; an event is an update or a query
 pub data Step : Type 0 where
@@ -30,8 +30,8 @@ noneOf (b ∷ bs) = not b && noneOf bs
 -- 7, 10. Join: 1, 3, 4, 7, 11." (1 and 5 are not of this crate)
 unfoldable pub accepted : Day → Step → Bool
 accepted y (Event c r u) =
-    noneOf (strange c ∷ notGiven y r ∷ y .joined r ∷ openElsewhere y c r ∷ busyByOther y c r ∷ stale y c r ∷ (u && logFull y) ∷ [])
-accepted y (Yield c) = noneOf (strange c ∷ [])
+    noneOf (unknownClient c ∷ notGiven y r ∷ y .joined r ∷ openElsewhere y c r ∷ busyByOther y c r ∷ stale y c r ∷ (u && logFull y) ∷ [])
+accepted y (Yield c) = noneOf (unknownClient c ∷ [])
 accepted y (Fork r) = noneOf (notGiven y r ∷ y .joined r ∷ busy y r ∷ noneLeft y ∷ [])
 accepted y (Join a b) = noneOf (notGiven y a ∷ notGiven y b ∷ y .joined a ∷ y .joined b ∷ busy y a ∷ busy y b ∷ notJoinable y a b ∷ [])
 
@@ -91,8 +91,8 @@ yield y c none = y
 yield y c (some t) = close y c t
 
 -- "Fork: the fork vertex and a new box."
-abbrev pub send : Day → ℕ → Day
-send y r = record {
+abbrev pub forkAt : Day → ℕ → Day
+forkAt y r = record {
   diagram = start (length (y .diagram)) ∷ fork (y .terminal r) ∷ y .diagram;
   revisions = suc (y .revisions);
   startOf = changed (y .startOf) (y .revisions) (suc (length (y .diagram)));
@@ -107,8 +107,8 @@ send y r = record {
 }
 
 -- "Join: the join vertex, and the joinee is handed in."
-abbrev pub takeOver : Day → ℕ → ℕ → Day
-takeOver y a b = record {
+abbrev pub joinInto : Day → ℕ → ℕ → Day
+joinInto y a b = record {
   diagram = join (y .terminal a) (y .terminal b) ∷ y .diagram;
   revisions = y .revisions;
   startOf = y .startOf;
@@ -125,8 +125,8 @@ takeOver y a b = record {
 unfoldable pub after : Day → Step → Day
 after y (Event c r u) = enter y c r u
 after y (Yield c) = yield y c (y .openBy c)
-after y (Fork r) = send y r
-after y (Join a b) = takeOver y a b
+after y (Fork r) = forkAt y r
+after y (Join a b) = joinInto y a b
 
 -- a run from a day, and from the start; each of its steps is accepted
 unfoldable pub runFrom : Day → List Step → Day

@@ -7,11 +7,11 @@ use Rattle.diagram.specs.Sizes.{revisionLimit, clientLimit, updateLimit}
 use Rattle.diagram.specs.Diagram.{leads}
 use Rattle.diagram.specs.Effects.{tabulate}
 use Rattle.diagram.specs.Day.{meant, nextNumber}
-use Rattle.diagram.specs.Checks.{strange, openElsewhere, busyByOther, busy, stale, logFull, noneLeft, notJoinable}
+use Rattle.diagram.specs.Checks.{unknownClient, openElsewhere, busyByOther, busy, stale, logFull, noneLeft, notJoinable}
 use Rattle.diagram.specs.Steps.{after}
 use Rattle.plain.specs.Answers.{called, answersFrom, answers}
 use Rattle.plain.specs.Edges.{edges, expected, computed}
 
 pub edges-hold : computed edges ≡ expected edges
-unfolding called answersFrom answers after leads tabulate meant nextNumber strange openElsewhere busyByOther busy stale logFull noneLeft notJoinable revisionLimit clientLimit updateLimit kindCheck effect earliest applied
+unfolding called answersFrom answers after leads tabulate meant nextNumber unknownClient openElsewhere busyByOther busy stale logFull noneLeft notJoinable revisionLimit clientLimit updateLimit kindCheck effect earliest applied
 edges-hold = refl

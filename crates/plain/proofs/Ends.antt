@@ -15,7 +15,7 @@ use Rattle.updates.specs.declared.kind.KindCheck.the-variants.{Known, Unknown}
 use Rattle.updates.specs.Kinds.{kindCheck}
 use Rattle.diagram.specs.Effects.{own, view}
 use Rattle.diagram.specs.Day.{meant, nextNumber}
-use Rattle.diagram.specs.Checks.{strange, openElsewhere, busyByOther, busy, stale, logFull, noneLeft, notJoinable}
+use Rattle.diagram.specs.Checks.{unknownClient, openElsewhere, busyByOther, busy, stale, logFull, noneLeft, notJoinable}
 use Rattle.diagram.specs.Steps as Steps
 use Rattle.diagram.specs.Steps.{notGiven, accepted}
 use Rattle.diagram.proofs.Days.Accepting.{meant-given, accept-event, accept-yield, accept-fork, accept-join}
@@ -60,7 +60,7 @@ pub record UpdateTaken (p : PlainDay) (c n k bib v : ℕ) (o : Outcome) : Type 0
 pub update-ends : (p : PlainDay) (c n k bib v : ℕ) → Ends p (UpdateTaken p c n k bib v) (called p (Update c n k bib v))
 unfolding called
 update-ends p c n k bib v =
-    by-check (strange c) 1 _ λ e2.
+    by-check (unknownClient c) 1 _ λ e2.
     by-given (meant (p .day) n) _ λ r e3.
     by-check (p .day .joined r) 3 _ λ e4.
     by-check (badBib bib) 4 _ λ e5.
@@ -83,7 +83,7 @@ pub record QueryTaken (p : PlainDay) (c n bib : ℕ) (o : Outcome) : Type 0 wher
 pub query-ends : (p : PlainDay) (c n bib : ℕ) → Ends p (QueryTaken p c n bib) (called p (Query c n bib))
 unfolding called
 query-ends p c n bib =
-    by-check (strange c) 1 _ λ e2.
+    by-check (unknownClient c) 1 _ λ e2.
     by-given (meant (p .day) n) _ λ r e3.
     by-check (p .day .joined r) 3 _ λ e4.
     by-check (badBib bib) 4 _ λ e5.
@@ -98,7 +98,7 @@ pub record YieldTaken (p : PlainDay) (c : ℕ) (o : Outcome) : Type 0 where
 
 pub yield-ends : (p : PlainDay) (c : ℕ) → Ends p (YieldTaken p c) (called p (Yield c))
 unfolding called
-yield-ends p c = by-check (strange c) 1 _ λ e2. yes (record { accepts = accept-yield (p .day) c e2; is = refl })
+yield-ends p c = by-check (unknownClient c) 1 _ λ e2. yes (record { accepts = accept-yield (p .day) c e2; is = refl })
 
 pub record ForkTaken (p : PlainDay) (n : ℕ) (o : Outcome) : Type 0 where
   pub step : Steps1 p n Steps.Fork

@@ -12,7 +12,7 @@ use Rattle.updates.specs.declared.kind.KindCheck.the-variants.{Known, Unknown}
 use Rattle.updates.specs.Kinds.{kindCheck}
 use Rattle.diagram.specs.Effects.{own, view}
 use Rattle.diagram.specs.Day.{Day, meant, nextNumber}
-use Rattle.diagram.specs.Checks.{strange, openElsewhere, busyByOther, busy, stale, logFull, noneLeft, notJoinable}
+use Rattle.diagram.specs.Checks.{unknownClient, openElsewhere, busyByOther, busy, stale, logFull, noneLeft, notJoinable}
 use Rattle.diagram.specs.Steps as Steps
 use Rattle.diagram.specs.Steps.{after}
 use Rattle.plain.specs.Calls.{Call, Update, Query, Yield, Fork, Join, Show, Answer, Line}
@@ -58,7 +58,7 @@ stepped p s = record { day = after (p .day) s; entries = p .entries }
 unfoldable pub called : PlainDay → Call → Outcome
 -- "Update: 1 to 9"; its value: "the count of updates taken before it"
 called p (Update c n k bib v) =
-    check (strange c) 2 p (
+    check (unknownClient c) 2 p (
     given (meant (p .day) n) p (λ r.
     check (p .day .joined r) 4 p (
     check (badBib bib) 5 p (
@@ -70,7 +70,7 @@ called p (Update c n k bib v) =
     taken (noted p c r kind bib v) (p .day .updates))))))))))
 -- "Query: 1 to 8 (of 5, the bib only)"; its value: the path-result of its vertex
 called p (Query c n bib) =
-    check (strange c) 2 p (
+    check (unknownClient c) 2 p (
     given (meant (p .day) n) p (λ r.
     check (p .day .joined r) 4 p (
     check (badBib bib) 5 p (
@@ -80,7 +80,7 @@ called p (Query c n bib) =
     taken (stepped p (Steps.Event c r false)) (pathResult (stepped p (Steps.Event c r false)) (length (p .day .diagram)) bib))))))))
 -- "Yield: 1, 2"; value 0
 called p (Yield c) =
-    check (strange c) 2 p (
+    check (unknownClient c) 2 p (
     taken (stepped p (Steps.Yield c)) 0)
 -- "Fork: 1, 3, 4, 7, 10"; its value: "the new number"
 called p (Fork n) =

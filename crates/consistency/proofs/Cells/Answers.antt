@@ -72,7 +72,7 @@ module _ (y : Day) (m : Machine) (k : Cells) (D : Follows y m) (L : Laid m) (h :
       (λ e. let p = joinable y a b e in rw (e, p .0, ne-eqb a b (λ q. eqb-false b a (p .1) (sym q)))))
 
   pub answers : CellsFollow y k
-  unfolding clientLimit updateLimit revisionLimit Day.strange Day.openElsewhere Day.busyByOther Day.busy Day.logFull Day.noneLeft nextNumber
+  unfolding clientLimit updateLimit revisionLimit Day.unknownClient Day.openElsewhere Day.busyByOther Day.busy Day.logFull Day.noneLeft nextNumber
   answers = record {
     same-order = λ r o. order-is k m h L r (D .laid r o) ∙ D .same-shown r o;
     whole-order = λ r o. rw (D .same-shown r o) at (shown-few k m h L r (D .laid r o));

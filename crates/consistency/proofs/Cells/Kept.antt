@@ -12,7 +12,7 @@ use Rattle.lists.proofs.Cases.{and-true, cases}
 use Rattle.lists.proofs.Places.{remove-keep}
 use Rattle.diagram.specs.Sizes.{revisionLimit, updateLimit}
 use Rattle.diagram.specs.Day.{Day, IsOut, fresh}
-use Rattle.diagram.specs.Checks.{busy, busyByOther, logFull, noneLeft, openElsewhere, stale, strange}
+use Rattle.diagram.specs.Checks.{busy, busyByOther, logFull, noneLeft, openElsewhere, stale, unknownClient}
 use Rattle.diagram.specs.Machine.{Machine, enterOn, freshMachine, joinOn, machineAfter}
 use Rattle.diagram.specs.Steps.{Event, Fork, Join, Step, Yield, accepted, after, noneOf, notGiven}
 use Rattle.diagram.proofs.Days.Moves.{can-enter, can-fork, can-join}
@@ -88,7 +88,7 @@ module _ (y : Day) (m : Machine) (k : Cells) (K : Kept y m k) where
   pub log-room : (c r : ℕ) → accepted y (Event c r true) ≡ true → k .updates < updates
   unfolding accepted logFull updateLimit
   log-room c r e =
-      let room = last-quiet (strange c ∷ notGiven y r ∷ y .joined r ∷ openElsewhere y c r ∷ busyByOther y c r ∷ stale y c r ∷ []) (logFull y) e in
+      let room = last-quiet (unknownClient c ∷ notGiven y r ∷ y .joined r ∷ openElsewhere y c r ∷ busyByOther y c r ∷ stale y c r ∷ []) (logFull y) e in
       rw (h .updates-is, A .same-updates) (ltb-true (y .updates) updates (not-false _ room))
 
   pub number-left : (r : ℕ) → accepted y (Fork r) ≡ true → k .given < revisions

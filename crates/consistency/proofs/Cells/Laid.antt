@@ -18,7 +18,7 @@ use Rattle.diagram.proofs.Arranged.Advance.{contents}
 use Rattle.diagram.proofs.Days.Moves.{can-enter, can-fork, can-join}
 use Rattle.diagram.proofs.Days.Real.{Real}
 use Rattle.diagram.proofs.Follow.Agrees.{Agree, ordered, terminal-low}
-use Rattle.diagram.proofs.Follow.Steps.{agree-enter, agree-join, agree-send, agree-yield}
+use Rattle.diagram.proofs.Follow.Steps.{agree-enter, agree-join, agree-fork, agree-yield}
 use Rattle.diagram.proofs.Graph.Events.{inheritedEvents, ownEvents}
 use Rattle.diagram.proofs.Graph.Visible.{view-numbers}
 use Rattle.diagram.proofs.Order.Inherited.{blocks-numbers, entry-is, numbers-nodup}
@@ -72,5 +72,5 @@ pub agree-after : (y : Day) (m : Machine) (s : Step) → accepted y s ≡ true �
 unfolding after machineAfter
 agree-after y m (Event c r u) e A = agree-enter y m A c r u (can-enter y c r u e)
 agree-after y m (Yield c) e A = agree-yield y m A c (y .openBy c) refl
-agree-after y m (Fork r) e A = agree-send y m A r (can-fork y r e)
+agree-after y m (Fork r) e A = agree-fork y m A r (can-fork y r e)
 agree-after y m (Join a b) e A = agree-join y m A a b (can-join y a b e)

@@ -6,7 +6,7 @@ use lib.Dec.{ltb}
 use borrow.Author.Tests.{ltb-true, not-false}
 use Rattle.diagram.specs.Sizes.{clientLimit}
 use Rattle.diagram.specs.Day.{Day}
-use Rattle.diagram.specs.Checks.{busy, busyByOther, logFull, noneLeft, notJoinable, openElsewhere, stale, strange}
+use Rattle.diagram.specs.Checks.{busy, busyByOther, logFull, noneLeft, notJoinable, openElsewhere, stale, unknownClient}
 use Rattle.diagram.specs.Steps.{Event, Fork, Join, Step, Yield, accepted, notGiven}
 use Rattle.cells.specs.Sizes.{clients}
 use Rattle.cells.specs.Cells.{Cells}
@@ -19,15 +19,15 @@ then a true p q e h = rw e
 then a false p q e h = rw (e, h refl)
 
 module _ (y : Day) (k : Cells) (F : CellsFollow y k) where
-  known : (c : ℕ) → strange c ≡ false → c < clients
-  unfolding strange clientLimit
+  known : (c : ℕ) → unknownClient c ≡ false → c < clients
+  unfolding unknownClient clientLimit
   known c e = ltb-true c clients (not-false (ltb c clients) e)
 
   given : (r : ℕ) → notGiven y r ≡ false → r < y .revisions
   given r e = ltb-true r (y .revisions) (not-false (ltb r (y .revisions)) e)
 
-  client-is : (c : ℕ) → not (Asked.isClient c) ≡ strange c
-  client-is c = ap not (F .same-client c) ∙ Bool·not-not (strange c)
+  client-is : (c : ℕ) → not (Asked.isClient c) ≡ unknownClient c
+  client-is c = ap not (F .same-client c) ∙ Bool·not-not (unknownClient c)
 
   given-is : (r : ℕ) → not (Asked.givenOut k r) ≡ notGiven y r
   given-is r = ap not (F .same-given r) ∙ Bool·not-not (notGiven y r)
@@ -35,14 +35,14 @@ module _ (y : Day) (k : Cells) (F : CellsFollow y k) where
   pub passing : (s : Step) → passes k s ≡ accepted y s
   unfolding passes accepted
   passing (Event c r u) =
-      then _ (strange c) _ _ (client-is c) (λ c2.
+      then _ (unknownClient c) _ _ (client-is c) (λ c2.
       then _ (notGiven y r) _ _ (given-is r) (λ c3.
       then _ (y .joined r) _ _ (F .same-joined r (given r c3)) (λ c4.
       then _ (openElsewhere y c r) _ _ (F .same-elsewhere c r (known c c2)) (λ c6.
       then _ (busyByOther y c r) _ _ (F .same-busyByOther c r (given r c3)) (λ c7.
       then _ (stale y c r) _ _ (F .same-stale c r (known c c2) (given r c3, c4)) (λ c8.
       then _ (u && logFull y) true true (ap (λ f. u && f) (F .same-full)) (λ c9. refl)))))))
-  passing (Yield c) = then _ (strange c) true true (client-is c) (λ c2. refl)
+  passing (Yield c) = then _ (unknownClient c) true true (client-is c) (λ c2. refl)
   passing (Fork r) =
       then _ (notGiven y r) _ _ (given-is r) (λ c3.
       then _ (y .joined r) _ _ (F .same-joined r (given r c3)) (λ c4.

@@ -11,7 +11,7 @@ use lib.Dec.{eqb}
 use borrow.Author.Tests.{eqb-false, eqb-true}
 use Rattle.blocks.proofs.Joining.{blocks-same, carry-left}
 use Rattle.blocks.specs.Blocks.{Content, Contents, Held, Inv}
-use Rattle.diagram.proofs.Graph.Events.{JoinOk, Joined, inh-from, inheritedEvents, inheritedStep, ownEventStep, ownEvents}
+use Rattle.diagram.proofs.Graph.Events.{JoinOk, Joined, inherited-from, inheritedEvents, inheritedStep, ownEventStep, ownEvents}
 use Rattle.diagram.proofs.Graph.Events.{view-split, viewEventStep, viewEvents}
 use Rattle.diagram.proofs.Graph.Paths.{Ordered, any-elim, any-intro, leads-new, leads-old, one-more}
 use Rattle.diagram.proofs.Graph.Tables.{tabulate-newest, tabulate-older}
@@ -119,7 +119,7 @@ module _ (d : Diagram) (layout : List ℕ) (tip starts : ℕ → ℕ) (L : Linke
       pick : (eqb x b ≡ true) ⊎ (eqb x b ≡ false) → May d tip starts x y ⊎ ((x ≡ b) × ((p : ℕ) → List·Memᴰ p (sources v) → leads d (starts y) p ≡ false) × ((p : ℕ) × List·Memᴰ p (sources v) × ((f : ℕ) × (forkVertex d (tip y) ≡ some f) × (leads d f p ≡ true))))
       pick (inl e) =
           let q = eqb-true x b e in
-          let g = sees-before d v tip (L .bound) b (h .at) (inh-from (L .ordered) (tip y) (L .bound y) (h .at) began .0) (rw q at (h .leads)) in
+          let g = sees-before d v tip (L .bound) b (h .at) (inherited-from (L .ordered) (tip y) (L .bound y) (h .at) began .0) (rw q at (h .leads)) in
           inr (q, unseen-before d v tip (L .bound) b (starts y) (rw q at (h .outside)), (g .0, g .1, (h .at, began, g .2)))
       pick (inr e) =
           let q = eqb-false x b e in

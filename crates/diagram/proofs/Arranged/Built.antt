@@ -17,7 +17,7 @@ use Rattle.blocks.specs.Blocks.{Contents, Held, Inv, blocks, forkContents, fork
 use Rattle.diagram.proofs.Arranged.Advance.{Linked, May, advance, contents, inv-same, linked-fork, may, may-next, may-true, next, on}
 use Rattle.diagram.proofs.Arranged.Advance.{on-bound, on-other, on-self, one-may, one-older, sees-before, sees-on, sees-other}
 use Rattle.diagram.proofs.Arranged.Advance.{true-may, unseen-before}
-use Rattle.diagram.proofs.Graph.Events.{inh-from, inheritedStep, ownEventStep, ownEvents, path-view, view-split, viewEventStep, viewEvents}
+use Rattle.diagram.proofs.Graph.Events.{inherited-from, inheritedStep, ownEventStep, ownEvents, path-view, view-split, viewEventStep, viewEvents}
 use Rattle.diagram.proofs.Graph.Paths.{Ordered, leads-path, no-vertex, one-more, path-start}
 use Rattle.diagram.proofs.Graph.Tables.{tabulate-older}
 use Rattle.diagram.specs.Diagram.{Diagram, Path, Vertex, event, fork, join, leads, root, sources, start}
@@ -195,7 +195,7 @@ module _ (d : Diagram) (layout : List ℕ) (tip starts : ℕ → ℕ) (L : Linke
 
       by-c : x ≡ c → (y ≡ c → ⊥) → forkJ asked b c x y ≡ true
       by-c q n =
-          let g = sees-before d sv tip (L .bound) c (h .at) (inh-from (L .ordered) (tip y) (L .bound y) (h .at) (from-old n) .0) (rw q at (h .leads)) in
+          let g = sees-before d sv tip (L .bound) c (h .at) (inherited-from (L .ordered) (tip y) (L .bound y) (h .at) (from-old n) .0) (rw q at (h .leads)) in
           let e : g .0 ≡ tip b = List·Memᴰ·eq-of-singleton (g .1) ∙ sym at-f in
           let u : leads d (starts y) f ≡ false = unseen-before d sv tip (L .bound) c (starts y) (rw q at (unseen n)) f (List·Memᴰ·head refl) in
           rw (q, eq-eqb c c refl) (asked-may b y n (record { outside = rw at-f u; at = h .at; start-of = from-old n; leads = subst (λ w. leads d (h .at) w ≡ true) e (g .2) }))

@@ -7,7 +7,7 @@ use native.Mathlib.Omega.{arith}
 use lib.Dec.{ltb}
 use Rattle.lists.proofs.Cases.{cases}
 use Rattle.diagram.specs.Day.{Day, meant}
-use Rattle.diagram.specs.Checks.{strange, openElsewhere, busyByOther, busy, stale, logFull, noneLeft, notJoinable}
+use Rattle.diagram.specs.Checks.{unknownClient, openElsewhere, busyByOther, busy, stale, logFull, noneLeft, notJoinable}
 use Rattle.diagram.specs.Steps.{Event, Yield, Fork, Join, notGiven, accepted}
 
 pub meant-given : (y : Day) (n r : ℕ) → meant y n ≡ some r → notGiven y r ≡ false
@@ -18,12 +18,12 @@ meant-given y n r e =
     (λ t. let q : none ≡ some r = rw t at e in let z : _≡_ {A = ℕ} 0 1 = cc in absurd (omega arith))
 
 module _ (y : Day) where
-  pub accept-event : (c r : ℕ) (u : Bool) → strange c ≡ false → notGiven y r ≡ false → y .joined r ≡ false → openElsewhere y c r ≡ false
+  pub accept-event : (c r : ℕ) (u : Bool) → unknownClient c ≡ false → notGiven y r ≡ false → y .joined r ≡ false → openElsewhere y c r ≡ false
       → busyByOther y c r ≡ false → stale y c r ≡ false → (u && logFull y) ≡ false → accepted y (Event c r u) ≡ true
   unfolding accepted
   accept-event c r u e2 e3 e4 e6 e7 e8 e9 = rw (e2, e3, e4, e6, e7, e8, e9)
 
-  pub accept-yield : (c : ℕ) → strange c ≡ false → accepted y (Yield c) ≡ true
+  pub accept-yield : (c : ℕ) → unknownClient c ≡ false → accepted y (Yield c) ≡ true
   unfolding accepted
   accept-yield c e2 = rw e2
 

@@ -12,7 +12,7 @@ use lib.Dec.{eqb}
 use borrow.Author.Tests.{eq-eqb, eqb-false, eqb-true}
 use Rattle.diagram.proofs.Days.Moves.{CanEnter}
 use Rattle.diagram.proofs.Days.Real.{real-enter}
-use Rattle.diagram.proofs.Days.Sound.{Filed, Runs, Seal, Sessions, Sound, Whole, ev-low, leads-low, link, order-once, some≢none}
+use Rattle.diagram.proofs.Days.Sound.{Filed, Runs, Seal, Sessions, Sound, Whole, event-low, leads-low, link, order-once, some≢none}
 use Rattle.diagram.proofs.Graph.Events.{ownEventStep, ownEvents}
 use Rattle.diagram.proofs.Graph.Paths.{leads-down, leads-newest, leads-old, leads-start, leads-trans, leads-up}
 use Rattle.diagram.proofs.Graph.Tables.{tabulate-newest, tabulate-older}
@@ -33,8 +33,8 @@ module _ (y : Day) (layout : List ℕ) (hold : ℕ → List ℕ) (S : Sound y la
   r-in : r ∈ layout
   r-in = S .real .out r (E .out)
 
-  tip-low : y .terminal r < length d
-  tip-low = S .real .linked .bound r
+  terminal-low : y .terminal r < length d
+  terminal-low = S .real .linked .bound r
 
   -- an event of c leads to where c goes on
   mine-sees : (t e : ℕ) → t < y .transactions → y .transaction t .client ≡ c → e ∈ eventsOf y t → leads d e (y .terminal r) ≡ true
@@ -99,7 +99,7 @@ module _ (y : Day) (layout : List ℕ) (hold : ℕ → List ℕ) (S : Sound y la
     mine = λ s e. let z : s ≡ t = cc in z;
     before-sees = λ e i. mine-sees t e (R .known) (R .client) i;
     before-later = λ s e f l k i j. S .sessions .later s t e f l (R .known) (k ∙ sym (R .client)) i j;
-    before-low = λ e i. ev-low y layout hold S t e (R .known) i;
+    before-low = λ e i. event-low y layout hold S t e (R .known) i;
     quiet = λ x e h n i k. some≢none (y .transaction t .closed) (S .whole .outside t x e (R .known) h n i k .is) (R .unshut);
     tips = λ s o n i. n (sym (S .whole .own-revision s t o (R .known) i (R .unshut)) ∙ E .same-revision t q);
     latest = λ s l k e. R .latest s l k e;
@@ -234,23 +234,23 @@ module _ (y : Day) (layout : List ℕ) (hold : ℕ → List ℕ) (S : Sound y la
         unshut = rw w (R .unshut);
         client-ok = R .client-ok;
         out = rw w (R .out);
-        last-is = rw (w, changed-other (y .lastEvent) c (some x0) a n, changed-other (y .terminal) r x0 bx far) (R .last-is);
-        last-in = rw (w, e-old s (X .lone a s p n), changed-other (y .terminal) r x0 bx far) (R .last-in);
-        at-end = (R .at-end .0, rw (w, changed-other hold r (X .init ++ (t0 ∷ [])) bx far) (R .at-end .1));
+        last-is = rw (w, changed-other (y .lastEvent) c (some x0) a n, changed-other (y .terminal) r x0 on far) (R .last-is);
+        last-in = rw (w, e-old s (X .lone a s p n), changed-other (y .terminal) r x0 on far) (R .last-in);
+        at-end = (R .at-end .0, rw (w, changed-other hold r (X .init ++ (t0 ∷ [])) on far) (R .at-end .1));
         latest = λ z l h g. either (side z h) (λ k. n (sym g ∙ ap (λ i. y′ .transaction i .client) k ∙ ap (λ i. i .client) w-new)) (λ k. R .latest z l (k .1) (subst (λ i. i .client ≡ a) (w-old z (k .0)) g));
       }
         where
           R : Runs y hold a s
           R = S .runs a s p
 
-          bx : ℕ
-          bx = y .transaction s .revision
+          on : ℕ
+          on = y .transaction s .revision
 
           w : y′ .transaction s ≡ y .transaction s
           w = w-old s (X .lone a s p n)
 
-          far : bx ≡ r → ⊥
-          far e = false≢true (sym (rw p at (E .idle a (R .client-ok) n)) ∙ eq-eqb bx r e)
+          far : on ≡ r → ⊥
+          far e = false≢true (sym (rw p at (E .idle a (R .client-ok) n)) ∙ eq-eqb on r e)
 
       pick : (eqb a c ≡ true) ⊎ (eqb a c ≡ false) → Runs y′ hold′ a s
       pick (inl e) = let p : some t0 ≡ some s = rw e at q in let f : s ≡ t0 = cc in same (eqb-true a c e) f
@@ -303,27 +303,27 @@ module _ (y : Day) (layout : List ℕ) (hold : ℕ → List ℕ) (S : Sound y la
           pick (inr a) (inl g) = to-new (a .0) (a .1) g
           pick (inr a) (inr g) =
               let jf : f ∈ eventsOf y t = rw (e-old t (g .0)) at j in
-              old-sees e f (ev-low y layout hold S t f (g .1) jf) (S .sessions .later s t e f l (g .1) (sym (ap (λ w. w .client) (w-old s (a .0))) ∙ q ∙ ap (λ w. w .client) (w-old t (g .0))) (rw (e-old s (a .0)) at i) jf)
+              old-sees e f (event-low y layout hold S t f (g .1) jf) (S .sessions .later s t e f l (g .1) (sym (ap (λ w. w .client) (w-old s (a .0))) ∙ q ∙ ap (λ w. w .client) (w-old t (g .0))) (rw (e-old s (a .0)) at i) jf)
 
   whole′ : Whole y′
-  whole′ = record { outside = outside′; at-tip = tip′; own-revision = own′; closed-low = closed′ }
+  whole′ = record { outside = outside′; at-terminal = tip′; own-revision = own′; closed-low = closed′ }
     where
       raise : (t x z : ℕ) → (t ≡ t0 → ⊥) → Seal d (y .transaction t) x → x ≤ z → ((e : ℕ) → leads d e x ≡ true → leads (v ∷ d) e z ≡ true) → Seal (v ∷ d) (y′ .transaction t) z
       raise t x z n s h f = record { at = s .at; is = rw (w-old t n) (s .is); before = omega (arith, s .before); whole = λ e i. f e (s .whole e (rw (e-old t n) at i)) }
 
       -- of another transaction whose event is the terminal of r, the yield came
-      closedNow : (t : ℕ) → (t ≡ t0 → ⊥) → t < y .transactions → y .terminal r ∈ eventsOf y t → (q : Option ℕ) → y .transaction t .closed ≡ q → Seal (v ∷ d) (y′ .transaction t) x0
-      closedNow t n h i none q =
-          let bx = S .whole .own-revision r t (E .out) h i q in
+      came-shut : (t : ℕ) → (t ≡ t0 → ⊥) → t < y .transactions → y .terminal r ∈ eventsOf y t → (q : Option ℕ) → y .transaction t .closed ≡ q → Seal (v ∷ d) (y′ .transaction t) x0
+      came-shut t n h i none q =
+          let on = S .whole .own-revision r t (E .out) h i q in
           let f = S .unshut t h q in
-          absurd (cases (eqb (y .transaction t .client) c) (λ e. n (X .mine t (subst (λ z. y .openBy z ≡ some t) (eqb-true _ c e) f))) (λ e. false≢true (sym (rw f at (E .idle (y .transaction t .client) (S .runs _ t f .client-ok) (eqb-false _ c e))) ∙ eq-eqb (y .transaction t .revision) r bx)))
-      closedNow t n h i (some z) q = record { at = z; is = rw (w-old t n) q; before = S .whole .closed-low t z h q; whole = λ e j. up e (S .whole .at-tip r t (E .out) h i e (rw (e-old t n) at j)) }
+          absurd (cases (eqb (y .transaction t .client) c) (λ e. n (X .mine t (subst (λ z. y .openBy z ≡ some t) (eqb-true _ c e) f))) (λ e. false≢true (sym (rw f at (E .idle (y .transaction t .client) (S .runs _ t f .client-ok) (eqb-false _ c e))) ∙ eq-eqb (y .transaction t .revision) r on)))
+      came-shut t n h i (some z) q = record { at = z; is = rw (w-old t n) q; before = S .whole .closed-low t z h q; whole = λ e j. up e (S .whole .at-terminal r t (E .out) h i e (rw (e-old t n) at j)) }
 
       at-new : (t e : ℕ) → (t ≡ t0 → ⊥) → t < y .transactions → e ∈ eventsOf y t → leads (v ∷ d) e x0 ≡ true → Seal (v ∷ d) (y′ .transaction t) x0
       at-new t e n h i q =
-          let p = leads-down v d e (ev-low y layout hold S t e h i) q in
+          let p = leads-down v d e (event-low y layout hold S t e h i) q in
           let g : leads d e (y .terminal r) ≡ true = rw (List·Memᴰ·eq-of-singleton (p .1)) at (p .2) in
-          either (mem? (y .terminal r) (eventsOf y t)) (λ j. closedNow t n h j (y .transaction t .closed) refl) (λ j. raise t (y .terminal r) x0 n (S .whole .outside t (y .terminal r) e h tip-low j i g) (omega (arith, tip-low)) up)
+          either (mem? (y .terminal r) (eventsOf y t)) (λ j. came-shut t n h j (y .transaction t .closed) refl) (λ j. raise t (y .terminal r) x0 n (S .whole .outside t (y .terminal r) e h terminal-low j i g) (omega (arith, terminal-low)) up)
 
       outside′ : (t x e : ℕ) → t < y′ .transactions → x < length (v ∷ d) → (x ∈ eventsOf y′ t → ⊥) → e ∈ eventsOf y′ t → leads (v ∷ d) e x ≡ true → Seal (v ∷ d) (y′ .transaction t) x
       outside′ t x e h l n i q = pick (side t h) (split (eqb x x0))
@@ -349,10 +349,10 @@ module _ (y : Day) (layout : List ℕ) (hold : ℕ → List ℕ) (S : Sound y la
           pick (inl a) (inr g) =
               let i′ : y .terminal s ∈ eventsOf y′ t = rw g at i in
               absurd (either (new-cases (y .terminal s) (subst (λ z. y .terminal s ∈ eventsOf y′ z) a i′)) (λ k. X .tips s os (eqb-false s r g) k) (λ k. omega (arith, S .real .linked .bound s)))
-          pick (inr a) (inl g) = let i′ : x0 ∈ eventsOf y t = rw (g, e-old t (a .0)) at i in absurd (omega (arith, ev-low y layout hold S t x0 (a .1) i′))
+          pick (inr a) (inl g) = let i′ : x0 ∈ eventsOf y t = rw (g, e-old t (a .0)) at i in absurd (omega (arith, event-low y layout hold S t x0 (a .1) i′))
           pick (inr a) (inr g) =
               let i′ : y .terminal s ∈ eventsOf y t = rw (g, e-old t (a .0)) at i in
-              rw g (old-sees e (y .terminal s) (S .real .linked .bound s) (S .whole .at-tip s t os (a .1) i′ e (rw (e-old t (a .0)) at j)))
+              rw g (old-sees e (y .terminal s) (S .real .linked .bound s) (S .whole .at-terminal s t os (a .1) i′ e (rw (e-old t (a .0)) at j)))
 
       own′ : (s t : ℕ) → IsOut y′ s → t < y′ .transactions → y′ .terminal s ∈ eventsOf y′ t → y′ .transaction t .closed ≡ none → y′ .transaction t .revision ≡ s
       own′ s t os h i q = pick (side t h) (split (eqb s r))
@@ -362,7 +362,7 @@ module _ (y : Day) (layout : List ℕ) (hold : ℕ → List ℕ) (S : Sound y la
           pick (inl a) (inr g) =
               let i′ : y .terminal s ∈ eventsOf y′ t = rw g at i in
               absurd (either (new-cases (y .terminal s) (subst (λ z. y .terminal s ∈ eventsOf y′ z) a i′)) (λ k. X .tips s os (eqb-false s r g) k) (λ k. omega (arith, S .real .linked .bound s)))
-          pick (inr a) (inl g) = let i′ : x0 ∈ eventsOf y t = rw (g, e-old t (a .0)) at i in absurd (omega (arith, ev-low y layout hold S t x0 (a .1) i′))
+          pick (inr a) (inl g) = let i′ : x0 ∈ eventsOf y t = rw (g, e-old t (a .0)) at i in absurd (omega (arith, event-low y layout hold S t x0 (a .1) i′))
           pick (inr a) (inr g) =
               let i′ : y .terminal s ∈ eventsOf y t = rw (g, e-old t (a .0)) at i in
               ap (λ w. w .revision) (w-old t (a .0)) ∙ S .whole .own-revision s t os (a .1) i′ (sym (ap (λ w. w .closed) (w-old t (a .0))) ∙ q)

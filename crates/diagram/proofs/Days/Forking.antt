@@ -11,15 +11,15 @@ use lib.Dec.{eqb}
 use borrow.Author.Tests.{eqb-false, eqb-true}
 use Rattle.diagram.proofs.Days.Moves.{CanFork}
 use Rattle.diagram.proofs.Days.Outside.{Outside, Past, idle-far, idle-past, moved-runs, moved-sessions, moved-whole, outside-new}
-use Rattle.diagram.proofs.Days.Real.{real-send}
-use Rattle.diagram.proofs.Days.Sound.{Filed, Sound, ev-low}
+use Rattle.diagram.proofs.Days.Real.{real-fork}
+use Rattle.diagram.proofs.Days.Sound.{Filed, Sound, event-low}
 use Rattle.diagram.proofs.Graph.Events.{ownEventStep, ownEvents}
 use Rattle.diagram.proofs.Graph.Paths.{leads-old}
 use Rattle.diagram.proofs.Graph.Tables.{tabulate-newest, tabulate-older}
 use Rattle.diagram.specs.Arbitration.{eventsOf}
 use Rattle.diagram.specs.Day.{Day, IsOut}
 use Rattle.diagram.specs.Diagram.{Diagram, Vertex, fork, leads, start}
-use Rattle.diagram.specs.Steps.{send}
+use Rattle.diagram.specs.Steps.{forkAt}
 use Rattle.lists.proofs.Cases.{cases, either, split}
 use Rattle.lists.proofs.Changed.{changed-other}
 use Rattle.lists.proofs.Places.{insert-back, insert-old}
@@ -45,7 +45,7 @@ module _ (y : Day) (layout : List ℕ) (hold : ℕ → List ℕ) (S : Sound y la
   low s = S .real .linked .bound s
 
   -- the terminals of the older revisions, and what is their own
-  terminal-old : (s : ℕ) → s < n → (s ≡ r → ⊥) → send y r .terminal s ≡ y .terminal s
+  terminal-old : (s : ℕ) → s < n → (s ≡ r → ⊥) → forkAt y r .terminal s ≡ y .terminal s
   terminal-old s h k = changed-other (changed (y .terminal) r (length d)) n _ s (λ e. omega arith) ∙ changed-other (y .terminal) r (length d) s k
 
   own-old : (s : ℕ) → s ∈ layout → ownEvents (sv ∷ fv ∷ d) (changed (y .terminal) r (length d) s) ≡ flat (eventsOf y) (hold s)
@@ -60,7 +60,7 @@ module _ (y : Day) (layout : List ℕ) (hold : ℕ → List ℕ) (S : Sound y la
   stays : (s : ℕ) → s ∈ insert r n layout → eqb s n ≡ false → s ∈ layout
   stays s i e = either (insert-back r n s layout i) (λ q. absurd (eqb-false s n e q)) (λ j. j)
 
-  filed′ : Filed (send y r) (insert r n layout) hold′
+  filed′ : Filed (forkAt y r) (insert r n layout) hold′
   filed′ = record {
     blocks-ok = λ s i. cases (eqb s n) (λ e. rw e (tabulate-newest ownEventStep [] sv (fv ∷ d))) (λ e. rw e (own-old s (stays s i e)));
     all = λ t h. let p = S .filed .all t h in (p .0, insert-old r n (p .0) layout (p .1), rw (changed-other hold n [] (p .0) (older (p .0) (p .1))) (p .2));
@@ -69,12 +69,12 @@ module _ (y : Day) (layout : List ℕ) (hold : ℕ → List ℕ) (S : Sound y la
   }
 
   -- a terminal that is an event is none of the new vertices
-  was : (s t : ℕ) → IsOut (send y r) s → t < y .transactions → send y r .terminal s ∈ eventsOf y t → IsOut y s × (send y r .terminal s ≡ y .terminal s)
+  was : (s t : ℕ) → IsOut (forkAt y r) s → t < y .transactions → forkAt y r .terminal s ∈ eventsOf y t → IsOut y s × (forkAt y r .terminal s ≡ y .terminal s)
   was s t o h i = pick (split (eqb s n)) (split (eqb s r))
     where
-      pick : (eqb s n ≡ true) ⊎ (eqb s n ≡ false) → (eqb s r ≡ true) ⊎ (eqb s r ≡ false) → IsOut y s × (send y r .terminal s ≡ y .terminal s)
-      pick (inl e) g = let j : suc (length d) ∈ eventsOf y t = rw e at i in absurd (omega (arith, ev-low y layout hold S t (suc (length d)) h j))
-      pick (inr e) (inl g) = let j : length d ∈ eventsOf y t = rw (e, g) at i in absurd (omega (arith, ev-low y layout hold S t (length d) h j))
+      pick : (eqb s n ≡ true) ⊎ (eqb s n ≡ false) → (eqb s r ≡ true) ⊎ (eqb s r ≡ false) → IsOut y s × (forkAt y r .terminal s ≡ y .terminal s)
+      pick (inl e) g = let j : suc (length d) ∈ eventsOf y t = rw e at i in absurd (omega (arith, event-low y layout hold S t (suc (length d)) h j))
+      pick (inr e) (inl g) = let j : length d ∈ eventsOf y t = rw (e, g) at i in absurd (omega (arith, event-low y layout hold S t (length d) h j))
       pick (inr e) (inr g) =
           let k = eqb-false s n e in
           let b : s < n = omega (arith, o .0) in
@@ -85,22 +85,22 @@ module _ (y : Day) (layout : List ℕ) (hold : ℕ → List ℕ) (S : Sound y la
 
   outside : Outside (sv ∷ fv ∷ d) (y .transactions) (y .transaction)
   outside =
-      outside-new (fv ∷ d) sv (y .transactions) (y .transaction) (λ t e h i. omega (arith, ev-low y layout hold S t e h i)) (λ p i. omega (arith, List·Memᴰ·eq-of-singleton i))
-      (λ p t i h j. absurd (omega (arith, List·Memᴰ·eq-of-singleton i, ev-low y layout hold S t p h j)))
-      (outside-new d fv (y .transactions) (y .transaction) (ev-low y layout hold S) (λ p i. rw (List·Memᴰ·eq-of-singleton i) (low r)) past (S .whole .outside))
+      outside-new (fv ∷ d) sv (y .transactions) (y .transaction) (λ t e h i. omega (arith, event-low y layout hold S t e h i)) (λ p i. omega (arith, List·Memᴰ·eq-of-singleton i))
+      (λ p t i h j. absurd (omega (arith, List·Memᴰ·eq-of-singleton i, event-low y layout hold S t p h j)))
+      (outside-new d fv (y .transactions) (y .transaction) (event-low y layout hold S) (λ p i. rw (List·Memᴰ·eq-of-singleton i) (low r)) past (S .whole .outside))
     where
       past : (p t : ℕ) → List·Memᴰ p (y .terminal r ∷ []) → t < y .transactions → p ∈ eventsOf y t → Past d (y .transaction t) p
       past p t i h j = let e = List·Memᴰ·eq-of-singleton i in rw e (idle-past y layout hold S r t (N .out) (N .idle) h (rw e at j))
 
-  kept : (c s : ℕ) → y .openBy c ≡ some s → IsOut (send y r) (y .transaction s .revision) × (send y r .terminal (y .transaction s .revision) ≡ y .terminal (y .transaction s .revision)) × (hold′ (y .transaction s .revision) ≡ hold (y .transaction s .revision))
+  kept : (c s : ℕ) → y .openBy c ≡ some s → IsOut (forkAt y r) (y .transaction s .revision) × (forkAt y r .terminal (y .transaction s .revision) ≡ y .terminal (y .transaction s .revision)) × (hold′ (y .transaction s .revision) ≡ hold (y .transaction s .revision))
   kept c s p =
       let o = S .runs c s p .out in
       let old = older _ (S .real .out _ o) in
       ((omega (arith, o .0), changed-other (y .joined) n false _ old ∙ o .1), terminal-old _ (o .0) (idle-far y layout hold S r c s (N .idle) p), changed-other hold n [] _ old)
 
-  pub sound-send : Sound (send y r) (insert r (y .revisions) layout) (changed hold (y .revisions) [])
-  sound-send = record {
-    real = real-send y layout (S .real) r N;
+  pub sound-fork : Sound (forkAt y r) (insert r (y .revisions) layout) (changed hold (y .revisions) [])
+  sound-fork = record {
+    real = real-fork y layout (S .real) r N;
     filed = filed′;
     runs = moved-runs y layout hold S (sv ∷ fv ∷ d) _ _ _ _ _ (omega arith) up was hold′ kept;
     unshut = S .unshut;

@@ -12,15 +12,15 @@ use lib.Dec.{eqb}
 use borrow.Author.Tests.{eqb-false, eqb-true}
 use Rattle.diagram.proofs.Days.Moves.{CanJoin}
 use Rattle.diagram.proofs.Days.Outside.{Outside, Past, idle-far, idle-past, moved-runs, moved-sessions, moved-whole, outside-new}
-use Rattle.diagram.proofs.Days.Real.{real-hand}
-use Rattle.diagram.proofs.Days.Sound.{Filed, Sound, ev-low}
+use Rattle.diagram.proofs.Days.Real.{real-join}
+use Rattle.diagram.proofs.Days.Sound.{Filed, Sound, event-low}
 use Rattle.diagram.proofs.Graph.Events.{ownEventStep, ownEvents}
 use Rattle.diagram.proofs.Graph.Paths.{leads-old}
 use Rattle.diagram.proofs.Graph.Tables.{tabulate-newest, tabulate-older}
 use Rattle.diagram.specs.Arbitration.{eventsOf}
 use Rattle.diagram.specs.Day.{Day, IsOut}
 use Rattle.diagram.specs.Diagram.{Diagram, Vertex, join, leads}
-use Rattle.diagram.specs.Steps.{takeOver}
+use Rattle.diagram.specs.Steps.{joinInto}
 use Rattle.lists.proofs.Blocks.{flat-++}
 use Rattle.lists.proofs.Cases.{cases, either, split}
 use Rattle.lists.proofs.Changed.{changed-other, changed-same}
@@ -49,7 +49,7 @@ module _ (y : Day) (layout : List ℕ) (hold : ℕ → List ℕ) (S : Sound y la
   b-in : b ∈ layout
   b-in = S .real .out b (H .out-b)
 
-  filed′ : Filed (takeOver y a b) (remove b layout) hold′
+  filed′ : Filed (joinInto y a b) (remove b layout) hold′
   filed′ = record {
     blocks-ok = λ s i. cases (eqb s a) (λ e. rw e own-a) (λ e. rw (e, tabulate-older ownEventStep [] jv d (y .terminal s) (low s)) (S .filed .blocks-ok s (remove-back b s layout i)));
     all = λ t h. let p = S .filed .all t h in all′ t (p .0) (p .1) (p .2) (split (eqb (p .0) b)) (split (eqb (p .0) a));
@@ -71,19 +71,19 @@ module _ (y : Day) (layout : List ℕ) (hold : ℕ → List ℕ) (S : Sound y la
       all′ t s i j (inr e) (inr g) = (s, remove-keep b s layout (eqb-false s b e) i, rw g j)
 
   -- a terminal that is an event is not the join vertex
-  was : (s t : ℕ) → IsOut (takeOver y a b) s → t < y .transactions → takeOver y a b .terminal s ∈ eventsOf y t → IsOut y s × (takeOver y a b .terminal s ≡ y .terminal s)
+  was : (s t : ℕ) → IsOut (joinInto y a b) s → t < y .transactions → joinInto y a b .terminal s ∈ eventsOf y t → IsOut y s × (joinInto y a b .terminal s ≡ y .terminal s)
   was s t o h i = pick (split (eqb s b)) (split (eqb s a))
     where
-      pick : (eqb s b ≡ true) ⊎ (eqb s b ≡ false) → (eqb s a ≡ true) ⊎ (eqb s a ≡ false) → IsOut y s × (takeOver y a b .terminal s ≡ y .terminal s)
+      pick : (eqb s b ≡ true) ⊎ (eqb s b ≡ false) → (eqb s a ≡ true) ⊎ (eqb s a ≡ false) → IsOut y s × (joinInto y a b .terminal s ≡ y .terminal s)
       pick (inl e) g = let f : true ≡ false = rw e at (o .1) in absurd (false≢true (sym f))
-      pick (inr e) (inl g) = let j : length d ∈ eventsOf y t = rw g at i in absurd (omega (arith, ev-low y layout hold S t (length d) h j))
+      pick (inr e) (inl g) = let j : length d ∈ eventsOf y t = rw g at i in absurd (omega (arith, event-low y layout hold S t (length d) h j))
       pick (inr e) (inr g) = ((o .0, rw e at (o .1)), changed-other (y .terminal) a (length d) s (eqb-false s a g))
 
   up : (e x : ℕ) → x < length d → leads d e x ≡ true → leads (jv ∷ d) e x ≡ true
   up e x h q = leads-old jv d e x h ∙ q
 
   outside : Outside (jv ∷ d) (y .transactions) (y .transaction)
-  outside = outside-new d jv (y .transactions) (y .transaction) (ev-low y layout hold S) older past (S .whole .outside)
+  outside = outside-new d jv (y .transactions) (y .transaction) (event-low y layout hold S) older past (S .whole .outside)
     where
       older : (p : ℕ) → List·Memᴰ p (y .terminal a ∷ y .terminal b ∷ []) → p < length d
       older p i = either (List·Memᴰ·cases-cons i) (λ e. rw e (low a)) (λ j. rw (List·Memᴰ·eq-of-singleton j) (low b))
@@ -94,15 +94,15 @@ module _ (y : Day) (layout : List ℕ) (hold : ℕ → List ℕ) (S : Sound y la
           (λ e. rw e (idle-past y layout hold S a t (H .out-a) (H .idle-a) h (rw e at j)))
           (λ k. let e = List·Memᴰ·eq-of-singleton k in rw e (idle-past y layout hold S b t (H .out-b) (H .idle-b) h (rw e at j)))
 
-  kept : (c s : ℕ) → y .openBy c ≡ some s → IsOut (takeOver y a b) (y .transaction s .revision) × (takeOver y a b .terminal (y .transaction s .revision) ≡ y .terminal (y .transaction s .revision)) × (hold′ (y .transaction s .revision) ≡ hold (y .transaction s .revision))
+  kept : (c s : ℕ) → y .openBy c ≡ some s → IsOut (joinInto y a b) (y .transaction s .revision) × (joinInto y a b .terminal (y .transaction s .revision) ≡ y .terminal (y .transaction s .revision)) × (hold′ (y .transaction s .revision) ≡ hold (y .transaction s .revision))
   kept c s p =
       let o = S .runs c s p .out in
       let far = idle-far y layout hold S a c s (H .idle-a) p in
       ((o .0, changed-other (y .joined) b true _ (idle-far y layout hold S b c s (H .idle-b) p) ∙ o .1), changed-other (y .terminal) a (length d) _ far, changed-other hold a both _ far)
 
-  pub sound-hand : Sound (takeOver y a b) (remove b layout) (changed hold a (hold a ++ hold b))
-  sound-hand = record {
-    real = real-hand y layout (S .real) a b H;
+  pub sound-join : Sound (joinInto y a b) (remove b layout) (changed hold a (hold a ++ hold b))
+  sound-join = record {
+    real = real-join y layout (S .real) a b H;
     filed = filed′;
     runs = moved-runs y layout hold S (jv ∷ d) _ _ _ _ _ (omega arith) up was hold′ kept;
     unshut = S .unshut;

@@ -11,8 +11,8 @@ use Rattle.lists.proofs.Cases.{split, or-false, and-true}
 use Rattle.diagram.specs.Sizes.{clientLimit}
 use Rattle.diagram.specs.Diagram.{leads}
 use Rattle.diagram.specs.Day.{Day, IsOut}
-use Rattle.diagram.specs.Checks.{strange, isOn, isElsewhere, anyBelow, openElsewhere, busyByOther, busy, missing, stale, notJoinable}
-use Rattle.diagram.specs.Steps.{Step, Event, Yield, Fork, Join, notGiven, accepted, enter, yield, send, takeOver, after}
+use Rattle.diagram.specs.Checks.{unknownClient, isOn, isElsewhere, anyBelow, openElsewhere, busyByOther, busy, missing, stale, notJoinable}
+use Rattle.diagram.specs.Steps.{Step, Event, Yield, Fork, Join, notGiven, accepted, enter, yield, forkAt, joinInto, after}
 
 pub any-below : (n : ℕ) (f : ℕ → Bool) → anyBelow n f ≡ false → (c : ℕ) → c < n → f c ≡ false
 any-below zero f e c h = absurd (omega arith)
@@ -50,8 +50,8 @@ pub record CanJoin (y : Day) (a b : ℕ) : Type 0 where
 pub data Moves (y : Day) : Day → Type 0 where
   enters : (c r : ℕ) (u : Bool) → CanEnter y c r → Moves y (enter y c r u)
   yields : (c : ℕ) → c < clientLimit → Moves y (yield y c (y .openBy c))
-  sends : (r : ℕ) → CanFork y r → Moves y (send y r)
-  hands : (a b : ℕ) → CanJoin y a b → Moves y (takeOver y a b)
+  forksAt : (r : ℕ) → CanFork y r → Moves y (forkAt y r)
+  joinsInto : (a b : ℕ) → CanJoin y a b → Moves y (joinInto y a b)
 
 -- the first of some tests does not apply, and none of the others
 none-of : (b rest : Bool) → (not b && rest) ≡ true → (b ≡ false) × (rest ≡ true)
@@ -61,8 +61,8 @@ module _ (y : Day) where
   given : (r : ℕ) → notGiven y r ≡ false → r < y .revisions
   given r e = ltb-true r (y .revisions) (not-false _ e)
 
-  known : (c : ℕ) → strange c ≡ false → c < clientLimit
-  unfolding strange
+  known : (c : ℕ) → unknownClient c ≡ false → c < clientLimit
+  unfolding unknownClient
   known c e = ltb-true c clientLimit (not-false _ e)
 
   same-revision : (c r : ℕ) → openElsewhere y c r ≡ false → (t : ℕ) → y .openBy c ≡ some t → y .transaction t .revision ≡ r
@@ -100,7 +100,7 @@ module _ (y : Day) where
   pub can-enter : (c r : ℕ) (u : Bool) → accepted y (Event c r u) ≡ true → CanEnter y c r
   unfolding accepted
   can-enter c r u e =
-      let e2 = none-of (strange c) _ e in
+      let e2 = none-of (unknownClient c) _ e in
       let e3 = none-of (notGiven y r) _ (e2 .1) in
       let e4 = none-of (y .joined r) _ (e3 .1) in
       let e6 = none-of (openElsewhere y c r) _ (e4 .1) in
@@ -116,7 +116,7 @@ module _ (y : Day) where
 
   pub can-yield : (c : ℕ) → accepted y (Yield c) ≡ true → c < clientLimit
   unfolding accepted
-  can-yield c e = known c (none-of (strange c) _ e .0)
+  can-yield c e = known c (none-of (unknownClient c) _ e .0)
 
   pub can-fork : (r : ℕ) → accepted y (Fork r) ≡ true → CanFork y r
   unfolding accepted
@@ -151,5 +151,5 @@ module _ (y : Day) where
   unfolding after
   step-moves (Event c r u) e = enters c r u (can-enter c r u e)
   step-moves (Yield c) e = yields c (can-yield c e)
-  step-moves (Fork r) e = sends r (can-fork r e)
-  step-moves (Join a b) e = hands a b (can-join a b e)
+  step-moves (Fork r) e = forksAt r (can-fork r e)
+  step-moves (Join a b) e = joinsInto a b (can-join a b e)

@@ -10,7 +10,7 @@ use lib.ListN.{length}
 use lib.Dec.{eqb}
 use borrow.Author.Tests.{eq-eqb, eqb-false, eqb-true}
 use Rattle.diagram.proofs.Days.Moves.{Idle}
-use Rattle.diagram.proofs.Days.Sound.{Runs, Seal, Sessions, Sound, Whole, ev-low, leads-low}
+use Rattle.diagram.proofs.Days.Sound.{Runs, Seal, Sessions, Sound, Whole, event-low, leads-low}
 use Rattle.diagram.proofs.Graph.Paths.{leads-down, leads-old, leads-up}
 use Rattle.diagram.specs.Arbitration.{eventsOf}
 use Rattle.diagram.specs.Day.{Day, IsOut, Transaction}
@@ -57,7 +57,7 @@ module _ (y : Day) (layout : List ℕ) (hold : ℕ → List ℕ) (S : Sound y la
       by none q =
           let f = S .unshut t h q in
           absurd (false≢true (sym (rw f at (idle (y .transaction t .client) (S .runs _ t f .client-ok) tt)) ∙ eq-eqb (y .transaction t .revision) r (S .whole .own-revision r t o h i q)))
-      by (some z) q = (z, q, S .whole .closed-low t z h q, S .whole .at-tip r t o h i)
+      by (some z) q = (z, q, S .whole .closed-low t z h q, S .whole .at-terminal r t o h i)
 
   -- an open transaction is on no such revision
   pub idle-far : (r a s : ℕ) → Idle y (λ o. Unit {0}) r → y .openBy a ≡ some s → y .transaction s .revision ≡ r → ⊥
@@ -89,7 +89,7 @@ module _ (y : Day) (layout : List ℕ) (hold : ℕ → List ℕ) (S : Sound y la
   pub moved-whole : Outside d (y .transactions) (y .transaction) → Whole y′
   moved-whole outside = record {
     outside = outside;
-    at-tip = λ s t o h i e j. let w = was s t o h i in rw (w .1) (up e (y .terminal s) (S .real .linked .bound s) (S .whole .at-tip s t (w .0) h (rw (w .1) at i) e j));
+    at-terminal = λ s t o h i e j. let w = was s t o h i in rw (w .1) (up e (y .terminal s) (S .real .linked .bound s) (S .whole .at-terminal s t (w .0) h (rw (w .1) at i) e j));
     own-revision = λ s t o h i e. let w = was s t o h i in S .whole .own-revision s t (w .0) h (rw (w .1) at i) e;
     closed-low = λ t n h e. omega (arith, S .whole .closed-low t n h e);
   }
@@ -98,7 +98,7 @@ module _ (y : Day) (layout : List ℕ) (hold : ℕ → List ℕ) (S : Sound y la
   moved-sessions = record {
     last-low = λ c l e. omega (arith, S .sessions .last-low c l e);
     last-sees = λ t e h i. let l = S .sessions .last-sees t e h i in (l .0, l .1, up e (l .0) (leads-low y layout hold S e (l .0) (l .2)) (l .2));
-    later = λ s t e f l h q i j. up e f (ev-low y layout hold S t f h j) (S .sessions .later s t e f l h q i j);
+    later = λ s t e f l h q i j. up e f (event-low y layout hold S t f h j) (S .sessions .later s t e f l h q i j);
   }
 
   -- an open transaction's revision keeps its terminal and its transactions

@@ -15,7 +15,7 @@ use Rattle.lists.proofs.Places.{insert-back, insert-new, insert-old, remove-bac
 use Rattle.diagram.specs.Diagram.{Diagram, Vertex, event, fork, join, start}
 use Rattle.diagram.specs.Effects.{forkStep, forkVertex}
 use Rattle.diagram.specs.Day.{Day, IsOut, fresh}
-use Rattle.diagram.specs.Steps.{close, enter, newUpdate, send, takeOver}
+use Rattle.diagram.specs.Steps.{close, enter, newUpdate, forkAt, joinInto}
 use Rattle.diagram.proofs.Graph.Tables.{tabulate-newest, tabulate-older}
 use Rattle.diagram.proofs.Arranged.Advance.{Linked, May, linked-fork}
 use Rattle.diagram.proofs.Arranged.Built.{linked-join, linked-root, linked-start, linked-update, lone}
@@ -66,8 +66,8 @@ module _ (y : Day) (layout : List ℕ) (R : Real y layout) where
   pub real-close : (c t : ℕ) → Real (close y c t) layout
   real-close c t = record { linked = R .linked; out = R .out; back = R .back; forks = R .forks; starts-low = R .starts-low; forks-low = R .forks-low }
 
-  pub real-send : (r : ℕ) → CanFork y r → Real (send y r) (insert r (y .revisions) layout)
-  real-send r N = record {
+  pub real-fork : (r : ℕ) → CanFork y r → Real (forkAt y r) (insert r (y .revisions) layout)
+  real-fork r N = record {
     linked = linked-start (fv ∷ d) layout (changed (y .terminal) r (length d)) (y .startOf) (linked-fork d layout (y .terminal) (y .startOf) (R .linked) r r-in) r r-in n n-new (length d) (changed-same (y .terminal) r (length d)) refl (lone d layout (y .terminal) (y .startOf) (R .linked) r);
     out = λ s o. cases (eqb s n) (λ e. Memᴰ·cast (eqb-true s n e) (insert-new r n layout r-in)) (λ e. insert-old r n s layout (R .out s (was s (o .0) e, rw e at (o .1))));
     back = λ s i. either (insert-back r n s layout i) (λ e. rw e (omega arith, changed-same (y .joined) n false)) (λ j. let o = R .back s j in (omega (arith, o .0), changed-other (y .joined) n false s (λ e. omega (arith, o .0)) ∙ o .1));
@@ -97,8 +97,8 @@ module _ (y : Day) (layout : List ℕ) (R : Real y layout) where
       fork-low : (s : ℕ) → changed (y .terminal) r (length d) s < length (fv ∷ d)
       fork-low s = cases (eqb s r) (λ e. rw e (omega arith)) (λ e. rw e (omega (arith, terminal-low s)))
 
-  pub real-hand : (a b : ℕ) → CanJoin y a b → Real (takeOver y a b) (remove b layout)
-  real-hand a b H = record {
+  pub real-join : (a b : ℕ) → CanJoin y a b → Real (joinInto y a b) (remove b layout)
+  real-join a b H = record {
     linked = linked-join d layout (y .terminal) (y .startOf) (R .linked) a b (R .out a (H .out-a)) (R .out b (H .out-b)) may;
     out = λ s o. cases (eqb s b) (λ e. absurd (gone s o (eqb-true s b e))) (λ e. remove-keep b s layout (eqb-false s b e) (R .out s (o .0, rw e at (o .1))));
     back = λ s i. let o = R .back s (remove-back b s layout i) in (o .0, changed-other (y .joined) b true s (λ e. remove-gone b layout (R .linked .inv .distinct) (Memᴰ·cast (sym e) i)) ∙ o .1);
@@ -110,5 +110,5 @@ module _ (y : Day) (layout : List ℕ) (R : Real y layout) where
       may : May d (y .terminal) (y .startOf) a b
       may = record { outside = H .start-unseen; at = y .forkOf b; start-of = R .forks b (H .out-b .0) (H .not-main); leads = H .fork-seen }
 
-      gone : (s : ℕ) → IsOut (takeOver y a b) s → s ≡ b → ⊥
+      gone : (s : ℕ) → IsOut (joinInto y a b) s → s ≡ b → ⊥
       gone s o e = false≢true (sym (o .1) ∙ ap (changed (y .joined) b true) e ∙ changed-same (y .joined) b true)

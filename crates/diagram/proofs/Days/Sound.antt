@@ -47,7 +47,7 @@ pub record Seal (d : Diagram) (w : Transaction) (x : ℕ) : Type 0 where
 
 pub record Whole (y : Day) : Type 0 where
   pub outside : (t x e : ℕ) → t < y .transactions → x < length (y .diagram) → (x ∈ eventsOf y t → ⊥) → e ∈ eventsOf y t → leads (y .diagram) e x ≡ true → Seal (y .diagram) (y .transaction t) x
-  pub at-tip : (r t : ℕ) → IsOut y r → t < y .transactions → y .terminal r ∈ eventsOf y t → (e : ℕ) → e ∈ eventsOf y t → leads (y .diagram) e (y .terminal r) ≡ true
+  pub at-terminal : (r t : ℕ) → IsOut y r → t < y .transactions → y .terminal r ∈ eventsOf y t → (e : ℕ) → e ∈ eventsOf y t → leads (y .diagram) e (y .terminal r) ≡ true
   pub own-revision : (r t : ℕ) → IsOut y r → t < y .transactions → y .terminal r ∈ eventsOf y t → y .transaction t .closed ≡ none → y .transaction t .revision ≡ r
   pub closed-low : (t n : ℕ) → t < y .transactions → y .transaction t .closed ≡ some n → n ≤ length (y .diagram)
 
@@ -82,7 +82,7 @@ sound-fresh = record {
   unshut = λ t h e. let b : t < 0 = h in absurd (omega arith);
   whole = record {
     outside = λ t x e h b n i s. absurd (List·Memᴰ·not-nil i);
-    at-tip = λ r t o h i e j. absurd (List·Memᴰ·not-nil j);
+    at-terminal = λ r t o h i e j. absurd (List·Memᴰ·not-nil j);
     own-revision = λ r t o h i e. absurd (List·Memᴰ·not-nil i);
     closed-low = λ t n h e. absurd (some≢none none e refl);
   };
@@ -113,8 +113,8 @@ module _ (y : Day) (layout : List ℕ) (hold : ℕ → List ℕ) (S : Sound y la
   order-once = flat-nodup (eventsOf y) (flatBack hold layout) (λ t i. let p = flatBack-from hold t layout i in S .filed .first t (S .filed .low (p .0) t (p .1) (p .2))) flat-once
 
   -- an event is a vertex of the day
-  pub ev-low : (t e : ℕ) → t < y .transactions → e ∈ eventsOf y t → e < length (y .diagram)
-  ev-low t e h i =
+  pub event-low : (t e : ℕ) → t < y .transactions → e ∈ eventsOf y t → e < length (y .diagram)
+  event-low t e h i =
       let p = S .filed .all t h in
       link .small (y .terminal (p .0)) e (rw (S .filed .blocks-ok (p .0) (p .1)) (flat-in (eventsOf y) t e (hold (p .0)) (p .2) i))
 

@@ -94,7 +94,7 @@ module _ (y : Day) (layout : List ℕ) (hold : ℕ → List ℕ) (S : Sound y la
   whole′ : Whole y′
   whole′ = record {
     outside = outside′;
-    at-tip = λ r s o h i e j. S .whole .at-tip r s o h (rw (same-events s) at i) e (rw (same-events s) at j);
+    at-terminal = λ r s o h i e j. S .whole .at-terminal r s o h (rw (same-events s) at i) e (rw (same-events s) at j);
     own-revision = λ r s o h i e. revisions s ∙ S .whole .own-revision r s o h (rw (same-events s) at i) (sym (ap (λ w. w .closed) (w-other s (is-open s e))) ∙ e);
     closed-low = λ s n h e. cases (eqb s t) (λ z. let f : some (length d) ≡ some n = rw z at e in let g : length d ≡ n = cc in omega arith) (λ z. S .whole .closed-low s n h (rw z at e));
   }

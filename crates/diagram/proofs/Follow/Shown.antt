@@ -8,7 +8,7 @@ use Rattle.diagram.proofs.Arranged.Advance.{contents}
 use Rattle.diagram.proofs.Days.Moves.{can-enter, can-fork, can-join}
 use Rattle.diagram.proofs.Days.Real.{Real}
 use Rattle.diagram.proofs.Follow.Agrees.{Agree, agree-fresh, ordered, terminal-low}
-use Rattle.diagram.proofs.Follow.Steps.{agree-enter, agree-join, agree-send, agree-yield}
+use Rattle.diagram.proofs.Follow.Steps.{agree-enter, agree-join, agree-fork, agree-yield}
 use Rattle.diagram.proofs.Graph.Events.{ownEvents}
 use Rattle.diagram.proofs.Graph.Visible.{view-numbers}
 use Rattle.diagram.proofs.Order.Inherited.{blocks-left, blocks-numbers, good-under, inherited, numbers-nodup, numbers-sub, view-split-own}
@@ -84,7 +84,7 @@ agree-after : (y : Day) (k : Machine) (s : Step) → accepted y s ≡ true → A
 unfolding after machineAfter
 agree-after y k (Event c r u) e A = agree-enter y k A c r u (can-enter y c r u e)
 agree-after y k (Yield c) e A = agree-yield y k A c (y .openBy c) refl
-agree-after y k (Fork r) e A = agree-send y k A r (can-fork y r e)
+agree-after y k (Fork r) e A = agree-fork y k A r (can-fork y r e)
 agree-after y k (Join a b) e A = agree-join y k A a b (can-join y a b e)
 
 agree-from : (ss : List Step) (y : Day) (k : Machine) → AcceptedFrom y ss → Agree y k → Agree (runFrom y ss) (machineFrom k ss)

@@ -9,14 +9,14 @@ use native.Mathlib.Omega.{arith}
 use lib.ListN.{length}
 use lib.Dec.{eqb}
 use borrow.Author.Tests.{eqb-false, eqb-true, ne-eqb}
-use Rattle.diagram.proofs.Days.Moves.{CanEnter, CanFork, CanJoin, enters, hands, sends}
+use Rattle.diagram.proofs.Days.Moves.{CanEnter, CanFork, CanJoin, enters, joinsInto, forksAt}
 use Rattle.diagram.proofs.Days.Yielding.{sound-close}
 use Rattle.diagram.proofs.Follow.Agrees.{Agree, inherited-step, ordered, terminal-low}
 use Rattle.diagram.proofs.Graph.Paths.{Ordered, one-more}
 use Rattle.diagram.proofs.Graph.Tables.{tabulate-newest, tabulate-older}
-use Rattle.diagram.proofs.Marks.Joinable.{J, J-enter, J-join-other, J-joiner, J-send-copy, J-send-new, J-send-old, J-send-self}
+use Rattle.diagram.proofs.Marks.Joinable.{J, J-enter, J-join-other, J-joiner, J-fork-copy, J-fork-new, J-fork-old, J-fork-self}
 use Rattle.diagram.proofs.Marks.Joinable.{marked-moves, marks-close}
-use Rattle.diagram.proofs.Marks.Terminals.{caught, caught-join, caught-joiner, caught-other, caught-own, caught-send, caught-sent}
+use Rattle.diagram.proofs.Marks.Terminals.{caught, caught-join, caught-joiner, caught-other, caught-own, caught-fork, caught-forked}
 use Rattle.diagram.proofs.Order.Growth.{Fine, fine-moves}
 use Rattle.diagram.proofs.Order.Inherited.{inherited, inherited-older, inherited-start, view-split-own}
 use Rattle.diagram.proofs.Order.Numbered.{numbered-moves}
@@ -25,7 +25,7 @@ use Rattle.diagram.specs.Day.{Day, IsOut}
 use Rattle.diagram.specs.Diagram.{Diagram, Vertex, event, fork, join, start}
 use Rattle.diagram.specs.Effects.{entry, own, ownStep, viewStep}
 use Rattle.diagram.specs.Machine.{Machine, enterOn, forkOn, joinOn, revisionOf, yieldOn}
-use Rattle.diagram.specs.Steps.{close, enter, entersInto, newUpdate, send, takeOver, yield}
+use Rattle.diagram.specs.Steps.{close, enter, entersInto, newUpdate, forkAt, joinInto, yield}
 use Rattle.lists.proofs.Cases.{cases, split}
 use Rattle.lists.proofs.Changed.{changed-other, changed-same}
 use Rattle.lists.specs.Lists.{changed, remove}
@@ -129,11 +129,11 @@ module _ (y : Day) (k : Machine) (A : Agree y k) where
   abbrev n : ℕ
   n = y .revisions
 
-  pub agree-send : (r : ℕ) → CanFork y r → Agree (send y r) (forkOn k r)
+  pub agree-fork : (r : ℕ) → CanFork y r → Agree (forkAt y r) (forkOn k r)
   unfolding marked-moves fine-moves
-  agree-send r N = record {
-    marked = marked-moves y (send y r) (A .marked) (sends r N);
-    numbered = numbered-moves y (send y r) (A .numbered) (sends r N);
+  agree-fork r N = record {
+    marked = marked-moves y (forkAt y r) (A .marked) (forksAt r N);
+    numbered = numbered-moves y (forkAt y r) (A .numbered) (forksAt r N);
     same-layout = rw (A .same-revisions, A .same-layout);
     same-inherited = λ s o. rw (A .same-revisions) (inherited′ s o);
     same-revisions = ap suc (A .same-revisions);
@@ -151,7 +151,7 @@ module _ (y : Day) (k : Machine) (A : Agree y k) where
       sv : Vertex
       sv = start (length d)
 
-      old : (s : ℕ) → IsOut (send y r) s → eqb s n ≡ false → IsOut y s
+      old : (s : ℕ) → IsOut (forkAt y r) s → eqb s n ≡ false → IsOut y s
       old s o e = let z = eqb-false s n e in (omega (arith, o .0), rw e at (o .1))
 
       ordered1 : Ordered (fv ∷ d)
@@ -166,7 +166,7 @@ module _ (y : Day) (k : Machine) (A : Agree y k) where
           ap (λ t. t ++ k .own r) (A .same-inherited r (N .out)) ∙ ap (λ t. inherited d (y .terminal r) ++ t) (A .same-own r (N .out))
           ∙ sym (view-split-own (ordered y k A) (y .terminal r) (terminal-low y k A r)) ∙ sym (tabulate-newest viewStep [] fv d) ∙ sym (inherited-start (fv ∷ d) ordered1 (length d) (omega arith))
 
-      inherited′ : (s : ℕ) → IsOut (send y r) s → changed (k .inherited) n (k .inherited r ++ k .own r) s ≡ inherited (sv ∷ fv ∷ d) (send y r .terminal s)
+      inherited′ : (s : ℕ) → IsOut (forkAt y r) s → changed (k .inherited) n (k .inherited r ++ k .own r) s ≡ inherited (sv ∷ fv ∷ d) (forkAt y r .terminal s)
       inherited′ s o =
           cases (eqb s n)
           (λ e. rw e taken)
@@ -178,34 +178,34 @@ module _ (y : Day) (k : Machine) (A : Agree y k) where
           (λ e. rw (e, tabulate-newest ownStep [] fv d) (A .same-own s o ∙ ap (λ i. own d (y .terminal i)) (eqb-true s r e)))
           (λ e. rw (e, tabulate-older ownStep [] fv d (y .terminal s) (terminal-low y k A s)) (A .same-own s o))
 
-      own′ : (s : ℕ) → IsOut (send y r) s → changed (k .own) n [] s ≡ own (sv ∷ fv ∷ d) (send y r .terminal s)
+      own′ : (s : ℕ) → IsOut (forkAt y r) s → changed (k .own) n [] s ≡ own (sv ∷ fv ∷ d) (forkAt y r .terminal s)
       own′ s o =
           cases (eqb s n)
           (λ e. rw e (sym (tabulate-newest ownStep [] sv (fv ∷ d))))
           (λ e. rw (e, tabulate-older ownStep [] sv (fv ∷ d) (changed (y .terminal) r (length d) s) (fork-low s)) (own-old s (old s o e)))
 
-      caught′ : (c x : ℕ) → IsOut (send y r) x → cond (eqb x n) (k .caughtUp c r) (k .caughtUp c x) ≡ caught (send y r) c x
+      caught′ : (c x : ℕ) → IsOut (forkAt y r) x → cond (eqb x n) (k .caughtUp c r) (k .caughtUp c x) ≡ caught (forkAt y r) c x
       caught′ c x o =
           cases (eqb x n)
-          (λ e. ap (λ t. cond t (k .caughtUp c r) (k .caughtUp c x)) e ∙ A .same-caughtUp c r (N .out) ∙ sym (caught-sent y F r c) ∙ ap (λ t. caught (send y r) c t) (sym (eqb-true x n e)))
-          (λ e. ap (λ t. cond t (k .caughtUp c r) (k .caughtUp c x)) e ∙ A .same-caughtUp c x (old x o e) ∙ sym (caught-send y F r c x (eqb-false x n e)))
+          (λ e. ap (λ t. cond t (k .caughtUp c r) (k .caughtUp c x)) e ∙ A .same-caughtUp c r (N .out) ∙ sym (caught-forked y F r c) ∙ ap (λ t. caught (forkAt y r) c t) (sym (eqb-true x n e)))
+          (λ e. ap (λ t. cond t (k .caughtUp c r) (k .caughtUp c x)) e ∙ A .same-caughtUp c x (old x o e) ∙ sym (caught-fork y F r c x (eqb-false x n e)))
 
-      joinable′ : (a b : ℕ) → IsOut (send y r) a → IsOut (send y r) b → (eqb b n ≡ true) ⊎ (eqb b n ≡ false) → (eqb a n ≡ true) ⊎ (eqb a n ≡ false) → cond (eqb b n) (eqb a r) (cond (eqb a n) (k .joinable r b) (k .joinable a b)) ≡ J (send y r) a b
+      joinable′ : (a b : ℕ) → IsOut (forkAt y r) a → IsOut (forkAt y r) b → (eqb b n ≡ true) ⊎ (eqb b n ≡ false) → (eqb a n ≡ true) ⊎ (eqb a n ≡ false) → cond (eqb b n) (eqb a r) (cond (eqb a n) (k .joinable r b) (k .joinable a b)) ≡ J (forkAt y r) a b
       joinable′ a b oa ob (inl e) (inl g) =
-          ap (λ t. cond t (eqb a r) (cond (eqb a n) (k .joinable r b) (k .joinable a b))) e ∙ ne-eqb a r (λ i. omega (arith, eqb-true a n g, N .out .0)) ∙ sym (J-send-self y F r) ∙ ap (λ t. J (send y r) t n) (sym (eqb-true a n g)) ∙ ap (λ t. J (send y r) a t) (sym (eqb-true b n e))
+          ap (λ t. cond t (eqb a r) (cond (eqb a n) (k .joinable r b) (k .joinable a b))) e ∙ ne-eqb a r (λ i. omega (arith, eqb-true a n g, N .out .0)) ∙ sym (J-fork-self y F r) ∙ ap (λ t. J (forkAt y r) t n) (sym (eqb-true a n g)) ∙ ap (λ t. J (forkAt y r) a t) (sym (eqb-true b n e))
       joinable′ a b oa ob (inl e) (inr g) =
-          ap (λ t. cond t (eqb a r) (cond (eqb a n) (k .joinable r b) (k .joinable a b))) e ∙ sym (J-send-new y F r a (λ p. omega (arith, N .out .0)) (eqb-false a n g)) ∙ ap (λ t. J (send y r) a t) (sym (eqb-true b n e))
+          ap (λ t. cond t (eqb a r) (cond (eqb a n) (k .joinable r b) (k .joinable a b))) e ∙ sym (J-fork-new y F r a (λ p. omega (arith, N .out .0)) (eqb-false a n g)) ∙ ap (λ t. J (forkAt y r) a t) (sym (eqb-true b n e))
       joinable′ a b oa ob (inr e) (inl g) =
           ap (λ t. cond t (eqb a r) (cond (eqb a n) (k .joinable r b) (k .joinable a b))) e ∙ ap (λ t. cond t (k .joinable r b) (k .joinable a b)) g ∙ A .same-joinable r b (N .out) (old b ob e)
-          ∙ sym (J-send-copy y F (A .marked .marks) r N b (eqb-false b n e)) ∙ ap (λ t. J (send y r) t b) (sym (eqb-true a n g))
+          ∙ sym (J-fork-copy y F (A .marked .marks) r N b (eqb-false b n e)) ∙ ap (λ t. J (forkAt y r) t b) (sym (eqb-true a n g))
       joinable′ a b oa ob (inr e) (inr g) =
-          ap (λ t. cond t (eqb a r) (cond (eqb a n) (k .joinable r b) (k .joinable a b))) e ∙ ap (λ t. cond t (k .joinable r b) (k .joinable a b)) g ∙ A .same-joinable a b (old a oa g) (old b ob e) ∙ sym (J-send-old y F r a b (eqb-false a n g) (eqb-false b n e))
+          ap (λ t. cond t (eqb a r) (cond (eqb a n) (k .joinable r b) (k .joinable a b))) e ∙ ap (λ t. cond t (k .joinable r b) (k .joinable a b)) g ∙ A .same-joinable a b (old a oa g) (old b ob e) ∙ sym (J-fork-old y F r a b (eqb-false a n g) (eqb-false b n e))
 
-  pub agree-join : (a b : ℕ) → CanJoin y a b → Agree (takeOver y a b) (joinOn k a b)
+  pub agree-join : (a b : ℕ) → CanJoin y a b → Agree (joinInto y a b) (joinOn k a b)
   unfolding marked-moves fine-moves
   agree-join a b H = record {
-    marked = marked-moves y (takeOver y a b) (A .marked) (hands a b H);
-    numbered = numbered-moves y (takeOver y a b) (A .numbered) (hands a b H);
+    marked = marked-moves y (joinInto y a b) (A .marked) (joinsInto a b H);
+    numbered = numbered-moves y (joinInto y a b) (A .numbered) (joinsInto a b H);
     same-layout = ap (remove b) (A .same-layout);
     same-inherited = λ s o. A .same-inherited s (old s o) ∙ sym (inherited-step y k A jv a s refl);
     same-revisions = A .same-revisions;
@@ -220,27 +220,27 @@ module _ (y : Day) (k : Machine) (A : Agree y k) where
       jv : Vertex
       jv = join (y .terminal a) (y .terminal b)
 
-      old : (s : ℕ) → IsOut (takeOver y a b) s → IsOut y s
+      old : (s : ℕ) → IsOut (joinInto y a b) s → IsOut y s
       old s o = cases (eqb s b) (λ e. let f : true ≡ false = rw e at (o .1) in absurd (false≢true (sym f))) (λ e. (o .0, rw e at (o .1)))
 
-      own′ : (s : ℕ) → IsOut (takeOver y a b) s → changed (k .own) a (k .own a ++ k .own b) s ≡ own (jv ∷ d) (changed (y .terminal) a (length d) s)
+      own′ : (s : ℕ) → IsOut (joinInto y a b) s → changed (k .own) a (k .own a ++ k .own b) s ≡ own (jv ∷ d) (changed (y .terminal) a (length d) s)
       own′ s o =
           cases (eqb s a)
           (λ e. rw (e, tabulate-newest ownStep [] jv d, A .same-own a (H .out-a), A .same-own b (H .out-b)))
           (λ e. rw (e, tabulate-older ownStep [] jv d (y .terminal s) (terminal-low y k A s)) (A .same-own s (old s o)))
 
-      joinable′ : (x z : ℕ) → IsOut (takeOver y a b) x → IsOut (takeOver y a b) z → cond (eqb x a) (k .joinable a z || k .joinable b z) (k .joinable x z) ≡ J (takeOver y a b) x z
+      joinable′ : (x z : ℕ) → IsOut (joinInto y a b) x → IsOut (joinInto y a b) z → cond (eqb x a) (k .joinable a z || k .joinable b z) (k .joinable x z) ≡ J (joinInto y a b) x z
       joinable′ x z ox oz =
           cases (eqb x a)
           (λ e.
           ap (λ t. cond t (k .joinable a z || k .joinable b z) (k .joinable x z)) e ∙ ap (λ t. t || k .joinable b z) (A .same-joinable a z (H .out-a) (old z oz)) ∙ ap (λ t. J y a z || t) (A .same-joinable b z (H .out-b) (old z oz))
-          ∙ sym (J-joiner y F (A .marked .marks) a b H z oz) ∙ ap (λ t. J (takeOver y a b) t z) (sym (eqb-true x a e)))
+          ∙ sym (J-joiner y F (A .marked .marks) a b H z oz) ∙ ap (λ t. J (joinInto y a b) t z) (sym (eqb-true x a e)))
           (λ e. ap (λ t. cond t (k .joinable a z || k .joinable b z) (k .joinable x z)) e ∙ A .same-joinable x z (old x ox) (old z oz) ∙ sym (J-join-other y F (A .marked .marks) a b H x z (eqb-false x a e)))
 
-      caught′ : (c x : ℕ) → IsOut (takeOver y a b) x → cond (eqb x a) (k .caughtUp c a || k .caughtUp c b) (k .caughtUp c x) ≡ caught (takeOver y a b) c x
+      caught′ : (c x : ℕ) → IsOut (joinInto y a b) x → cond (eqb x a) (k .caughtUp c a || k .caughtUp c b) (k .caughtUp c x) ≡ caught (joinInto y a b) c x
       caught′ c x o =
           cases (eqb x a)
           (λ e.
           ap (λ t. cond t (k .caughtUp c a || k .caughtUp c b) (k .caughtUp c x)) e ∙ ap (λ t. t || k .caughtUp c b) (A .same-caughtUp c a (H .out-a)) ∙ ap (λ t. caught y c a || t) (A .same-caughtUp c b (H .out-b))
-          ∙ sym (caught-joiner y F a b c) ∙ ap (λ t. caught (takeOver y a b) c t) (sym (eqb-true x a e)))
+          ∙ sym (caught-joiner y F a b c) ∙ ap (λ t. caught (joinInto y a b) c t) (sym (eqb-true x a e)))
           (λ e. ap (λ t. cond t (k .caughtUp c a || k .caughtUp c b) (k .caughtUp c x)) e ∙ A .same-caughtUp c x (old x o) ∙ sym (caught-join y F a b c x (eqb-false x a e)))

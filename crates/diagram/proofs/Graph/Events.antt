@@ -69,8 +69,8 @@ abbrev pub Joined : Diagram → Type 0
 Joined [] = Unit {0}
 Joined (v ∷ d) = JoinOk d v × Joined d
 
-pub inh-from : {d : Diagram} → Ordered d → (x : ℕ) → x < length d → (f : ℕ) → forkVertex d x ≡ some f → (f < length d) × (inheritedEvents d x ≡ viewEvents d f)
-inh-from = by-vertex (λ d x. (f : ℕ) → forkVertex d x ≡ some f → (f < length d) × (inheritedEvents d x ≡ viewEvents d f)) new old
+pub inherited-from : {d : Diagram} → Ordered d → (x : ℕ) → x < length d → (f : ℕ) → forkVertex d x ≡ some f → (f < length d) × (inheritedEvents d x ≡ viewEvents d f)
+inherited-from = by-vertex (λ d x. (f : ℕ) → forkVertex d x ≡ some f → (f < length d) × (inheritedEvents d x ≡ viewEvents d f)) new old
   where
     grow : (v : Vertex) (d : Diagram) (l : List ℕ) (f : ℕ) → (f < length d) × (l ≡ viewEvents d f) → (f < length (v ∷ d)) × (l ≡ viewEvents (v ∷ d) f)
     grow v d l f h = let b = h .0 in (omega arith, rw (tabulate-older viewEventStep [] v d f) (h .1))
@@ -99,7 +99,7 @@ edge-new {d} o k (fork p) b c x m n i = rw (List·Memᴰ·eq-of-singleton m) at 
 edge-new {d} o k (join p q) b c x m n i = side (List·Memᴰ·cases-cons m)
   where
     joined : List·Memᴰ n (inheritedEvents d q) ⊎ List·Memᴰ n (ownEvents d q) → List·Memᴰ n (viewEvents d p ++ ownEvents d q)
-    joined (inl h) = Memᴰ·append-left _ (k (c .0) p (c .2) n (rw (inh-from o q (b q (List·Memᴰ·tail (List·Memᴰ·head refl))) (c .0) (c .1) .1) at h))
+    joined (inl h) = Memᴰ·append-left _ (k (c .0) p (c .2) n (rw (inherited-from o q (b q (List·Memᴰ·tail (List·Memᴰ·head refl))) (c .0) (c .1) .1) at h))
     joined (inr h) = Memᴰ·append-right (viewEvents d p) h
 
     side : (x ≡ p) ⊎ List·Memᴰ x (q ∷ []) → List·Memᴰ n (viewEvents d p ++ ownEvents d q)

@@ -10,17 +10,17 @@ use native.Mathlib.Omega.{arith}
 use lib.Dec.{eqb}
 use borrow.Author.Tests.{eqb-false, eqb-true, ne-eqb, not-true}
 use Rattle.diagram.proofs.Arranged.Advance.{May, may, true-may}
-use Rattle.diagram.proofs.Days.Moves.{CanFork, CanJoin, Moves, enters, hands, joinable, sends, yields}
+use Rattle.diagram.proofs.Days.Moves.{CanFork, CanJoin, Moves, enters, joinsInto, joinable, forksAt, yields}
 use Rattle.diagram.proofs.Days.Real.{Real}
 use Rattle.diagram.proofs.Graph.Paths.{leads-self}
 use Rattle.diagram.proofs.Marks.Terminals.{enter-fork, enter-start, fork-by, forkSeen, join-fork, join-fork-joiner, join-start}
-use Rattle.diagram.proofs.Marks.Terminals.{join-start-joiner, send-fork, send-fork-new, send-start, send-start-new, start-none}
+use Rattle.diagram.proofs.Marks.Terminals.{join-start-joiner, fork-fork, fork-fork-new, fork-start, fork-start-new, start-none}
 use Rattle.diagram.proofs.Marks.Terminals.{start-own, startSeen}
 use Rattle.diagram.proofs.Order.Growth.{Fine, fine-fresh, fine-moves}
 use Rattle.diagram.specs.Checks.{notJoinable}
 use Rattle.diagram.specs.Day.{Day, IsOut, fresh}
 use Rattle.diagram.specs.Diagram.{Diagram, leads, root}
-use Rattle.diagram.specs.Steps.{close, enter, send, takeOver, yield}
+use Rattle.diagram.specs.Steps.{close, enter, forkAt, joinInto, yield}
 use Rattle.lists.proofs.Cases.{cases, either, or-cases, or-false, or-left, or-right, same-truth, split}
 use Rattle.lists.proofs.Places.{insert-pair, insert-self, insert-sub, remove-sub}
 use Rattle.lists.proofs.Sublists.{pair-self, pair-trans}
@@ -74,18 +74,18 @@ module _ (y : Day) (F : Fine y) where
     abbrev n : ℕ
     n = y .revisions
 
-    pub J-send-old : (a b : ℕ) → (a ≡ n → ⊥) → (b ≡ n → ⊥) → J (send y r) a b ≡ J y a b
+    pub J-fork-old : (a b : ℕ) → (a ≡ n → ⊥) → (b ≡ n → ⊥) → J (forkAt y r) a b ≡ J y a b
     unfolding notJoinable
-    J-send-old a b ha hb = rw (send-fork y F r b a hb ha, send-start y F r b a hb ha)
+    J-fork-old a b ha hb = rw (fork-fork y F r b a hb ha, fork-start y F r b a hb ha)
 
-    pub J-send-new : (a : ℕ) → (n ≡ 0 → ⊥) → (a ≡ n → ⊥) → J (send y r) a n ≡ eqb a r
+    pub J-fork-new : (a : ℕ) → (n ≡ 0 → ⊥) → (a ≡ n → ⊥) → J (forkAt y r) a n ≡ eqb a r
     unfolding notJoinable
-    J-send-new a hn ha =
+    J-fork-new a hn ha =
         rw (ne-eqb n 0 hn, ne-eqb n a (λ e. ha (sym e)), fork-by y F r a ha, start-none y F r a ha)
         (cases (eqb a r) (λ e. rw e) (λ e. rw e))
 
-    pub J-send-self : J (send y r) n n ≡ false
-    J-send-self = cases (J (send y r) n n) (λ e. absurd (J-rule (send y r) n n e .not-self refl)) (λ e. e)
+    pub J-fork-self : J (forkAt y r) n n ≡ false
+    J-fork-self = cases (J (forkAt y r) n n) (λ e. absurd (J-rule (forkAt y r) n n e .not-self refl)) (λ e. e)
 
   module _ (K : Marks y (F .layout)) where
     pub marks-enter : (c r : ℕ) (u : Bool) → Marks (enter y c r u) (F .layout)
@@ -105,19 +105,19 @@ module _ (y : Day) (F : Fine y) where
       m = y .revisions
 
       abbrev ys : Day
-      ys = send y r
+      ys = forkAt y r
 
-      J-send-copy-by : (b : ℕ) → (b ≡ m → ⊥) → (eqb b r ≡ true) ⊎ (eqb b r ≡ false) → J ys m b ≡ J y r b
+      J-fork-copy-by : (b : ℕ) → (b ≡ m → ⊥) → (eqb b r ≡ true) ⊎ (eqb b r ≡ false) → J ys m b ≡ J y r b
       unfolding notJoinable
-      J-send-copy-by b hb (inl e) =
+      J-fork-copy-by b hb (inl e) =
           same-truth (J ys m b) (J y r b)
-          (λ h. absurd (false≢true (sym (J-rule ys m b h .start-unseen) ∙ send-start-new y F r b hb ∙ subst (λ z. startSeen y z r ≡ true) (sym (eqb-true b r e)) (K .own-start r (N .out .0)))))
+          (λ h. absurd (false≢true (sym (J-rule ys m b h .start-unseen) ∙ fork-start-new y F r b hb ∙ subst (λ z. startSeen y z r ≡ true) (sym (eqb-true b r e)) (K .own-start r (N .out .0)))))
           (λ h. absurd (J-rule y r b h .not-self (eqb-true b r e)))
-      J-send-copy-by b hb (inr e) = rw (send-fork-new y F r b hb, send-start-new y F r b hb, ne-eqb b m hb, e)
+      J-fork-copy-by b hb (inr e) = rw (fork-fork-new y F r b hb, fork-start-new y F r b hb, ne-eqb b m hb, e)
 
       -- the new revision may join whom the forker may
-      pub J-send-copy : (b : ℕ) → (b ≡ m → ⊥) → J ys m b ≡ J y r b
-      J-send-copy b hb = J-send-copy-by b hb (split (eqb b r))
+      pub J-fork-copy : (b : ℕ) → (b ≡ m → ⊥) → J ys m b ≡ J y r b
+      J-fork-copy b hb = J-fork-copy-by b hb (split (eqb b r))
 
       data Which (s : ℕ) : Type 0 where
         is-new : s ≡ m → Which s
@@ -126,8 +126,8 @@ module _ (y : Day) (F : Fine y) where
       which : (s : ℕ) → IsOut ys s → Which s
       which s o = cases (eqb s m) (λ e. is-new (eqb-true s m e)) (λ e. let k = eqb-false s m e in is-old k (omega (arith, o .0), rw e at (o .1)))
 
-      send-left : (x z : ℕ) → IsOut ys x → IsOut ys z → startSeen ys z x ≡ true → (x ≡ z) ⊎ ((x ∷ z ∷ []) ⊑ insert r m (F .layout))
-      send-left x z ox oz e = pick (which x ox) (which z oz)
+      fork-left : (x z : ℕ) → IsOut ys x → IsOut ys z → startSeen ys z x ≡ true → (x ≡ z) ⊎ ((x ∷ z ∷ []) ⊑ insert r m (F .layout))
+      fork-left x z ox oz e = pick (which x ox) (which z oz)
         where
           from-r : (r ≡ z) ⊎ ((r ∷ z ∷ []) ⊑ F .layout) → (m ∷ z ∷ []) ⊑ insert r m (F .layout)
           from-r (inl q) = subst (λ k. (m ∷ k ∷ []) ⊑ insert r m (F .layout)) q (insert-self r m (F .layout) (R .out r (N .out)))
@@ -135,12 +135,12 @@ module _ (y : Day) (F : Fine y) where
 
           pick : Which x → Which z → (x ≡ z) ⊎ ((x ∷ z ∷ []) ⊑ insert r m (F .layout))
           pick (is-new a) (is-new b) = inl (a ∙ sym b)
-          pick (is-new a) (is-old k b) = inr (rw a (from-r (K .left r z (N .out) b (sym (send-start-new y F r z k) ∙ subst (λ w. startSeen ys z w ≡ true) a e))))
+          pick (is-new a) (is-old k b) = inr (rw a (from-r (K .left r z (N .out) b (sym (fork-start-new y F r z k) ∙ subst (λ w. startSeen ys z w ≡ true) a e))))
           pick (is-old k a) (is-new b) = absurd (false≢true (sym (start-none y F r x k) ∙ subst (λ w. startSeen ys w x ≡ true) b e))
-          pick (is-old k a) (is-old j b) = either (K .left x z a b (sym (send-start y F r z x j k) ∙ e)) (λ q. inl q) (λ q. inr (Sublistᴰ·trans q (insert-sub r m (F .layout))))
+          pick (is-old k a) (is-old j b) = either (K .left x z a b (sym (fork-start y F r z x j k) ∙ e)) (λ q. inl q) (λ q. inr (Sublistᴰ·trans q (insert-sub r m (F .layout))))
 
-      send-through : (a b z : ℕ) → IsOut ys a → IsOut ys b → IsOut ys z → J ys a b ≡ true → startSeen ys z b ≡ true → (z ≡ b → ⊥) → startSeen ys z a ≡ true
-      send-through a b z oa ob oz h e k = by (which z oz) (which b ob) (which a oa)
+      fork-through : (a b z : ℕ) → IsOut ys a → IsOut ys b → IsOut ys z → J ys a b ≡ true → startSeen ys z b ≡ true → (z ≡ b → ⊥) → startSeen ys z a ≡ true
+      fork-through a b z oa ob oz h e k = by (which z oz) (which b ob) (which a oa)
         where
           by : Which z → Which b → Which a → startSeen ys z a ≡ true
           by (is-new q) (is-new g) w = absurd (k (q ∙ sym g))
@@ -148,24 +148,24 @@ module _ (y : Day) (F : Fine y) where
           by (is-old j q) (is-new g) (is-new w) = absurd (J-rule ys a b h .not-self (g ∙ sym w))
           -- the joinee is new: the joiner is the forker
           by (is-old j q) (is-new g) (is-old i w) =
-              let ar : a ≡ r = eqb-true a r (sym (J-send-new r a (λ p. omega (arith, N .out .0)) i) ∙ subst (λ s. J ys a s ≡ true) g h) in
-              send-start y F r z a j i ∙ subst (λ s. startSeen y z s ≡ true) (sym ar) (sym (send-start-new y F r z j) ∙ subst (λ s. startSeen ys z s ≡ true) g e)
+              let ar : a ≡ r = eqb-true a r (sym (J-fork-new r a (λ p. omega (arith, N .out .0)) i) ∙ subst (λ s. J ys a s ≡ true) g h) in
+              fork-start y F r z a j i ∙ subst (λ s. startSeen y z s ≡ true) (sym ar) (sym (fork-start-new y F r z j) ∙ subst (λ s. startSeen ys z s ≡ true) g e)
           by (is-old j q) (is-old l g) (is-new w) =
-              ap (startSeen ys z) w ∙ send-start-new y F r z j ∙ K .through r b z (N .out) g q (sym (J-send-copy b l) ∙ subst (λ s. J ys s b ≡ true) w h) (sym (send-start y F r z b j l) ∙ e) k
+              ap (startSeen ys z) w ∙ fork-start-new y F r z j ∙ K .through r b z (N .out) g q (sym (J-fork-copy b l) ∙ subst (λ s. J ys s b ≡ true) w h) (sym (fork-start y F r z b j l) ∙ e) k
           by (is-old j q) (is-old l g) (is-old i w) =
-              send-start y F r z a j i ∙ K .through a b z w g q (sym (J-send-old r a b i l) ∙ h) (sym (send-start y F r z b j l) ∙ e) k
+              fork-start y F r z a j i ∙ K .through a b z w g q (sym (J-fork-old r a b i l) ∙ h) (sym (fork-start y F r z b j l) ∙ e) k
 
-      pub marks-send : Marks (send y r) (insert r (y .revisions) (F .layout))
-      marks-send = record {
-        own-start = λ s h. cases (eqb s m) (λ e. subst (λ z. startSeen ys z z ≡ true) (sym (eqb-true s m e)) (start-own y F r)) (λ e. let k = eqb-false s m e in send-start y F r s s k k ∙ K .own-start s (omega arith));
-        left = send-left;
-        through = send-through;
+      pub marks-fork : Marks (forkAt y r) (insert r (y .revisions) (F .layout))
+      marks-fork = record {
+        own-start = λ s h. cases (eqb s m) (λ e. subst (λ z. startSeen ys z z ≡ true) (sym (eqb-true s m e)) (start-own y F r)) (λ e. let k = eqb-false s m e in fork-start y F r s s k k ∙ K .own-start s (omega arith));
+        left = fork-left;
+        through = fork-through;
       }
 
     -- a join
     module _ (a b : ℕ) (H : CanJoin y a b) where
       abbrev yh : Day
-      yh = takeOver y a b
+      yh = joinInto y a b
 
       ab : J y a b ≡ true
       ab = rule-J y a b (record { not-main = H .not-main; not-self = H .not-self; fork-seen = H .fork-seen; start-unseen = H .start-unseen })
@@ -250,7 +250,7 @@ module _ (y : Day) (F : Fine y) where
           (λ e. subst (λ w. startSeen yh w w ≡ true) (sym (eqb-true s a e)) (join-start-joiner y F a b a ∙ or-left _ _ (K .own-start a (H .out-a .0))))
           (λ e. join-start y F a b s s (eqb-false s a e) ∙ K .own-start s h)
 
-      pub marks-join : Marks (takeOver y a b) (remove b (F .layout))
+      pub marks-join : Marks (joinInto y a b) (remove b (F .layout))
       marks-join = record { own-start = own-stays; left = join-left; through = join-through }
 
 -- the marks hold on every day
@@ -277,5 +277,5 @@ marked-moves y z M (yields c h) = record { fine = fine-moves y (yield y c (y .op
     by : (q : Option ℕ) → Marks (yield y c q) (M .fine .layout)
     by none = M .marks
     by (some t) = marks-close y (M .fine) (M .marks) c t
-marked-moves y z M (sends r N) = record { fine = fine-moves y (send y r) (M .fine) (sends r N); marks = marks-send y (M .fine) (M .marks) r N }
-marked-moves y z M (hands a b H) = record { fine = fine-moves y (takeOver y a b) (M .fine) (hands a b H); marks = marks-join y (M .fine) (M .marks) a b H }
+marked-moves y z M (forksAt r N) = record { fine = fine-moves y (forkAt y r) (M .fine) (forksAt r N); marks = marks-fork y (M .fine) (M .marks) r N }
+marked-moves y z M (joinsInto a b H) = record { fine = fine-moves y (joinInto y a b) (M .fine) (joinsInto a b H); marks = marks-join y (M .fine) (M .marks) a b H }

@@ -14,7 +14,7 @@ use Rattle.lists.proofs.Changed.{changed-other, changed-same}
 use Rattle.diagram.specs.Diagram.{Diagram, Vertex, event, fork, join, leads, start}
 use Rattle.diagram.specs.Day.{Day}
 use Rattle.diagram.specs.Checks.{missing}
-use Rattle.diagram.specs.Steps.{enter, newUpdate, send, takeOver}
+use Rattle.diagram.specs.Steps.{enter, newUpdate, forkAt, joinInto}
 use Rattle.diagram.proofs.Graph.Paths.{leads-from-newer, leads-newest, leads-old, leads-to-newest}
 use Rattle.diagram.proofs.Order.Growth.{Fine}
 
@@ -100,49 +100,49 @@ module _ (y : Day) (F : Fine y) where
     sv = start (length d)
 
     -- from any vertex but the new start: by the fork vertex, or as it was
-    at-old : (l x : ℕ) → (x ≡ n → ⊥) → leads (send y r .diagram) l (send y r .terminal x) ≡ cond (eqb x r) (leads (fv ∷ d) l (length d)) (leads d l (y .terminal x))
+    at-old : (l x : ℕ) → (x ≡ n → ⊥) → leads (forkAt y r .diagram) l (forkAt y r .terminal x) ≡ cond (eqb x r) (leads (fv ∷ d) l (length d)) (leads d l (y .terminal x))
     at-old l x k =
         cases (eqb x r)
         (λ e. rw (ne-eqb x n k, e) (leads-old sv (fv ∷ d) l (length d) (omega arith)))
         (λ e. rw (ne-eqb x n k, e) (leads-old sv (fv ∷ d) l (y .terminal x) (omega (arith, low x)) ∙ leads-old fv d l (y .terminal x) (low x)))
 
-    send-sees : (l x : ℕ) → l < length d → (x ≡ n → ⊥) → leads (send y r .diagram) l (send y r .terminal x) ≡ leads d l (y .terminal x)
-    send-sees l x h k = at-old l x k ∙ cases (eqb x r) (λ e. rw (e, leads-to-newest fv d l h, eqb-true x r e) (or-nil _)) (λ e. rw e)
+    fork-sees : (l x : ℕ) → l < length d → (x ≡ n → ⊥) → leads (forkAt y r .diagram) l (forkAt y r .terminal x) ≡ leads d l (y .terminal x)
+    fork-sees l x h k = at-old l x k ∙ cases (eqb x r) (λ e. rw (e, leads-to-newest fv d l h, eqb-true x r e) (or-nil _)) (λ e. rw e)
 
-    send-new : (l : ℕ) → l < length d → leads (send y r .diagram) l (send y r .terminal n) ≡ leads d l (y .terminal r)
-    send-new l h = rw (changed-same (changed (y .terminal) r (length d)) n (suc (length d)), leads-to-newest sv (fv ∷ d) l (omega arith), leads-to-newest fv d l h, or-nil (leads d l (y .terminal r))) (or-nil _)
+    fork-new : (l : ℕ) → l < length d → leads (forkAt y r .diagram) l (forkAt y r .terminal n) ≡ leads d l (y .terminal r)
+    fork-new l h = rw (changed-same (changed (y .terminal) r (length d)) n (suc (length d)), leads-to-newest sv (fv ∷ d) l (omega arith), leads-to-newest fv d l h, or-nil (leads d l (y .terminal r))) (or-nil _)
 
-    pub send-start : (z x : ℕ) → (z ≡ n → ⊥) → (x ≡ n → ⊥) → startSeen (send y r) z x ≡ startSeen y z x
-    send-start z x j k = ap (λ l. leads (send y r .diagram) l (send y r .terminal x)) (changed-other (y .startOf) n _ z j) ∙ send-sees (y .startOf z) x (start-low z) k
+    pub fork-start : (z x : ℕ) → (z ≡ n → ⊥) → (x ≡ n → ⊥) → startSeen (forkAt y r) z x ≡ startSeen y z x
+    fork-start z x j k = ap (λ l. leads (forkAt y r .diagram) l (forkAt y r .terminal x)) (changed-other (y .startOf) n _ z j) ∙ fork-sees (y .startOf z) x (start-low z) k
 
-    pub send-start-new : (z : ℕ) → (z ≡ n → ⊥) → startSeen (send y r) z n ≡ startSeen y z r
-    send-start-new z j = ap (λ l. leads (send y r .diagram) l (send y r .terminal n)) (changed-other (y .startOf) n _ z j) ∙ send-new (y .startOf z) (start-low z)
+    pub fork-start-new : (z : ℕ) → (z ≡ n → ⊥) → startSeen (forkAt y r) z n ≡ startSeen y z r
+    fork-start-new z j = ap (λ l. leads (forkAt y r .diagram) l (forkAt y r .terminal n)) (changed-other (y .startOf) n _ z j) ∙ fork-new (y .startOf z) (start-low z)
 
-    pub send-fork : (z x : ℕ) → (z ≡ n → ⊥) → (x ≡ n → ⊥) → forkSeen (send y r) z x ≡ forkSeen y z x
-    send-fork z x j k = ap (λ l. leads (send y r .diagram) l (send y r .terminal x)) (changed-other (y .forkOf) n _ z j) ∙ send-sees (y .forkOf z) x (fork-low z) k
+    pub fork-fork : (z x : ℕ) → (z ≡ n → ⊥) → (x ≡ n → ⊥) → forkSeen (forkAt y r) z x ≡ forkSeen y z x
+    fork-fork z x j k = ap (λ l. leads (forkAt y r .diagram) l (forkAt y r .terminal x)) (changed-other (y .forkOf) n _ z j) ∙ fork-sees (y .forkOf z) x (fork-low z) k
 
-    pub send-fork-new : (z : ℕ) → (z ≡ n → ⊥) → forkSeen (send y r) z n ≡ forkSeen y z r
-    send-fork-new z j = ap (λ l. leads (send y r .diagram) l (send y r .terminal n)) (changed-other (y .forkOf) n _ z j) ∙ send-new (y .forkOf z) (fork-low z)
+    pub fork-fork-new : (z : ℕ) → (z ≡ n → ⊥) → forkSeen (forkAt y r) z n ≡ forkSeen y z r
+    fork-fork-new z j = ap (λ l. leads (forkAt y r .diagram) l (forkAt y r .terminal n)) (changed-other (y .forkOf) n _ z j) ∙ fork-new (y .forkOf z) (fork-low z)
 
     -- the new revision's start is seen at its own terminal alone, its fork at the forker's
-    pub start-own : startSeen (send y r) n n ≡ true
+    pub start-own : startSeen (forkAt y r) n n ≡ true
     start-own = rw (changed-same (y .startOf) n (suc (length d)), changed-same (changed (y .terminal) r (length d)) n (suc (length d))) (leads-newest sv (fv ∷ d))
 
-    pub start-none : (x : ℕ) → (x ≡ n → ⊥) → startSeen (send y r) n x ≡ false
+    pub start-none : (x : ℕ) → (x ≡ n → ⊥) → startSeen (forkAt y r) n x ≡ false
     start-none x k =
-        ap (λ l. leads (send y r .diagram) l (send y r .terminal x)) (changed-same (y .startOf) n (suc (length d))) ∙ at-old (suc (length d)) x k
+        ap (λ l. leads (forkAt y r .diagram) l (forkAt y r .terminal x)) (changed-same (y .startOf) n (suc (length d))) ∙ at-old (suc (length d)) x k
         ∙ cases (eqb x r) (λ e. rw e (leads-from-newer (fv ∷ d) (suc (length d)) (length d) (omega arith))) (λ e. rw e (leads-from-newer d (suc (length d)) (y .terminal x) (omega arith)))
 
-    pub fork-by : (x : ℕ) → (x ≡ n → ⊥) → forkSeen (send y r) n x ≡ eqb x r
+    pub fork-by : (x : ℕ) → (x ≡ n → ⊥) → forkSeen (forkAt y r) n x ≡ eqb x r
     fork-by x k =
-        ap (λ l. leads (send y r .diagram) l (send y r .terminal x)) (changed-same (y .forkOf) n (length d)) ∙ at-old (length d) x k
+        ap (λ l. leads (forkAt y r .diagram) l (forkAt y r .terminal x)) (changed-same (y .forkOf) n (length d)) ∙ at-old (length d) x k
         ∙ cases (eqb x r) (λ e. rw e (leads-newest fv d)) (λ e. rw e (leads-from-newer d (length d) (y .terminal x) (omega arith)))
 
-    pub caught-send : (o x : ℕ) → (x ≡ n → ⊥) → caught (send y r) o x ≡ caught y o x
-    caught-send o x k = follow d (send y r .diagram) (y .lastEvent o) (y .terminal x) (send y r .terminal x) (λ l e. send-sees l x (last-low o l e) k)
+    pub caught-fork : (o x : ℕ) → (x ≡ n → ⊥) → caught (forkAt y r) o x ≡ caught y o x
+    caught-fork o x k = follow d (forkAt y r .diagram) (y .lastEvent o) (y .terminal x) (forkAt y r .terminal x) (λ l e. fork-sees l x (last-low o l e) k)
 
-    pub caught-sent : (o : ℕ) → caught (send y r) o n ≡ caught y o r
-    caught-sent o = follow d (send y r .diagram) (y .lastEvent o) (y .terminal r) (send y r .terminal n) (λ l e. send-new l (last-low o l e))
+    pub caught-forked : (o : ℕ) → caught (forkAt y r) o n ≡ caught y o r
+    caught-forked o = follow d (forkAt y r .diagram) (y .lastEvent o) (y .terminal r) (forkAt y r .terminal n) (λ l e. fork-new l (last-low o l e))
 
   -- a join: the joiner's terminal sees what either saw
   module _ (a b : ℕ) where
@@ -155,20 +155,20 @@ module _ (y : Day) (F : Fine y) where
     join-joiner : (l : ℕ) → l < length d → leads (jv ∷ d) l (changed (y .terminal) a (length d) a) ≡ (leads d l (y .terminal a) || leads d l (y .terminal b))
     join-joiner l h = rw (changed-same (y .terminal) a (length d), leads-to-newest jv d l h, or-nil (leads d l (y .terminal b)))
 
-    pub join-start : (z x : ℕ) → (x ≡ a → ⊥) → startSeen (takeOver y a b) z x ≡ startSeen y z x
+    pub join-start : (z x : ℕ) → (x ≡ a → ⊥) → startSeen (joinInto y a b) z x ≡ startSeen y z x
     join-start z x k = join-sees (y .startOf z) x k
 
-    pub join-start-joiner : (z : ℕ) → startSeen (takeOver y a b) z a ≡ (startSeen y z a || startSeen y z b)
+    pub join-start-joiner : (z : ℕ) → startSeen (joinInto y a b) z a ≡ (startSeen y z a || startSeen y z b)
     join-start-joiner z = join-joiner (y .startOf z) (start-low z)
 
-    pub join-fork : (z x : ℕ) → (x ≡ a → ⊥) → forkSeen (takeOver y a b) z x ≡ forkSeen y z x
+    pub join-fork : (z x : ℕ) → (x ≡ a → ⊥) → forkSeen (joinInto y a b) z x ≡ forkSeen y z x
     join-fork z x k = join-sees (y .forkOf z) x k
 
-    pub join-fork-joiner : (z : ℕ) → forkSeen (takeOver y a b) z a ≡ (forkSeen y z a || forkSeen y z b)
+    pub join-fork-joiner : (z : ℕ) → forkSeen (joinInto y a b) z a ≡ (forkSeen y z a || forkSeen y z b)
     join-fork-joiner z = join-joiner (y .forkOf z) (fork-low z)
 
-    pub caught-join : (o x : ℕ) → (x ≡ a → ⊥) → caught (takeOver y a b) o x ≡ caught y o x
-    caught-join o x k = follow d (jv ∷ d) (y .lastEvent o) (y .terminal x) (takeOver y a b .terminal x) (λ l e. join-sees l x k)
+    pub caught-join : (o x : ℕ) → (x ≡ a → ⊥) → caught (joinInto y a b) o x ≡ caught y o x
+    caught-join o x k = follow d (jv ∷ d) (y .lastEvent o) (y .terminal x) (joinInto y a b .terminal x) (λ l e. join-sees l x k)
 
-    pub caught-joiner : (o : ℕ) → caught (takeOver y a b) o a ≡ (caught y o a || caught y o b)
-    caught-joiner o = follow-two d (jv ∷ d) (y .lastEvent o) (y .terminal a) (y .terminal b) (takeOver y a b .terminal a) (λ l e. join-joiner l (last-low o l e))
+    pub caught-joiner : (o : ℕ) → caught (joinInto y a b) o a ≡ (caught y o a || caught y o b)
+    caught-joiner o = follow-two d (jv ∷ d) (y .lastEvent o) (y .terminal a) (y .terminal b) (joinInto y a b .terminal a) (λ l e. join-joiner l (last-low o l e))

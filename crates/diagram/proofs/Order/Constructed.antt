@@ -20,7 +20,7 @@ use Rattle.diagram.specs.Day.{Day, IsOut, fresh}
 use Rattle.diagram.specs.Diagram.{Diagram, Edge, Terminal, Vertex, event, f-sources, fork, j-sources, join, newest, older, root}
 use Rattle.diagram.specs.Diagram.{s-sources, sources, start}
 use Rattle.diagram.specs.Effects.{startStep, startVertex, tabulate}
-use Rattle.diagram.specs.Steps.{Accepted, Event, Fork, Join, Step, Yield, accepted, after, close, enter, newUpdate, run, send, takeOver, yield}
+use Rattle.diagram.specs.Steps.{Accepted, Event, Fork, Join, Step, Yield, accepted, after, close, enter, newUpdate, run, forkAt, joinInto, yield}
 use Rattle.lists.proofs.Cases.{cases, split}
 use Rattle.lists.proofs.Changed.{changed-other, changed-same}
 use Rattle.lists.specs.Lists.{changed}
@@ -112,8 +112,8 @@ module _ (y : Day) (F : Fine y) (M : Made y) where
   made-close : (c t : ℕ) → Made (close y c t)
   made-close c t = record { constructed = M .constructed; starts = M .starts; distinct = M .distinct; terminals = M .terminals }
 
-  made-send : (r : ℕ) → CanFork y r → Made (send y r)
-  made-send r N = record {
+  made-fork : (r : ℕ) → CanFork y r → Made (forkAt y r)
+  made-fork r N = record {
     constructed = forked (M .constructed) (M .terminals r (N .out));
     distinct = distinct′;
     starts = λ s h. cases (eqb s n) (λ e. rw e (tabulate-newest startStep 0 sv (fv ∷ d))) (λ e. rw e (starts′ s (was s h e)));
@@ -159,7 +159,7 @@ module _ (y : Day) (F : Fine y) (M : Made y) where
           terminal-older (λ i. List·Memᴰ·not-nil i) (λ i. List·Memᴰ·not-nil i)
           (terminals-on fv r (N .out .0) refl ordered1 refl s o (λ i. List·Memᴰ·not-nil i))
 
-  made-join : (a b : ℕ) → CanJoin y a b → Made (takeOver y a b)
+  made-join : (a b : ℕ) → CanJoin y a b → Made (joinInto y a b)
   made-join a b H = record {
     constructed = joined (M .constructed) (M .terminals a (H .out-a)) (M .terminals b (H .out-b)) rule;
     starts = starts-on jv a (H .out-a .0) refl;
@@ -177,10 +177,10 @@ module _ (y : Day) (F : Fine y) (M : Made y) where
           older-both p (List·Memᴰ·head e) = rw e (low a)
           older-both p (List·Memᴰ·tail i) = rw (List·Memᴰ·eq-of-singleton i) (low b)
 
-      not-b : (s : ℕ) → IsOut (takeOver y a b) s → s ≡ b → ⊥
+      not-b : (s : ℕ) → IsOut (joinInto y a b) s → s ≡ b → ⊥
       not-b s o e = false≢true (sym (o .1) ∙ ap (changed (y .joined) b true) e ∙ changed-same (y .joined) b true)
 
-      was : (s : ℕ) → IsOut (takeOver y a b) s → IsOut y s
+      was : (s : ℕ) → IsOut (joinInto y a b) s → IsOut y s
       was s o = (o .0, sym (changed-other (y .joined) b true s (not-b s o)) ∙ o .1)
 
       rule : Joinable d (y .terminal a) (y .terminal b)
@@ -199,7 +199,7 @@ made-after y (Yield c) e F M = by (y .openBy c)
     by : (o : Option ℕ) → Made (yield y c o)
     by none = M
     by (some t) = made-close y F M c t
-made-after y (Fork r) e F M = made-send y F M r (can-fork y r e)
+made-after y (Fork r) e F M = made-fork y F M r (can-fork y r e)
 made-after y (Join a b) e F M = made-join y F M a b (can-join y a b e)
 
 -- every run of accepted steps makes its diagram by the construction steps of Definition 6

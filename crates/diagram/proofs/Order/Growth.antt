@@ -10,9 +10,9 @@ use lib.ListN.{length}
 use lib.Dec.{eqb}
 use borrow.Author.Tests.{eqb-true, ne-eqb}
 use Rattle.diagram.proofs.Days.Entering.{sound-enter}
-use Rattle.diagram.proofs.Days.Forking.{sound-send}
-use Rattle.diagram.proofs.Days.Joining.{sound-hand}
-use Rattle.diagram.proofs.Days.Moves.{Moves, enters, hands, sends, yields}
+use Rattle.diagram.proofs.Days.Forking.{sound-fork}
+use Rattle.diagram.proofs.Days.Joining.{sound-join}
+use Rattle.diagram.proofs.Days.Moves.{Moves, enters, joinsInto, forksAt, yields}
 use Rattle.diagram.proofs.Days.Sound.{Seal, Sound, link, sound-fresh}
 use Rattle.diagram.proofs.Days.Yielding.{sound-yield}
 use Rattle.diagram.proofs.Graph.Paths.{leads-path, path-leads}
@@ -34,8 +34,8 @@ pub record Fine (y : Day) : Type 0 where
 unfoldable pub fine-moves : (y z : Day) → Fine y → Moves y z → Fine z
 fine-moves y z F (enters c r u E) = let s = sound-enter y (F .layout) (F .hold) (F .sound) c r u E in record { layout = F .layout; hold = s .0; sound = s .1 }
 fine-moves y z F (yields c h) = record { layout = F .layout; hold = F .hold; sound = sound-yield y (F .layout) (F .hold) (F .sound) c (y .openBy c) refl }
-fine-moves y z F (sends r N) = record { layout = _; hold = _; sound = sound-send y (F .layout) (F .hold) (F .sound) r N }
-fine-moves y z F (hands a b H) = record { layout = _; hold = _; sound = sound-hand y (F .layout) (F .hold) (F .sound) a b H }
+fine-moves y z F (forksAt r N) = record { layout = _; hold = _; sound = sound-fork y (F .layout) (F .hold) (F .sound) r N }
+fine-moves y z F (joinsInto a b H) = record { layout = _; hold = _; sound = sound-join y (F .layout) (F .hold) (F .sound) a b H }
 
 unfoldable pub fine-fresh : Fine fresh
 fine-fresh = record { layout = 0 ∷ []; hold = λ x. []; sound = sound-fresh }
@@ -54,7 +54,7 @@ extends y z F (yields c h) r o p = by (y .openBy c)
     by : (q : Option ℕ) → (more : List ℕ) × (view (yield y c q .diagram) (yield y c q .terminal r) ≡ view (y .diagram) (y .terminal r) ++ more)
     by none = ([], sym (append-nil _))
     by (some t) = ([], sym (append-nil _))
-extends y z F (sends r N) s o p =
+extends y z F (forksAt r N) s o p =
     let old : eqb s (y .revisions) ≡ false = ne-eqb s (y .revisions) (λ e. omega (arith, o .0)) in
     let b = F .sound .real .linked .bound s in
     cases (eqb s r)
@@ -69,7 +69,7 @@ extends y z F (sends r N) s o p =
 
     sv : Vertex
     sv = start (length d)
-extends y z F (hands a b H) s o p =
+extends y z F (joinsInto a b H) s o p =
     cases (eqb s a)
     (λ e. (own (y .diagram) (y .terminal b), rw (e, tabulate-newest viewStep [] jv (y .diagram), eqb-true s a e)))
     (λ e. ([], rw (e, tabulate-older viewStep [] jv (y .diagram) (y .terminal s) (F .sound .real .linked .bound s)) (sym (append-nil _))))
@@ -101,8 +101,8 @@ older-moves y z (yields c h) = by (y .openBy c)
     by : (q : Option ℕ) → Older (y .diagram) (yield y c q .diagram)
     by none = same
     by (some t) = same
-older-moves y z (sends r N) = next (next same)
-older-moves y z (hands a b H) = next same
+older-moves y z (forksAt r N) = next (next same)
+older-moves y z (joinsInto a b H) = next same
 
 -- from outside a transaction is seen whole or not at all, and only after its yield
 pub whole-of : (y : Day) → Fine y → (t x : ℕ) → t < y .transactions → x < length (y .diagram) → (x ∈ eventsOf y t → ⊥) → WholeAt y t x x

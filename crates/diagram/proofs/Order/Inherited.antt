@@ -63,14 +63,14 @@ blocks-left s (z ∷ l) x = pick (split (eqb z x)) (blocks-left s l x)
 abbrev pub inherited : Diagram → ℕ → List ℕ
 inherited d x = numbers d (inheritedEvents d x)
 
-pub inh-low : {d : Diagram} → Ordered d → (x e : ℕ) → x < length d → e ∈ inheritedEvents d x → e < length d
-inh-low {d} o x e h i = path-start (view-paths o x h .1 e (rw (view-split o x h) (Memᴰ·append-left (ownEvents d x) i)) .1)
+pub inherited-low : {d : Diagram} → Ordered d → (x e : ℕ) → x < length d → e ∈ inheritedEvents d x → e < length d
+inherited-low {d} o x e h i = path-start (view-paths o x h .1 e (rw (view-split o x h) (Memᴰ·append-left (ownEvents d x) i)) .1)
 
 pub inherited-older : (v : Vertex) (d : Diagram) → Ordered d → (x : ℕ) → x < length d → inherited (v ∷ d) x ≡ inherited d x
-inherited-older v d o x h = ap (numbers (v ∷ d)) (tabulate-older inheritedStep [] v d x h) ∙ numbers-old v d (inheritedEvents d x) (λ e i. inh-low o x e h i)
+inherited-older v d o x h = ap (numbers (v ∷ d)) (tabulate-older inheritedStep [] v d x h) ∙ numbers-old v d (inheritedEvents d x) (λ e i. inherited-low o x e h i)
 
 pub inherited-along : (v : Vertex) (d : Diagram) → Ordered d → (p : ℕ) → p < length d → inheritedStep d (inheritedEvents d) v ≡ inheritedEvents d p → inherited (v ∷ d) (length d) ≡ inherited d p
-inherited-along v d o p h q = ap (numbers (v ∷ d)) (tabulate-newest inheritedStep [] v d ∙ q) ∙ numbers-old v d (inheritedEvents d p) (λ e i. inh-low o p e h i)
+inherited-along v d o p h q = ap (numbers (v ∷ d)) (tabulate-newest inheritedStep [] v d ∙ q) ∙ numbers-old v d (inheritedEvents d p) (λ e i. inherited-low o p e h i)
 
 -- a new revision inherits what its forker's terminal lists
 pub inherited-start : (d : Diagram) → Ordered d → (p : ℕ) → p < length d → inherited (start p ∷ d) (length d) ≡ view d p

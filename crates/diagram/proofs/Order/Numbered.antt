@@ -9,7 +9,7 @@ use native.Mathlib.Omega.{arith}
 use lib.ListN.{length}
 use lib.Dec.{eqb}
 use borrow.Author.Tests.{eqb-false, eqb-true}
-use Rattle.diagram.proofs.Days.Moves.{Moves, enters, hands, sends, yields}
+use Rattle.diagram.proofs.Days.Moves.{Moves, enters, joinsInto, forksAt, yields}
 use Rattle.diagram.proofs.Days.Sound.{some≢none}
 use Rattle.diagram.proofs.Graph.Tables.{tabulate-newest, tabulate-older}
 use Rattle.diagram.specs.Arbitration.{IsEvent, Numbered, newest-is, older-is}
@@ -97,8 +97,8 @@ numbered-moves y z N (yields c h) = by (y .openBy c)
     by : (q : Option ℕ) → Numbered (yield y c q .diagram) (yield y c q .updates)
     by none = N
     by (some t) = N
-numbered-moves y z N (sends r S) = numbered-quiet (start (length (y .diagram))) (fork (y .terminal r) ∷ y .diagram) (y .updates) refl (numbered-quiet (fork (y .terminal r)) (y .diagram) (y .updates) refl N)
-numbered-moves y z N (hands a b H) = numbered-quiet (join (y .terminal a) (y .terminal b)) (y .diagram) (y .updates) refl N
+numbered-moves y z N (forksAt r S) = numbered-quiet (start (length (y .diagram))) (fork (y .terminal r) ∷ y .diagram) (y .updates) refl (numbered-quiet (fork (y .terminal r)) (y .diagram) (y .updates) refl N)
+numbered-moves y z N (joinsInto a b H) = numbered-quiet (join (y .terminal a) (y .terminal b)) (y .diagram) (y .updates) refl N
 
 -- what has a number is an event
 pub number-event : (d : Diagram) (e k : ℕ) → number d e ≡ some k → IsEvent e d

@@ -172,10 +172,10 @@ module _ (ss : List Step) (A : Accepted ss) (F : Fine (run ss)) where
       let ee : IsEvent (T .earlier) d = in-event (T .earlier) s hs (T .earlier-in) in
       let low : T .later < length d = self fe .0 in
       let i : T .earlier ∈ viewEvents d (T .later) = visible (L .ordered) (L .joins-ok) (T .earlier) (T .later) low .1 (ee, T .path) in
-      flat-pair (eventsOf y) order s t (T .earlier) (T .later) (flat-once y layout hold S) (complete s .1 hs) (complete t .1 ht) n (T .earlier-in) (T .later-in) (Sublistᴰ·trans (last-of (T .earlier) (T .later) fe notJoinable i) (in-order (T .later) low))
+      flat-pair (eventsOf y) order s t (T .earlier) (T .later) (flat-once y layout hold S) (complete s .1 hs) (complete t .1 ht) n (T .earlier-in) (T .later-in) (Sublistᴰ·trans (last-of (T .earlier) (T .later) fe differ i) (in-order (T .later) low))
     where
-      notJoinable : T .earlier ≡ T .later → ⊥
-      notJoinable e = n (both (S .filed .all s hs) (S .filed .all t ht))
+      differ : T .earlier ≡ T .later → ⊥
+      differ e = n (both (S .filed .all s hs) (S .filed .all t ht))
         where
           both : (x : ℕ) × (x ∈ layout) × (s ∈ hold x) → (x : ℕ) × (x ∈ layout) × (t ∈ hold x) → s ≡ t
           both a b = same-block (eventsOf y) order (flat-once y layout hold S) s t (T .later) (complete s .1 hs) (complete t .1 ht) (subst (λ z. z ∈ eventsOf y s) e (T .earlier-in)) (T .later-in)
