@@ -2,5 +2,6 @@
 pub mod Numbered
 pub mod Inherited
 pub mod Growth
+pub mod History
 pub mod Theorem
 pub mod Constructed

@@ -1,0 +1,155 @@
+-- What a run's steps leave in the day: each event in a transaction of its client, one transaction between two yields, and
+-- each yield where it came.
+use Prim.Native.Nat.{_<_, _≤_, ℕ}
+use mathlib.Core.Bool.{Bool, true}
+use mathlib.Core.Path.{_∙_, _≡_, ap, refl, subst, sym}
+use mathlib.Core.Option.{Option, none, some}
+use mathlib.Core.List.{List·Memᴰ·head, Memᴰ·append-left, Memᴰ·append-right, [], _++_, _∷_}
+use native.Mathlib.Omega.{arith}
+use lib.ListN.{length}
+use lib.Dec.{eqb}
+use borrow.Author.Tests.{eqb-false, eqb-true}
+use Rattle.diagram.proofs.Days.Sound.{Sound, some≢none}
+use Rattle.diagram.proofs.Order.Growth.{Fine}
+use Rattle.diagram.specs.Arbitration.{eventsOf}
+use Rattle.diagram.specs.Day.{Day}
+use Rattle.diagram.specs.Steps.{Event, Fork, Join, Step, Yield, accepted, after, close, countedWith, enter, entersInto, eventsBefore, yield}
+use Rattle.lists.proofs.Cases.{cases}
+use Rattle.lists.proofs.Changed.{changed-other, changed-same}
+use Rattle.lists.specs.Lists.{_∈_}
+
+module _ (y : Day) (F : Fine y) where
+  abbrev S : Sound y (F .layout) (F .hold)
+  S = F .sound
+
+  -- the transaction that an event of c goes into
+  abbrev pub into : ℕ → ℕ
+  into c = entersInto y (y .openBy c)
+
+  -- an older transaction keeps its client and its events
+  pub keeps-client : (s : Step) → accepted y s ≡ true → (t : ℕ) → t < y .transactions → after y s .transaction t .client ≡ y .transaction t .client
+  unfolding after
+  keeps-client (Event c r u) a t h = cases (eqb t (into c)) (λ e. rw e (mine (y .openBy c) refl (eqb-true t (into c) e))) (λ e. rw e)
+    where
+      mine : (o : Option ℕ) → y .openBy c ≡ o → t ≡ entersInto y o → c ≡ y .transaction t .client
+      mine none q e = absurd (omega arith)
+      mine (some s) q e = sym (ap (λ i. y .transaction i .client) e ∙ S .runs c s q .client)
+  keeps-client (Yield c) a t h = by (y .openBy c)
+    where
+      by : (o : Option ℕ) → yield y c o .transaction t .client ≡ y .transaction t .client
+      by none = refl
+      by (some s) = cases (eqb t s) (λ e. rw (e, eqb-true t s e)) (λ e. rw e)
+  keeps-client (Fork r) a t h = refl
+  keeps-client (Join p q) a t h = refl
+
+  pub keeps-event : (s : Step) (t : ℕ) → t < y .transactions → (e : ℕ) → e ∈ eventsOf y t → e ∈ eventsOf (after y s) t
+  unfolding after
+  keeps-event (Event c r u) t h e i =
+      cases (eqb t (into c))
+      (λ q. let z = eqb-true t (into c) q in subst (λ w. e ∈ w .events) (sym (ap (enter y c r u .transaction) z ∙ changed-same (y .transaction) (into c) _)) (mine (y .openBy c) z))
+      (λ q. subst (λ w. e ∈ w .events) (sym (changed-other (y .transaction) (into c) _ t (eqb-false t (into c) q))) i)
+    where
+      mine : (o : Option ℕ) → t ≡ entersInto y o → e ∈ (eventsBefore y o ++ (length (y .diagram) ∷ []))
+      mine none q = absurd (omega arith)
+      mine (some s) q = Memᴰ·append-left _ (rw q at i)
+  keeps-event (Yield c) t h e i = by (y .openBy c)
+    where
+      by : (o : Option ℕ) → e ∈ eventsOf (yield y c o) t
+      by none = i
+      by (some s) =
+          cases (eqb t s)
+          (λ q. let z = eqb-true t s q in subst (λ w. e ∈ w .events) (sym (ap (close y c s .transaction) z ∙ changed-same (y .transaction) s _)) (subst (λ k. e ∈ eventsOf y k) z i))
+          (λ q. subst (λ w. e ∈ w .events) (sym (changed-other (y .transaction) s _ t (eqb-false t s q))) i)
+  keeps-event (Fork r) t h e i = i
+  keeps-event (Join p q) t h e i = i
+
+  pub more-transactions : (s : Step) → y .transactions ≤ after y s .transactions
+  unfolding after
+  more-transactions (Event c r u) = by (y .openBy c)
+    where
+      by : (o : Option ℕ) → y .transactions ≤ countedWith y o
+      by none = omega arith
+      by (some t) = omega arith
+  more-transactions (Yield c) = by (y .openBy c)
+    where
+      by : (o : Option ℕ) → y .transactions ≤ yield y c o .transactions
+      by none = omega arith
+      by (some t) = omega arith
+  more-transactions (Fork r) = omega arith
+  more-transactions (Join p q) = omega arith
+
+  -- the event's own transaction
+  pub into-low : (c r : ℕ) (u : Bool) → into c < after y (Event c r u) .transactions
+  unfolding after
+  into-low c r u = by (y .openBy c) refl
+    where
+      by : (o : Option ℕ) → y .openBy c ≡ o → entersInto y o < countedWith y o
+      by none q = omega arith
+      by (some t) q = S .runs c t q .known
+
+  pub into-has : (c r : ℕ) (u : Bool) → length (y .diagram) ∈ eventsOf (after y (Event c r u)) (into c)
+  unfolding after
+  into-has c r u = subst (λ w. length (y .diagram) ∈ w .events) (sym (changed-same (y .transaction) (into c) _)) (Memᴰ·append-right (eventsBefore y (y .openBy c)) (List·Memᴰ·head refl))
+
+  pub into-client : (c r : ℕ) (u : Bool) → after y (Event c r u) .transaction (into c) .client ≡ c
+  unfolding after
+  into-client c r u = ap (λ w. w .client) (changed-same (y .transaction) (into c) _)
+
+  pub into-open : (c r : ℕ) (u : Bool) → after y (Event c r u) .openBy c ≡ some (into c)
+  unfolding after
+  into-open c r u = changed-same (y .openBy) c (some (into c))
+
+  -- an open transaction stays open until its client yields
+  pub stays-open : (c t : ℕ) → y .openBy c ≡ some t → (s : Step) → (s ≡ Yield c → ⊥) → after y s .openBy c ≡ some t
+  unfolding after
+  stays-open c t q (Event b r u) n = cases (eqb c b) (λ e. rw e (ap (λ o. some (entersInto y o)) (ap (y .openBy) (sym (eqb-true c b e)) ∙ q))) (λ e. rw e q)
+  stays-open c t q (Yield b) n = by (y .openBy b)
+    where
+      by : (o : Option ℕ) → yield y b o .openBy c ≡ some t
+      by none = q
+      by (some s) = changed-other (y .openBy) b none c (λ e. n (ap Yield (sym e))) ∙ q
+  stays-open c t q (Fork r) n = q
+  stays-open c t q (Join a b) n = q
+
+  -- a closed transaction is changed no more
+  pub stays-closed : (t n : ℕ) → t < y .transactions → y .transaction t .closed ≡ some n → (s : Step) → after y s .transaction t ≡ y .transaction t
+  unfolding after
+  stays-closed t n h q (Event c r u) = changed-other (y .transaction) (into c) _ t (λ e. mine (y .openBy c) refl e)
+    where
+      mine : (o : Option ℕ) → y .openBy c ≡ o → t ≡ entersInto y o → ⊥
+      mine none p e = omega arith
+      mine (some s) p e = some≢none (y .transaction t .closed) q (ap (λ i. y .transaction i .closed) e ∙ S .runs c s p .unshut)
+  stays-closed t n h q (Yield c) = by (y .openBy c) refl
+    where
+      by : (o : Option ℕ) → y .openBy c ≡ o → yield y c o .transaction t ≡ y .transaction t
+      by none p = refl
+      by (some s) p = changed-other (y .transaction) s _ t (λ e. some≢none (y .transaction t .closed) q (ap (λ i. y .transaction i .closed) e ∙ S .runs c s p .unshut))
+  stays-closed t n h q (Fork r) = refl
+  stays-closed t n h q (Join a b) = refl
+
+  -- the last event of a client is its latest
+  pub stays-last : (c l : ℕ) → y .lastEvent c ≡ some l → (s : Step) → ((r : ℕ) (u : Bool) → s ≡ Event c r u → ⊥) → after y s .lastEvent c ≡ some l
+  unfolding after
+  stays-last c l q (Event b r u) n = changed-other (y .lastEvent) b (some (length (y .diagram))) c (λ e. n r u (ap (λ k. Event k r u) (sym e))) ∙ q
+  stays-last c l q (Yield b) n = by (y .openBy b)
+    where
+      by : (o : Option ℕ) → yield y b o .lastEvent c ≡ some l
+      by none = q
+      by (some t) = q
+  stays-last c l q (Fork r) n = q
+  stays-last c l q (Join a b) n = q
+
+  -- a transaction that was not closed is closed by its client's yield
+  pub closes : (t n : ℕ) → y .transaction t .closed ≡ none → (s : Step) → after y s .transaction t .closed ≡ some n → (c : ℕ) × (s ≡ Yield c) × (y .openBy c ≡ some t) × (n ≡ length (y .diagram))
+  unfolding after
+  closes t n q (Event c r u) p = absurd (some≢none (enter y c r u .transaction t .closed) p (cases (eqb t (into c)) (λ e. rw e) (λ e. rw e q)))
+  closes t n q (Yield c) p = by (y .openBy c) refl p
+    where
+      by : (o : Option ℕ) → y .openBy c ≡ o → yield y c o .transaction t .closed ≡ some n → (b : ℕ) × (Yield c ≡ Yield b) × (y .openBy b ≡ some t) × (n ≡ length (y .diagram))
+      by none w p = absurd (some≢none (y .transaction t .closed) p q)
+      by (some k) w p =
+          cases (eqb t k)
+          (λ e. let f : some (length (y .diagram)) ≡ some n = rw e at p in let g : n ≡ length (y .diagram) = cc in (c, refl, w ∙ ap some (sym (eqb-true t k e)), g))
+          (λ e. absurd (some≢none (y .transaction t .closed) (rw e at p) q))
+  closes t n q (Fork r) p = absurd (some≢none (y .transaction t .closed) p q)
+  closes t n q (Join a b) p = absurd (some≢none (y .transaction t .closed) p q)
