@@ -2,6 +2,8 @@
 pub mod Numbered
 pub mod Inherited
 pub mod Growth
+pub mod Runs
 pub mod History
 pub mod Theorem
 pub mod Constructed
+pub mod Witness

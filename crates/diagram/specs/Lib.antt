@@ -8,5 +8,6 @@ pub mod Day
 pub mod Checks
 pub mod Steps
 pub mod Arbitration
+pub mod Witness
 pub mod Machine
 pub mod Examples

@@ -14,7 +14,7 @@ use Rattle.diagram.proofs.Days.Moves.{CanEnter, CanFork, CanJoin, can-e
 use Rattle.diagram.proofs.Graph.Paths.{Ordered, edge-bounds, leads-path, no-vertex, one-more, path-leads}
 use Rattle.diagram.proofs.Graph.Tables.{tabulate-newest, tabulate-older}
 use Rattle.diagram.proofs.Order.Growth.{Fine, fine-fresh}
-use Rattle.diagram.proofs.Order.Theorem.{along, fine-step}
+use Rattle.diagram.proofs.Order.Runs.{along, fine-step}
 use Rattle.diagram.specs.Construction.{Constructed, Joinable, entered, forked, joined, rooted}
 use Rattle.diagram.specs.Day.{Day, IsOut, fresh}
 use Rattle.diagram.specs.Diagram.{Diagram, Edge, Terminal, Vertex, event, f-sources, fork, j-sources, join, newest, older, root}

@@ -1,14 +1,15 @@
 -- What a run's steps leave in the day: each event in a transaction of its client, one transaction between two yields, and
 -- each yield where it came.
 use Prim.Native.Nat.{_<_, _≤_, ℕ}
-use mathlib.Core.Bool.{Bool, true}
+use mathlib.Core.Bool.{Bool, false, false≢true, true}
 use mathlib.Core.Path.{_∙_, _≡_, ap, refl, subst, sym}
+use mathlib.Core.Logic.{_⊎_, inl, inr}
 use mathlib.Core.Option.{Option, none, some}
 use mathlib.Core.List.{List·Memᴰ·head, Memᴰ·append-left, Memᴰ·append-right, [], _++_, _∷_}
 use native.Mathlib.Omega.{arith}
 use lib.ListN.{length}
 use lib.Dec.{eqb}
-use borrow.Author.Tests.{eqb-false, eqb-true}
+use borrow.Author.Tests.{eq-eqb, eqb-false, eqb-true}
 use Rattle.diagram.proofs.Days.Sound.{Sound, some≢none}
 use Rattle.diagram.proofs.Order.Growth.{Fine}
 use Rattle.diagram.specs.Arbitration.{eventsOf}
@@ -17,6 +18,22 @@ use Rattle.diagram.specs.Steps.{Event, Fork, Join, Step, Yield, accepted
 use Rattle.lists.proofs.Cases.{cases}
 use Rattle.lists.proofs.Changed.{changed-other, changed-same}
 use Rattle.lists.specs.Lists.{_∈_}
+
+-- whether a step is client c's yield
+abbrev isYield : ℕ → Step → Bool
+isYield c (Event b r u) = false
+isYield c (Yield b) = eqb b c
+isYield c (Fork r) = false
+isYield c (Join a b) = false
+
+yield-is : (c : ℕ) (s : Step) → isYield c s ≡ true → s ≡ Yield c
+yield-is c (Event b r u) e = absurd (false≢true e)
+yield-is c (Yield b) e = ap Yield (eqb-true b c e)
+yield-is c (Fork r) e = absurd (false≢true e)
+yield-is c (Join a b) e = absurd (false≢true e)
+
+not-yield : (c : ℕ) (s : Step) → isYield c s ≡ false → s ≡ Yield c → ⊥
+not-yield c s e q = false≢true (sym e ∙ ap (isYield c) q ∙ eq-eqb c c refl)
 
 module _ (y : Day) (F : Fine y) where
   abbrev S : Sound y (F .layout) (F .hold)
@@ -153,3 +170,11 @@ module _ (y : Day) (F : Fine y) where
           (λ e. absurd (some≢none (y .transaction t .closed) (rw e at p) q))
   closes t n q (Fork r) p = absurd (some≢none (y .transaction t .closed) p q)
   closes t n q (Join a b) p = absurd (some≢none (y .transaction t .closed) p q)
+
+  -- an open transaction stays open, or its client's yield closes it
+  pub open-or-shut : (c t : ℕ) → y .openBy c ≡ some t → (s : Step) → ((s ≡ Yield c → ⊥) × (after y s .openBy c ≡ some t)) ⊎ (after y s .transaction t .closed ≡ some (length (y .diagram)))
+  unfolding after
+  open-or-shut c t q s =
+      cases (isYield c s)
+      (λ e. inr (ap (λ z. after y z .transaction t .closed) (yield-is c s e) ∙ ap (λ o. yield y c o .transaction t .closed) q ∙ ap (λ w. w .closed) (changed-same (y .transaction) t _)))
+      (λ e. inl (not-yield c s e, stays-open c t q s (not-yield c s e)))

@@ -1,6 +1,6 @@
 -- The theorem: every run of accepted steps has one arbitration order.
 use Prim.Native.Nat.{_<_, ℕ}
-use mathlib.Core.Bool.{false, true}
+use mathlib.Core.Bool.{false}
 use mathlib.Core.Path.{_∙_, _≡_, ap, refl, subst, sym}
 use mathlib.Core.Logic.{_↔_, _⊎_, inl, inr}
 use mathlib.Core.List.{List, List·Memᴰ·append-cases, List·Memᴰ·eq-of-singleton, List·Memᴰ·head, Sublistᴰ·append, Sublistᴰ·cons-cons}
@@ -17,10 +17,10 @@ use Rattle.diagram.proofs.Graph.Events.{ownEvents, viewEventStep, viewE
 use Rattle.diagram.proofs.Graph.Paths.{leads-path}
 use Rattle.diagram.proofs.Graph.Tables.{tabulate-newest, tabulate-older}
 use Rattle.diagram.proofs.Graph.Visible.{self, view-numbers, view-paths, visible}
-use Rattle.diagram.proofs.Order.Growth.{Fine, Older, extends, fine-fresh, fine-moves, older-length, older-moves, older-trans, same}
-use Rattle.diagram.proofs.Order.Growth.{view-stays, whole-of}
+use Rattle.diagram.proofs.Order.Growth.{Fine, Older, extends, fine-fresh, older-length, view-stays, whole-of}
 use Rattle.diagram.proofs.Order.Inherited.{entry-is, numbers-nodup, numbers-sub}
-use Rattle.diagram.proofs.Order.Numbered.{number-event, numbered-fresh, numbered-moves}
+use Rattle.diagram.proofs.Order.Numbered.{number-event}
+use Rattle.diagram.proofs.Order.Runs.{accepted-first, accepted-rest, fine-run, fine-step, numbered-run, older-from, run-append, run-step}
 use Rattle.diagram.specs.Arbitration.{Arbitration, ExtendsEach, IsEvent, Numbered, Sees, SeesTransaction, Shows, WholeAt, eventsOf}
 use Rattle.diagram.specs.Arbitration.{newest-is, older-is}
 use Rattle.diagram.specs.Checks.{busy}
@@ -28,66 +28,11 @@ use Rattle.diagram.specs.Construction.{entered}
 use Rattle.diagram.specs.Day.{Day, IsOut, fresh}
 use Rattle.diagram.specs.Diagram.{Diagram, event}
 use Rattle.diagram.specs.Effects.{entry, number, numbers, view}
-use Rattle.diagram.specs.Steps.{Accepted, AcceptedFrom, Event, Step, accepted, after, run, runFrom}
+use Rattle.diagram.specs.Steps.{Accepted, AcceptedFrom, Event, Step, after, run}
 use Rattle.lists.proofs.Blocks.{flat-from, flat-in, flat-pair, flatBack-from, flatBack-in, same-block}
 use Rattle.lists.proofs.Cases.{either}
 use Rattle.lists.proofs.Sublists.{mem?, only, ∈-⊑, ⊑-⊆}
 use Rattle.lists.specs.Lists.{_∈_, _⊑_, flat, flatBack}
-
--- a run in two parts, and what is accepted of it
-pub run-both : (a b : List Step) (y : Day) → runFrom y (a ++ b) ≡ runFrom (runFrom y a) b
-unfolding runFrom
-run-both [] b y = refl
-run-both (s ∷ a) b y = run-both a b (after y s)
-
-pub run-append : (a b : List Step) → run (a ++ b) ≡ runFrom (run a) b
-unfolding run
-run-append a b = run-both a b fresh
-
-pub run-step : (a : List Step) (s : Step) → run (a ++ (s ∷ [])) ≡ after (run a) s
-unfolding runFrom
-run-step a s = run-append a (s ∷ [])
-
-first-from : (a b : List Step) (y : Day) → AcceptedFrom y (a ++ b) → AcceptedFrom y a
-first-from [] b y A = tt
-first-from (s ∷ a) b y A = (A .0, first-from a b (after y s) (A .1))
-
-rest-from : (a b : List Step) (y : Day) → AcceptedFrom y (a ++ b) → AcceptedFrom (runFrom y a) b
-unfolding runFrom
-rest-from [] b y A = A
-rest-from (s ∷ a) b y A = rest-from a b (after y s) (A .1)
-
-pub accepted-first : (a b : List Step) → Accepted (a ++ b) → Accepted a
-accepted-first a b = first-from a b fresh
-
-pub accepted-rest : (a b : List Step) → Accepted (a ++ b) → AcceptedFrom (run a) b
-unfolding run
-accepted-rest a b = rest-from a b fresh
-
-pub accepted-both : (a b : List Step) (y : Day) → AcceptedFrom y a → AcceptedFrom (runFrom y a) b → AcceptedFrom y (a ++ b)
-unfolding runFrom
-accepted-both [] b y A B = B
-accepted-both (s ∷ a) b y A B = (A .0, accepted-both a b (after y s) (A .1) B)
-
--- what each step keeps holds after every run
-pub along : (P : Day → Type 0) → ((y : Day) (s : Step) → accepted y s ≡ true → P y → P (after y s)) → (ss : List Step) (y : Day) → AcceptedFrom y ss → P y → P (runFrom y ss)
-unfolding runFrom
-along P keep [] y A p = p
-along P keep (s ∷ ss) y A p = along P keep ss (after y s) (A .1) (keep y s (A .0) p)
-
-pub fine-step : (y : Day) (s : Step) → accepted y s ≡ true → Fine y → Fine (after y s)
-fine-step y s e F = fine-moves y (after y s) F (step-moves y s e)
-
-pub fine-run : (ss : List Step) → Accepted ss → Fine (run ss)
-unfolding run
-fine-run ss A = along Fine fine-step ss fresh A fine-fresh
-
-numbered-run : (ss : List Step) → Accepted ss → Numbered (run ss .diagram) (run ss .updates)
-unfolding run
-numbered-run ss A = along (λ y. Numbered (y .diagram) (y .updates)) (λ y s e N. numbered-moves y (after y s) N (step-moves y s e)) ss fresh A numbered-fresh
-
-older-from : (ss : List Step) (y : Day) → AcceptedFrom y ss → Older (y .diagram) (runFrom y ss .diagram)
-older-from ss y A = along (λ z. Older (y .diagram) (z .diagram)) (λ z s e o. older-trans o (older-moves z (after z s) (step-moves z s e))) ss y A same
 
 grows-from : (ss : List Step) (y : Day) → Fine y → AcceptedFrom y ss → ExtendsEach y ss
 grows-from [] y F A = tt

@@ -1,0 +1,65 @@
+-- Runs of accepted steps in parts, and what holds along them.
+use mathlib.Core.Bool.{true}
+use mathlib.Core.Path.{_≡_, refl}
+use mathlib.Core.List.{List, [], _++_, _∷_}
+use Rattle.diagram.proofs.Days.Moves.{step-moves}
+use Rattle.diagram.proofs.Order.Growth.{Fine, Older, fine-fresh, fine-moves, older-moves, older-trans, same}
+use Rattle.diagram.proofs.Order.Numbered.{numbered-fresh, numbered-moves}
+use Rattle.diagram.specs.Arbitration.{Numbered}
+use Rattle.diagram.specs.Day.{Day, fresh}
+use Rattle.diagram.specs.Steps.{Accepted, AcceptedFrom, Step, accepted, after, run, runFrom}
+
+-- a run in two parts, and what is accepted of it
+pub run-both : (a b : List Step) (y : Day) → runFrom y (a ++ b) ≡ runFrom (runFrom y a) b
+unfolding runFrom
+run-both [] b y = refl
+run-both (s ∷ a) b y = run-both a b (after y s)
+
+pub run-append : (a b : List Step) → run (a ++ b) ≡ runFrom (run a) b
+unfolding run
+run-append a b = run-both a b fresh
+
+pub run-step : (a : List Step) (s : Step) → run (a ++ (s ∷ [])) ≡ after (run a) s
+unfolding runFrom
+run-step a s = run-append a (s ∷ [])
+
+first-from : (a b : List Step) (y : Day) → AcceptedFrom y (a ++ b) → AcceptedFrom y a
+first-from [] b y A = tt
+first-from (s ∷ a) b y A = (A .0, first-from a b (after y s) (A .1))
+
+rest-from : (a b : List Step) (y : Day) → AcceptedFrom y (a ++ b) → AcceptedFrom (runFrom y a) b
+unfolding runFrom
+rest-from [] b y A = A
+rest-from (s ∷ a) b y A = rest-from a b (after y s) (A .1)
+
+pub accepted-first : (a b : List Step) → Accepted (a ++ b) → Accepted a
+accepted-first a b = first-from a b fresh
+
+pub accepted-rest : (a b : List Step) → Accepted (a ++ b) → AcceptedFrom (run a) b
+unfolding run
+accepted-rest a b = rest-from a b fresh
+
+pub accepted-both : (a b : List Step) (y : Day) → AcceptedFrom y a → AcceptedFrom (runFrom y a) b → AcceptedFrom y (a ++ b)
+unfolding runFrom
+accepted-both [] b y A B = B
+accepted-both (s ∷ a) b y A B = (A .0, accepted-both a b (after y s) (A .1) B)
+
+-- what each step keeps holds after every run
+pub along : (P : Day → Type 0) → ((y : Day) (s : Step) → accepted y s ≡ true → P y → P (after y s)) → (ss : List Step) (y : Day) → AcceptedFrom y ss → P y → P (runFrom y ss)
+unfolding runFrom
+along P keep [] y A p = p
+along P keep (s ∷ ss) y A p = along P keep ss (after y s) (A .1) (keep y s (A .0) p)
+
+pub fine-step : (y : Day) (s : Step) → accepted y s ≡ true → Fine y → Fine (after y s)
+fine-step y s e F = fine-moves y (after y s) F (step-moves y s e)
+
+pub fine-run : (ss : List Step) → Accepted ss → Fine (run ss)
+unfolding run
+fine-run ss A = along Fine fine-step ss fresh A fine-fresh
+
+pub numbered-run : (ss : List Step) → Accepted ss → Numbered (run ss .diagram) (run ss .updates)
+unfolding run
+numbered-run ss A = along (λ y. Numbered (y .diagram) (y .updates)) (λ y s e N. numbered-moves y (after y s) N (step-moves y s e)) ss fresh A numbered-fresh
+
+pub older-from : (ss : List Step) (y : Day) → AcceptedFrom y ss → Older (y .diagram) (runFrom y ss .diagram)
+older-from ss y A = along (λ z. Older (y .diagram) (z .diagram)) (λ z s e o. older-trans o (older-moves z (after z s) (step-moves z s e))) ss y A same
