@@ -12,7 +12,9 @@ use Rattle.diagram.proofs.Days.Moves.{step-moves}
 use Rattle.diagram.proofs.Graph.Visible.{visible}
 use Rattle.diagram.proofs.Order.Growth.{Fine, extends, fine-fresh}
 use Rattle.diagram.proofs.Order.Inherited.{entry-is}
-use Rattle.diagram.proofs.Order.Theorem.{accepted-first, along, arbitration, fine-run, fine-step, run-step}
+use Rattle.diagram.proofs.Order.Runs.{accepted-first, along, fine-run, fine-step, run-step}
+use Rattle.diagram.proofs.Order.Theorem.{arbitration}
+use Rattle.diagram.proofs.Order.Witness.{witness}
 use Rattle.diagram.specs.Arbitration.{Arbitration, Extends, WholeAt}
 use Rattle.diagram.specs.Checks.{busy}
 use Rattle.diagram.specs.Construction.{entered}
@@ -23,7 +25,8 @@ use Rattle.lists.proofs.Blocks.{flat-from}
 use Rattle.lists.proofs.Changed.{changed-same}
 use Rattle.lists.specs.Lists.{_∈_}
 use Rattle.plain.proofs.Ends.{QueryTaken, ShowTaken, UpdateTaken, query-ends, show-ends, update-ends, was-taken}
-use Rattle.plain.proofs.Steps.{day-both, did, ifTaken, onRevision, ran, stepOf, steps-both, stepsFrom, stepsOf}
+use Rattle.plain.proofs.Steps.{day-both, did, ran, steps-both}
+use Rattle.plain.specs.Taken.{ifTaken, onRevision, stepOf, stepsAfter, stepsFrom, stepsOf}
 use Rattle.plain.specs.Answers.{called, dayAfter, dayFrom, shown}
 use Rattle.plain.specs.Calls.{Call, Entry, Fork, Join, Query, Show, Update, Yield}
 use Rattle.plain.specs.LineUp.{Answers, GrowsEach, LineUp, Lists, Taken, endOf}
@@ -55,9 +58,6 @@ meant-low : (y : Day) (n r : ℕ) → meant y n ≡ some r → r < y .revisions
 meant-low y n r e = ltb-true r (y .revisions) (not-false _ (meant-given y n r e))
 
 -- a list of calls as a run of steps
-abbrev stepsAfter : List Call → List Step
-stepsAfter cs = stepsFrom freshDay cs
-
 accepts : (cs : List Call) → Accepted (stepsAfter cs)
 accepts cs = ran cs freshDay .accepts
 
@@ -221,6 +221,9 @@ module _ (cs : List Call) where
 
   pub lined-up : LineUp cs
   lined-up = record {
+    steps = same cs;
+    accepted = accepts cs;
+    witness = witness (stepsAfter cs) (accepts cs);
     order = A .order;
     once = A .once;
     complete = λ t. rw e (A .complete t);

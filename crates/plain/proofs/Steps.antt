@@ -5,41 +5,17 @@ use mathlib.Core.Path.{_∙_, _≡_, ap, refl, subst, sym}
 use mathlib.Core.Option.{Option, none, some}
 use mathlib.Core.List.{List, [], _++_, _∷_, append-assoc}
 use native.Mathlib.Omega.{arith}
-use Rattle.diagram.proofs.Order.Theorem.{accepted-both, run-both}
+use Rattle.diagram.proofs.Order.Runs.{accepted-both, run-both}
 use Rattle.diagram.specs.Day.{Day, meant}
 use Rattle.diagram.specs.Steps.{AcceptedFrom, Event, Step, accepted, after, runFrom, yield}
 use Rattle.lists.proofs.Changed.{changed-other}
 use Rattle.plain.proofs.Ends.{Ends, fork-ends, join-ends, no, query-ends, show-ends, update-ends, yes, yield-ends}
 use Rattle.plain.specs.Answers.{Outcome, called, dayFrom, stepped, taken}
 use Rattle.plain.specs.Calls.{Call, Fork, Join, Query, Show, Update, Yield}
+use Rattle.plain.specs.Taken.{ifTaken, onRevision, stepOf, stepsFrom, stepsOf}
 use Rattle.plain.specs.Record.{PlainDay, noted}
 use Rattle.updates.specs.declared.kind.Kind.{Kind}
 use Rattle.diagram.specs.Steps as Steps
-
--- the step that a call is, where its numbers mean revisions
-abbrev pub onRevision : Option ℕ → (ℕ → List Step) → List Step
-onRevision none f = []
-onRevision (some r) f = f r
-
-abbrev pub stepOf : PlainDay → Call → List Step
-stepOf p (Update c n k bib v) = onRevision (meant (p .day) n) (λ r. Event c r true ∷ [])
-stepOf p (Query c n bib) = onRevision (meant (p .day) n) (λ r. Event c r false ∷ [])
-stepOf p (Yield c) = Steps.Yield c ∷ []
-stepOf p (Fork n) = onRevision (meant (p .day) n) (λ r. Steps.Fork r ∷ [])
-stepOf p (Join n m) = onRevision (meant (p .day) n) (λ a. onRevision (meant (p .day) m) (λ b. Steps.Join a b ∷ []))
-stepOf p (Show n room) = []
-
--- the steps of a call that ended with a code: none if it was refused
-abbrev pub ifTaken : ℕ → List Step → List Step
-ifTaken zero ss = ss
-ifTaken (suc k) ss = []
-
-abbrev pub stepsOf : PlainDay → Call → List Step
-stepsOf p c = ifTaken (called p c .answer .code) (stepOf p c)
-
-unfoldable pub stepsFrom : PlainDay → List Call → List Step
-stepsFrom p [] = []
-stepsFrom p (c ∷ cs) = stepsOf p c ++ stepsFrom (called p c .next) cs
 
 pub record Did (p : PlainDay) (o : Outcome) (ss : List Step) : Type 0 where
   pub accepts : AcceptedFrom (p .day) (ifTaken (o .answer .code) ss)

@@ -4,4 +4,5 @@ pub mod Calls
 pub mod Record
 pub mod Answers
 pub mod Edges
+pub mod Taken
 pub mod LineUp

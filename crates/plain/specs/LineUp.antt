@@ -13,10 +13,13 @@ use Rattle.updates.specs.declared.kind.KindCheck.the-variants.{Known}
 use Rattle.updates.specs.Kinds.{kindCheck}
 use Rattle.diagram.specs.Effects.{view, numbers}
 use Rattle.diagram.specs.Day.{Day, IsOut, meant}
+use Rattle.diagram.specs.Steps.{Accepted, run}
+use Rattle.diagram.specs.Witness.{Witness}
 use Rattle.diagram.specs.Arbitration.{IsEvent, eventsOf, Sees, SeesTransaction, Shows, WholeAt, Extends}
 use Rattle.plain.specs.Calls.{Call, Update, Query, Show, Answer}
 use Rattle.plain.specs.Record.{PlainDay, freshDay, valueOf, linesOf}
 use Rattle.plain.specs.Answers.{called, dayAfter}
+use Rattle.plain.specs.Taken.{stepsAfter}
 
 -- the day of revisions after a list of calls
 abbrev pub endOf : List Call → Day
@@ -46,6 +49,10 @@ GrowsEach p [] = Unit {0}
 GrowsEach p (c ∷ cs) = Extends (p .day) (called p c .next .day) × GrowsEach (called p c .next) cs
 
 pub record LineUp (cs : List Call) : Type 0 where
+  -- the calls that are taken are the steps of the day, and its diagram is a witness for their events and yields
+  pub steps : endOf cs ≡ run (stepsAfter cs)
+  pub accepted : Accepted (stepsAfter cs)
+  pub witness : Witness (stepsAfter cs)
   -- "A line-up has every transaction once, open ones and those of queries alone too."
   pub order : List ℕ
   pub once : List·Nodup order
