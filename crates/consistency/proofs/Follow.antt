@@ -4,9 +4,9 @@ use mathlib.Core.Bool.{true}
 use mathlib.Core.Path.{_≡_, subst, sym}
 use mathlib.Core.List.{List, [], _∷_}
 use Rattle.diagram.specs.Day.{Day, fresh}
-use Rattle.diagram.specs.Machine.{Machine, freshMachine, machineAfter, machineFrom}
+use Rattle.machine.specs.Machine.{Machine, freshMachine, machineAfter, machineFrom}
 use Rattle.diagram.specs.Steps.{Accepted, AcceptedFrom, Step, accepted, after, run, runFrom}
-use Rattle.diagram.proofs.Follow.Shown.{follows}
+use Rattle.machine.proofs.Follow.Shown.{follows}
 use Rattle.cells.specs.Cells.{Cells}
 use Rattle.cells.specs.CellSteps.{freshCells}
 use Rattle.cells.specs.Decode.{cells}

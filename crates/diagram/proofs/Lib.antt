@@ -1,8 +1,6 @@
--- The proofs, lowest first: graphs; the layout of revisions; the day; its arbitration order; what a table follows.
+-- The proofs, lowest first: graphs; the layout of revisions; the day; its arbitration order.
 pub mod Graph
 pub mod Arranged
 pub mod Days
 pub mod Order
-pub mod Marks
-pub mod Follow
 mod Examples

@@ -1,5 +1,5 @@
 -- What a reader has to believe, in the order of 002 and 01: diagrams, paths, effects, the day, its checks and steps, and
--- the claim about every run of accepted steps. Last the machine that a table follows. No bibs, values or bytes.
+-- the claim about every run of accepted steps. No bibs, values or bytes.
 pub mod Sizes
 pub mod Diagram
 pub mod Effects
@@ -9,5 +9,4 @@ pub mod Checks
 pub mod Steps
 pub mod Arbitration
 pub mod Witness
-pub mod Machine
 pub mod Examples

@@ -11,7 +11,7 @@ use borrow.Author.Tests.{eq-eqb, lt-ltb}
 use Rattle.lists.specs.Lists.{_∈_}
 use Rattle.lists.proofs.Places.{getD-in}
 use Rattle.diagram.specs.Day.{Day}
-use Rattle.diagram.specs.Machine.{Machine}
+use Rattle.machine.specs.Machine.{Machine}
 use Rattle.cells.specs.Sizes.{clients, main, revisions}
 use Rattle.cells.specs.Tables.{every}
 use Rattle.cells.specs.Parts.{Parts, basePart, countPart, countersPart, firstPart, lastPart, layoutPart, openedPart, queuePart, signaturePart, split, statePart, usedPart}

@@ -9,7 +9,7 @@ use lib.ListN.{getD-replicate, length, set}
 use Rattle.lists.proofs.Cases.{cases}
 use Rattle.diagram.specs.Sizes.{clientLimit}
 use Rattle.diagram.specs.Day.{Day}
-use Rattle.diagram.specs.Machine.{Machine}
+use Rattle.machine.specs.Machine.{Machine}
 use Rattle.diagram.specs.Steps.{Event, Fork, Join, Step, Yield, accepted}
 use Rattle.diagram.proofs.Days.Moves.{can-enter, can-fork, can-join, can-yield}
 use Rattle.cells.specs.Sizes.{bytes, clients, main, revisions}

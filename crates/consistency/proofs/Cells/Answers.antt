@@ -11,7 +11,7 @@ use Rattle.lists.proofs.Cases.{cases}
 use Rattle.diagram.specs.Sizes.{clientLimit, revisionLimit, updateLimit}
 use Rattle.diagram.specs.Day.{Day, IsOut, nextNumber}
 use Rattle.diagram.specs.Checks as Day
-use Rattle.diagram.specs.Machine.{Follows, Machine, revisionOf}
+use Rattle.machine.specs.Machine.{Follows, Machine, revisionOf}
 use Rattle.diagram.specs.Steps.{notGiven}
 use Rattle.diagram.proofs.Days.Moves.{joinable}
 use Rattle.cells.specs.Sizes.{clients, closed, main, revisions}

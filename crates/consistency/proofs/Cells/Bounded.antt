@@ -9,7 +9,7 @@ use borrow.Author.Tests.{eq-eqb}
 use Rattle.lists.specs.Lists.{_∈_, changed, insert, remove}
 use Rattle.lists.proofs.Cases.{cases, either}
 use Rattle.lists.proofs.Places.{insert-back, remove-back, replicate-in, take-in}
-use Rattle.diagram.specs.Machine.{Machine}
+use Rattle.machine.specs.Machine.{Machine}
 use Rattle.cells.specs.Sizes.{main, revisions, updates}
 use Rattle.cells.specs.Cells.{Cells}
 use Rattle.cells.specs.CellSteps.{closeCells, forkCells, freshCells, joinCells, queryCells, updateCells}

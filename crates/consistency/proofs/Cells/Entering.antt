@@ -10,7 +10,7 @@ use borrow.Author.Tests.{eq-eqb}
 use Rattle.lists.specs.Lists.{_∈_, changed}
 use Rattle.lists.proofs.Cases.{cases}
 use Rattle.lists.proofs.Grown.{first-append, grown-longer, grown-none, grown-take}
-use Rattle.diagram.specs.Machine.{Machine, enterOn, yieldOn}
+use Rattle.machine.specs.Machine.{Machine, enterOn, yieldOn}
 use Rattle.cells.specs.Sizes.{clients, main, revisions, updates}
 use Rattle.cells.specs.Cells.{Cells, chain, own}
 use Rattle.cells.specs.CellSteps.{closeCells, queryCells, updateCells}

@@ -12,7 +12,7 @@ use Rattle.lists.specs.Lists.{_∈_, insert, member}
 use Rattle.lists.proofs.Cases.{cases, either, or-assoc, or-cases, or-nil, or-right}
 use Rattle.lists.proofs.Keep.{member-++, member-in}
 use Rattle.lists.proofs.Places.{insert-back, insert-old}
-use Rattle.diagram.specs.Machine.{Machine, forkOn}
+use Rattle.machine.specs.Machine.{Machine, forkOn}
 use Rattle.cells.specs.Sizes.{main, revisions, updates}
 use Rattle.cells.specs.Cells.{Cells, chain, marked, own}
 use Rattle.cells.specs.CellSteps.{forkCells, forkRow}

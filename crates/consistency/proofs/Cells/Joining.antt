@@ -13,7 +13,7 @@ use Rattle.lists.proofs.Blocks.{flatBack-nodup, flatBack-one}
 use Rattle.lists.proofs.Cases.{cases}
 use Rattle.lists.proofs.Grown.{first-append, grown-longer, grown-take}
 use Rattle.lists.proofs.Places.{remove-back, remove-gone, remove-keep}
-use Rattle.diagram.specs.Machine.{Machine, joinOn}
+use Rattle.machine.specs.Machine.{Machine, joinOn}
 use Rattle.cells.specs.Sizes.{main, revisions}
 use Rattle.cells.specs.Cells.{Cells, chain, own}
 use Rattle.cells.specs.CellSteps.{joinCells}

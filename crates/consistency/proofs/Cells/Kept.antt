@@ -13,11 +13,11 @@ use Rattle.lists.proofs.Places.{remove-keep}
 use Rattle.diagram.specs.Sizes.{revisionLimit, updateLimit}
 use Rattle.diagram.specs.Day.{Day, IsOut, fresh}
 use Rattle.diagram.specs.Checks.{busy, busyByOther, logFull, noneLeft, openElsewhere, stale, unknownClient}
-use Rattle.diagram.specs.Machine.{Machine, enterOn, freshMachine, joinOn, machineAfter}
+use Rattle.machine.specs.Machine.{Machine, enterOn, freshMachine, joinOn, machineAfter}
 use Rattle.diagram.specs.Steps.{Event, Fork, Join, Step, Yield, accepted, after, noneOf, notGiven}
 use Rattle.diagram.proofs.Days.Moves.{can-enter, can-fork, can-join}
-use Rattle.diagram.proofs.Follow.Agrees.{Agree, agree-fresh}
-use Rattle.diagram.proofs.Follow.Shown.{follows}
+use Rattle.machine.proofs.Follow.Agrees.{Agree, agree-fresh}
+use Rattle.machine.proofs.Follow.Shown.{follows}
 use Rattle.cells.specs.Sizes.{clients, main, revisions, updates}
 use Rattle.cells.specs.Cells.{Cells, chain}
 use Rattle.cells.specs.CellSteps.{freshCells}

@@ -12,13 +12,13 @@ use Rattle.blocks.specs.Blocks.{blocks}
 use Rattle.diagram.specs.Day.{Day, IsOut}
 use Rattle.diagram.specs.Diagram.{Diagram}
 use Rattle.diagram.specs.Effects.{entry, number, numbers}
-use Rattle.diagram.specs.Machine.{Machine, machineAfter}
+use Rattle.machine.specs.Machine.{Machine, machineAfter}
 use Rattle.diagram.specs.Steps.{Event, Fork, Join, Step, Yield, accepted, after}
 use Rattle.diagram.proofs.Arranged.Advance.{contents}
 use Rattle.diagram.proofs.Days.Moves.{can-enter, can-fork, can-join}
 use Rattle.diagram.proofs.Days.Real.{Real}
-use Rattle.diagram.proofs.Follow.Agrees.{Agree, ordered, terminal-low}
-use Rattle.diagram.proofs.Follow.Steps.{agree-enter, agree-join, agree-fork, agree-yield}
+use Rattle.machine.proofs.Follow.Agrees.{Agree, ordered, terminal-low}
+use Rattle.machine.proofs.Follow.Steps.{agree-enter, agree-join, agree-fork, agree-yield}
 use Rattle.diagram.proofs.Graph.Events.{inheritedEvents, ownEvents}
 use Rattle.diagram.proofs.Graph.Visible.{view-numbers}
 use Rattle.diagram.proofs.Order.Inherited.{blocks-numbers, entry-is, numbers-nodup}

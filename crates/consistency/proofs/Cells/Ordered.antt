@@ -15,7 +15,7 @@ use Rattle.lists.proofs.Counts.{few-below}
 use Rattle.lists.proofs.Keep.{in-member, keep-++, keep-all, keep-flatBack, keep-in, keep-⊑, member-in}
 use Rattle.lists.proofs.Places.{behind-in}
 use Rattle.lists.proofs.Sublists.{nodup-apart, ⊑-⊆}
-use Rattle.diagram.specs.Machine.{Machine, shown}
+use Rattle.machine.specs.Machine.{Machine, shown}
 use Rattle.cells.specs.Sizes.{main, updates}
 use Rattle.cells.specs.Cells.{Cells, marked}
 use Rattle.cells.specs.Order.{inherited, order}

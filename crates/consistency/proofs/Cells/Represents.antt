@@ -8,7 +8,7 @@ use native.Mathlib.Omega.{arith}
 use lib.Dec.{ltb}
 use lib.ListN.{length, take}
 use Rattle.lists.specs.Lists.{_∈_, member}
-use Rattle.diagram.specs.Machine.{Machine}
+use Rattle.machine.specs.Machine.{Machine}
 use Rattle.cells.specs.Sizes.{clients, closed, isJoined, isOut, main, neverGiven, revisions, updates}
 use Rattle.cells.specs.Cells.{Cells, marked, outs, own}
 use Rattle.cells.proofs.Chain.{chain-length}

@@ -9,18 +9,18 @@ use mathlib.Core.List.{List, List·Memᴰ·cases-cons, List·Memᴰ·eq-of-singl
 use native.Mathlib.Omega.{arith}
 use lib.Dec.{eqb}
 use borrow.Author.Tests.{eqb-false, eqb-true, ne-eqb, not-true}
 use Rattle.diagram.proofs.Arranged.Advance.{May, may, true-may}
 use Rattle.diagram.proofs.Days.Moves.{CanFork, CanJoin, Moves, enters, joinsInto, joinable, forksAt, yields}
 use Rattle.diagram.proofs.Days.Real.{Real}
 use Rattle.diagram.proofs.Graph.Paths.{leads-self}
-use Rattle.diagram.proofs.Marks.Terminals.{enter-fork, enter-start, fork-by, forkSeen, join-fork, join-fork-joiner, join-start}
-use Rattle.diagram.proofs.Marks.Terminals.{join-start-joiner, fork-fork, fork-fork-new, fork-start, fork-start-new, start-none}
-use Rattle.diagram.proofs.Marks.Terminals.{start-own, startSeen}
+use Rattle.machine.proofs.Marks.Terminals.{enter-fork, enter-start, fork-by, forkSeen, join-fork, join-fork-joiner, join-start}
+use Rattle.machine.proofs.Marks.Terminals.{join-start-joiner, fork-fork, fork-fork-new, fork-start, fork-start-new, start-none}
+use Rattle.machine.proofs.Marks.Terminals.{start-own, startSeen}
 use Rattle.diagram.proofs.Order.Growth.{Fine, fine-fresh, fine-moves}
 use Rattle.diagram.specs.Checks.{notJoinable}
 use Rattle.diagram.specs.Day.{Day, IsOut, fresh}
 use Rattle.diagram.specs.Diagram.{Diagram, leads, root}
 use Rattle.diagram.specs.Steps.{close, enter, forkAt, joinInto, yield}
 use Rattle.lists.proofs.Cases.{cases, either, or-cases, or-false, or-left, or-right, same-truth, split}
 use Rattle.lists.proofs.Places.{insert-pair, insert-self, insert-sub, remove-sub}
 use Rattle.lists.proofs.Sublists.{pair-self, pair-trans}

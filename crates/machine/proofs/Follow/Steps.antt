@@ -9,23 +9,23 @@ use native.Mathlib.Omega.{arith}
 use lib.ListN.{length}
 use lib.Dec.{eqb}
 use borrow.Author.Tests.{eqb-false, eqb-true, ne-eqb}
 use Rattle.diagram.proofs.Days.Moves.{CanEnter, CanFork, CanJoin, enters, joinsInto, forksAt}
 use Rattle.diagram.proofs.Days.Yielding.{sound-close}
-use Rattle.diagram.proofs.Follow.Agrees.{Agree, inherited-step, ordered, terminal-low}
+use Rattle.machine.proofs.Follow.Agrees.{Agree, inherited-step, ordered, terminal-low}
 use Rattle.diagram.proofs.Graph.Paths.{Ordered, one-more}
 use Rattle.diagram.proofs.Graph.Tables.{tabulate-newest, tabulate-older}
-use Rattle.diagram.proofs.Marks.Joinable.{J, J-enter, J-join-other, J-joiner, J-fork-copy, J-fork-new, J-fork-old, J-fork-self}
-use Rattle.diagram.proofs.Marks.Joinable.{marked-moves, marks-close}
-use Rattle.diagram.proofs.Marks.Terminals.{caught, caught-join, caught-joiner, caught-other, caught-own, caught-fork, caught-forked}
+use Rattle.machine.proofs.Marks.Joinable.{J, J-enter, J-join-other, J-joiner, J-fork-copy, J-fork-new, J-fork-old, J-fork-self}
+use Rattle.machine.proofs.Marks.Joinable.{marked-moves, marks-close}
+use Rattle.machine.proofs.Marks.Terminals.{caught, caught-join, caught-joiner, caught-other, caught-own, caught-fork, caught-forked}
 use Rattle.diagram.proofs.Order.Growth.{Fine, fine-moves}
 use Rattle.diagram.proofs.Order.Inherited.{inherited, inherited-older, inherited-start, view-split-own}
 use Rattle.diagram.proofs.Order.Numbered.{numbered-moves}
 use Rattle.diagram.specs.Checks.{notJoinable}
 use Rattle.diagram.specs.Day.{Day, IsOut}
 use Rattle.diagram.specs.Diagram.{Diagram, Vertex, event, fork, join, start}
 use Rattle.diagram.specs.Effects.{entry, own, ownStep, viewStep}
-use Rattle.diagram.specs.Machine.{Machine, enterOn, forkOn, joinOn, revisionOf, yieldOn}
+use Rattle.machine.specs.Machine.{Machine, enterOn, forkOn, joinOn, revisionOf, yieldOn}
 use Rattle.diagram.specs.Steps.{close, enter, entersInto, newUpdate, forkAt, joinInto, yield}
 use Rattle.lists.proofs.Cases.{cases, split}
 use Rattle.lists.proofs.Changed.{changed-other, changed-same}
 use Rattle.lists.specs.Lists.{changed, remove}

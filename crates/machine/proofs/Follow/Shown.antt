@@ -4,20 +4,20 @@ use mathlib.Core.Bool.{true}
 use mathlib.Core.Path.{_∙_, _≡_, ap, refl, subst, sym}
 use mathlib.Core.List.{List, List·Nodup, Nodup·sublist, [], _++_, _∷_}
 use Rattle.blocks.specs.Blocks.{Good, blocks}
 use Rattle.diagram.proofs.Arranged.Advance.{contents}
 use Rattle.diagram.proofs.Days.Moves.{can-enter, can-fork, can-join}
 use Rattle.diagram.proofs.Days.Real.{Real}
-use Rattle.diagram.proofs.Follow.Agrees.{Agree, agree-fresh, ordered, terminal-low}
-use Rattle.diagram.proofs.Follow.Steps.{agree-enter, agree-join, agree-fork, agree-yield}
+use Rattle.machine.proofs.Follow.Agrees.{Agree, agree-fresh, ordered, terminal-low}
+use Rattle.machine.proofs.Follow.Steps.{agree-enter, agree-join, agree-fork, agree-yield}
 use Rattle.diagram.proofs.Graph.Events.{ownEvents}
 use Rattle.diagram.proofs.Graph.Visible.{view-numbers}
 use Rattle.diagram.proofs.Order.Inherited.{blocks-left, blocks-numbers, good-under, inherited, numbers-nodup, numbers-sub, view-split-own}
 use Rattle.diagram.specs.Checks.{stale}
 use Rattle.diagram.specs.Day.{Day, IsOut, fresh}
 use Rattle.diagram.specs.Diagram.{Diagram}
 use Rattle.diagram.specs.Effects.{numbers, view}
-use Rattle.diagram.specs.Machine.{Follows, Machine, freshMachine, machineAfter, machineFrom, shown}
+use Rattle.machine.specs.Machine.{Follows, Machine, freshMachine, machineAfter, machineFrom, shown}
 use Rattle.diagram.specs.Steps.{Accepted, AcceptedFrom, Event, Fork, Join, Step, Yield, accepted, after, run, runFrom}
 use Rattle.lists.proofs.Blocks.{flatBack-same}
 use Rattle.lists.proofs.Keep.{keep-sublist}
 use Rattle.lists.proofs.Places.{behind-in}

@@ -6,18 +6,18 @@ use native.Mathlib.Omega.{arith}
 use lib.ListN.{length}
 use lib.Dec.{eqb}
 use borrow.Author.Tests.{eqb-true}
 use Rattle.diagram.proofs.Graph.Events.{inheritedEvents, inheritedStep}
 use Rattle.diagram.proofs.Graph.Paths.{Ordered}
-use Rattle.diagram.proofs.Marks.Joinable.{J, J-rule, Marked, marked-fresh}
-use Rattle.diagram.proofs.Marks.Terminals.{caught}
+use Rattle.machine.proofs.Marks.Joinable.{J, J-rule, Marked, marked-fresh}
+use Rattle.machine.proofs.Marks.Terminals.{caught}
 use Rattle.diagram.proofs.Order.Growth.{fine-fresh}
 use Rattle.diagram.proofs.Order.Inherited.{inherited, inherited-along, inherited-older}
 use Rattle.diagram.proofs.Order.Numbered.{numbered-fresh}
 use Rattle.diagram.specs.Arbitration.{Numbered}
 use Rattle.diagram.specs.Day.{Day, IsOut, fresh}
 use Rattle.diagram.specs.Diagram.{Diagram, Vertex}
 use Rattle.diagram.specs.Effects.{own, tabulate}
-use Rattle.diagram.specs.Machine.{Machine, freshMachine, revisionOf}
+use Rattle.machine.specs.Machine.{Machine, freshMachine, revisionOf}
 use Rattle.lists.proofs.Cases.{cases}
 use Rattle.lists.specs.Lists.{changed}
 
