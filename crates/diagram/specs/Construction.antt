@@ -4,16 +4,16 @@ use mathlib.Core.Path.{_≡_}
 use mathlib.Core.Option.{Option, some}
 use mathlib.Core.List.{[], _∷_}
 use lib.ListN.{length}
-use Rattle.diagram.specs.Diagram.{Vertex, root, start, event, fork, join, Diagram, Path, Terminal}
+use Rattle.diagram.specs.Diagram.{root, start, event, fork, join, Diagram, Path, Terminal}
 use Rattle.diagram.specs.Effects.{startVertex, forkVertex}
 
 -- 01, "Diagram": "It is allowed only if a path leads from the fork vertex that started the joinee to the joiner's line
 -- end, and none from the joinee's own start vertex." Definition 6 has only the first half. The main revision has no
 -- fork vertex, and so is no joinee; the joiner sees its own start, and so is not its own joinee.
 pub record Joinable (d : Diagram) (joiner joinee : ℕ) : Type 0 where
-  pub forked : ℕ
-  pub is-fork : forkVertex d joinee ≡ some forked
-  pub fork-seen : Path d forked joiner
+  pub started-by : ℕ
+  pub is-fork : forkVertex d joinee ≡ some started-by
+  pub fork-seen : Path d started-by joiner
   pub start-unseen : Path d (startVertex d joinee) joiner → ⊥
 
 -- "a directed graph constructed by applying a .. sequence of the following construction steps .. to a single initial

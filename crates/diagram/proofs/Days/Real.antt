@@ -13,7 +13,7 @@ use Rattle.lists.proofs.Cases.{cases, either}
 use Rattle.lists.proofs.Changed.{changed-other, changed-same}
 use Rattle.lists.proofs.Places.{insert-back, insert-new, insert-old, remove-back, remove-gone, remove-keep}
 use Rattle.diagram.specs.Diagram.{Diagram, Vertex, event, fork, join, start}
-use Rattle.diagram.specs.Effects.{forkStep, forkVertex}
+use Rattle.diagram.specs.Effects.{forkStep, forkVertex, tabulate}
 use Rattle.diagram.specs.Day.{Day, IsOut, fresh}
 use Rattle.diagram.specs.Steps.{close, enter, newUpdate, forkAt, joinInto}
 use Rattle.diagram.proofs.Graph.Tables.{tabulate-newest, tabulate-older}
@@ -26,15 +26,18 @@ pub record Real (y : Day) (layout : List ℕ) : Type 0 where
   pub out : (r : ℕ) → IsOut y r → r ∈ layout
   pub back : (r : ℕ) → r ∈ layout → IsOut y r
   pub forks : (r : ℕ) → r < y .revisions → (r ≡ 0 → ⊥) → forkVertex (y .diagram) (y .terminal r) ≡ some (y .forkOf r)
+  pub main : forkVertex (y .diagram) (y .terminal 0) ≡ none
   pub starts-low : (r : ℕ) → y .startOf r < length (y .diagram)
   pub forks-low : (r : ℕ) → y .forkOf r < length (y .diagram)
 
 pub real-fresh : Real fresh (0 ∷ [])
+unfolding tabulate
 real-fresh = record {
   linked = linked-root;
   out = λ r o. let b : r < 1 = o .0 in let e : r ≡ 0 = omega arith in List·Memᴰ·head e;
   back = λ r i. (omega (arith, List·Memᴰ·eq-of-singleton i), refl);
   forks = λ r h n. let b : r < 1 = h in absurd (n (omega arith));
+  main = refl;
   starts-low = λ r. omega arith;
   forks-low = λ r. omega arith;
 }
@@ -47,11 +50,14 @@ module _ (y : Day) (layout : List ℕ) (R : Real y layout) where
   terminal-low r = R .linked .bound r
 
   -- a vertex that goes on from r's terminal
-  forks-on : (v : Vertex) (r : ℕ) → forkStep d (forkVertex d) v ≡ forkVertex d (y .terminal r) → (s : ℕ) → s < y .revisions → (s ≡ 0 → ⊥) → forkVertex (v ∷ d) (changed (y .terminal) r (length d) s) ≡ some (y .forkOf s)
-  forks-on v r q s h n =
+  fork-stays : (v : Vertex) (r : ℕ) → forkStep d (forkVertex d) v ≡ forkVertex d (y .terminal r) → (s : ℕ) → forkVertex (v ∷ d) (changed (y .terminal) r (length d) s) ≡ forkVertex d (y .terminal s)
+  fork-stays v r q s =
       cases (eqb s r)
-      (λ e. rw (e, tabulate-newest forkStep none v d) (q ∙ ap (λ z. forkVertex d (y .terminal z)) (sym (eqb-true s r e)) ∙ R .forks s h n))
-      (λ e. rw (e, tabulate-older forkStep none v d (y .terminal s) (terminal-low s)) (R .forks s h n))
+      (λ e. rw (e, tabulate-newest forkStep none v d) (q ∙ ap (λ z. forkVertex d (y .terminal z)) (sym (eqb-true s r e))))
+      (λ e. rw (e, tabulate-older forkStep none v d (y .terminal s) (terminal-low s)))
+
+  forks-on : (v : Vertex) (r : ℕ) → forkStep d (forkVertex d) v ≡ forkVertex d (y .terminal r) → (s : ℕ) → s < y .revisions → (s ≡ 0 → ⊥) → forkVertex (v ∷ d) (changed (y .terminal) r (length d) s) ≡ some (y .forkOf s)
+  forks-on v r q s h n = fork-stays v r q s ∙ R .forks s h n
 
   pub real-enter : (c r : ℕ) (u : Bool) → CanEnter y c r → Real (enter y c r u) layout
   real-enter c r u E = record {
@@ -59,12 +65,13 @@ module _ (y : Day) (layout : List ℕ) (R : Real y layout) where
     out = R .out;
     back = R .back;
     forks = forks-on (event (y .terminal r) c (newUpdate y u)) r refl;
+    main = fork-stays (event (y .terminal r) c (newUpdate y u)) r refl 0 ∙ R .main;
     starts-low = λ s. omega (arith, R .starts-low s);
     forks-low = λ s. omega (arith, R .forks-low s);
   }
 
   pub real-close : (c t : ℕ) → Real (close y c t) layout
-  real-close c t = record { linked = R .linked; out = R .out; back = R .back; forks = R .forks; starts-low = R .starts-low; forks-low = R .forks-low }
+  real-close c t = record { linked = R .linked; out = R .out; back = R .back; forks = R .forks; main = R .main; starts-low = R .starts-low; forks-low = R .forks-low }
 
   pub real-fork : (r : ℕ) → CanFork y r → Real (forkAt y r) (insert r (y .revisions) layout)
   real-fork r N = record {
@@ -72,6 +79,7 @@ module _ (y : Day) (layout : List ℕ) (R : Real y layout) where
     out = λ s o. cases (eqb s n) (λ e. Memᴰ·cast (eqb-true s n e) (insert-new r n layout r-in)) (λ e. insert-old r n s layout (R .out s (was s (o .0) e, rw e at (o .1))));
     back = λ s i. either (insert-back r n s layout i) (λ e. rw e (omega arith, changed-same (y .joined) n false)) (λ j. let o = R .back s j in (omega (arith, o .0), changed-other (y .joined) n false s (λ e. omega (arith, o .0)) ∙ o .1));
     forks = λ s h z. cases (eqb s n) (λ e. rw e (tabulate-newest forkStep none sv (fv ∷ d))) (λ e. rw e (tabulate-older forkStep none sv (fv ∷ d) (changed (y .terminal) r (length d) s) (fork-low s) ∙ forks-on fv r refl s (was s h e) z));
+    main = cases (eqb 0 n) (λ e. let k = eqb-true 0 n e in absurd (omega (arith, N .out .0))) (λ e. rw e (tabulate-older forkStep none sv (fv ∷ d) (changed (y .terminal) r (length d) 0) (fork-low 0) ∙ fork-stays fv r refl 0 ∙ R .main));
     starts-low = λ s. cases (eqb s n) (λ e. rw e (omega arith)) (λ e. rw e (omega (arith, R .starts-low s)));
     forks-low = λ s. cases (eqb s n) (λ e. rw e (omega arith)) (λ e. rw e (omega (arith, R .forks-low s)));
   }
@@ -103,6 +111,7 @@ module _ (y : Day) (layout : List ℕ) (R : Real y layout) where
     out = λ s o. cases (eqb s b) (λ e. absurd (gone s o (eqb-true s b e))) (λ e. remove-keep b s layout (eqb-false s b e) (R .out s (o .0, rw e at (o .1))));
     back = λ s i. let o = R .back s (remove-back b s layout i) in (o .0, changed-other (y .joined) b true s (λ e. remove-gone b layout (R .linked .inv .distinct) (Memᴰ·cast (sym e) i)) ∙ o .1);
     forks = forks-on (join (y .terminal a) (y .terminal b)) a refl;
+    main = fork-stays (join (y .terminal a) (y .terminal b)) a refl 0 ∙ R .main;
     starts-low = λ s. omega (arith, R .starts-low s);
     forks-low = λ s. omega (arith, R .forks-low s);
   }

@@ -68,6 +68,9 @@ pub record Sound (y : Day) (layout : List ℕ) (hold : ℕ → List ℕ) : Type 
 pub some≢none : {n : ℕ} (o : Option ℕ) → o ≡ some n → o ≡ none → ⊥
 some≢none {n} o p q = let z : _≡_ {A = ℕ} 0 1 = cc in omega arith
 
+pub same-some : {m n : ℕ} → some m ≡ some n → m ≡ n
+same-some e = cc
+
 pub sound-fresh : Sound fresh (0 ∷ []) (λ x. [])
 unfolding tabulate
 sound-fresh = record {

@@ -3,14 +3,14 @@ use Prim.Native.Nat.{_<_, ℕ}
 use mathlib.Core.Bool.{false, true}
 use mathlib.Core.Path.{_≡_, refl, subst, sym}
 use mathlib.Core.Logic.{_⊎_, inl, inr}
-use mathlib.Core.List.{List·Memᴰ, _∷_}
+use mathlib.Core.List.{List·Memᴰ, List·Memᴰ·head, _∷_}
 use native.Mathlib.Omega.{arith}
 use lib.ListN.{length}
 use lib.Dec.{eqb}
 use borrow.Author.Tests.{eq-eqb, eqb-false, eqb-true, ne-eqb}
-use Rattle.diagram.proofs.Graph.Paths.{Ordered, no-vertex, one-more}
-use Rattle.diagram.specs.Diagram.{Diagram, Vertex, sources}
-use Rattle.diagram.specs.Effects.{tabulate}
+use Rattle.diagram.proofs.Graph.Paths.{Ordered, leads-newest, leads-old, leads-up, no-vertex, one-more}
+use Rattle.diagram.specs.Diagram.{Diagram, Vertex, event, fork, join, leads, root, sources, start}
+use Rattle.diagram.specs.Effects.{startStep, startVertex, tabulate}
 use Rattle.lists.proofs.Cases.{split}
 
 -- the value at the newest vertex, and at an older one
@@ -34,3 +34,17 @@ by-vertex P new old (one-more {v} {d} f o) x h = pick (split (eqb x (length d)))
     pick : (eqb x (length d) ≡ true) ⊎ (eqb x (length d) ≡ false) → ((p : ℕ) → p < length d → P d p) → P (v ∷ d) x
     pick (inl e) k = subst (λ y. P (v ∷ d) y) (sym (eqb-true x (length d) e)) (new v d f k)
     pick (inr e) k = let q = eqb-false x (length d) e in let l : x < length d = omega arith in old v d x l (k x l)
+
+-- every vertex sees its start vertex
+pub start-leads : {d : Diagram} → Ordered d → (x : ℕ) → x < length d → leads d (startVertex d x) x ≡ true
+start-leads o = by-vertex (λ d x. leads d (startVertex d x) x ≡ true) new old o
+  where
+    new : (v : Vertex) (d : Diagram) → ((p : ℕ) → List·Memᴰ p (sources v) → p < length d) → ((p : ℕ) → p < length d → leads d (startVertex d p) p ≡ true) → leads (v ∷ d) (startVertex (v ∷ d) (length d)) (length d) ≡ true
+    new root d f k = rw (tabulate-newest startStep 0 root d) (leads-newest root d)
+    new (start p) d f k = rw (tabulate-newest startStep 0 (start p) d) (leads-newest (start p) d)
+    new (event p c u) d f k = rw (tabulate-newest startStep 0 (event p c u) d) (leads-up (event p c u) d _ p (List·Memᴰ·head refl) (k p (f p (List·Memᴰ·head refl))))
+    new (fork p) d f k = rw (tabulate-newest startStep 0 (fork p) d) (leads-up (fork p) d _ p (List·Memᴰ·head refl) (k p (f p (List·Memᴰ·head refl))))
+    new (join p q) d f k = rw (tabulate-newest startStep 0 (join p q) d) (leads-up (join p q) d _ p (List·Memᴰ·head refl) (k p (f p (List·Memᴰ·head refl))))
+
+    old : (v : Vertex) (d : Diagram) (x : ℕ) → x < length d → leads d (startVertex d x) x ≡ true → leads (v ∷ d) (startVertex (v ∷ d) x) x ≡ true
+    old v d x h e = rw (tabulate-older startStep 0 v d x h, leads-old v d (startVertex d x) x h) e

@@ -1,26 +1,29 @@
 -- Every run makes a revision diagram of 002's Definition 6: the revisions that are out end in its terminals.
 use Prim.Native.Nat.{_<_, suc, ℕ}
 use mathlib.Core.Bool.{Bool, false, false≢true, true}
-use mathlib.Core.Path.{_∙_, _≡_, ap, refl, sym}
-use mathlib.Core.Logic.{_⊎_, inl, inr}
+use mathlib.Core.Path.{_∙_, _≡_, ap, refl, subst, sym}
+use mathlib.Core.Logic.{_↔_, _⊎_, inl, inr}
 use mathlib.Core.Option.{Option, none, some}
 use mathlib.Core.List.{List, List·Memᴰ, List·Memᴰ·eq-of-singleton, List·Memᴰ·head, List·Memᴰ·not-nil, List·Memᴰ·tail, Memᴰ·append-left}
 use mathlib.Core.List.{Memᴰ·append-right, [], _++_, _∷_}
 use native.Mathlib.Omega.{arith}
 use lib.ListN.{length}
 use lib.Dec.{eqb}
-use borrow.Author.Tests.{eqb-false, eqb-true}
-use Rattle.diagram.proofs.Days.Moves.{CanEnter, CanFork, CanJoin, can-enter, can-fork, can-join}
+use borrow.Author.Tests.{eqb-false, eqb-true, ne-eqb}
+use Rattle.diagram.proofs.Days.Moves.{CanEnter, CanFork, CanJoin, can-enter, can-fork, can-join, joinable}
+use Rattle.diagram.proofs.Days.Sound.{same-some, some≢none}
 use Rattle.diagram.proofs.Graph.Paths.{Ordered, edge-bounds, leads-path, no-vertex, one-more, path-leads}
-use Rattle.diagram.proofs.Graph.Tables.{tabulate-newest, tabulate-older}
+use Rattle.diagram.proofs.Graph.Tables.{start-leads, tabulate-newest, tabulate-older}
 use Rattle.diagram.proofs.Order.Growth.{Fine, fine-fresh}
-use Rattle.diagram.proofs.Order.Runs.{along, fine-step}
+use Rattle.diagram.proofs.Order.Runs.{along, fine-run, fine-step}
+use Rattle.diagram.specs.Checks.{notJoinable}
 use Rattle.diagram.specs.Construction.{Constructed, Joinable, entered, forked, joined, rooted}
 use Rattle.diagram.specs.Day.{Day, IsOut, fresh}
-use Rattle.diagram.specs.Diagram.{Diagram, Edge, Terminal, Vertex, event, f-sources, fork, j-sources, join, newest, older, root}
-use Rattle.diagram.specs.Diagram.{s-sources, sources, start}
-use Rattle.diagram.specs.Effects.{startStep, startVertex, tabulate}
-use Rattle.diagram.specs.Steps.{Accepted, Event, Fork, Join, Step, Yield, accepted, after, close, enter, newUpdate, run, forkAt, joinInto, yield}
+use Rattle.diagram.specs.Diagram.{Diagram, Edge, Path, Terminal, Vertex, event, f-sources, fork, j-sources, join, leads, newest}
+use Rattle.diagram.specs.Diagram.{older, root, s-sources, sources, start}
+use Rattle.diagram.specs.Effects.{forkVertex, startStep, startVertex, tabulate}
+use Rattle.diagram.specs.Steps.{Accepted, Event, Fork, Join, Step, Yield, accepted, after, close, enter, forkAt, joinInto, newUpdate}
+use Rattle.diagram.specs.Steps.{run, yield}
 use Rattle.lists.proofs.Cases.{cases, split}
 use Rattle.lists.proofs.Changed.{changed-other, changed-same}
 use Rattle.lists.specs.Lists.{changed}
@@ -159,9 +162,38 @@ module _ (y : Day) (F : Fine y) (M : Made y) where
           terminal-older (λ i. List·Memᴰ·not-nil i) (λ i. List·Memᴰ·not-nil i)
           (terminals-on fv r (N .out .0) refl ordered1 refl s o (λ i. List·Memᴰ·not-nil i))
 
+  -- the rule of Definition 6 and 01, from the four parts of the check
+  rule-holds : (a b : ℕ) → IsOut y b → (b ≡ 0 → ⊥) → leads d (y .forkOf b) (y .terminal a) ≡ true → leads d (y .startOf b) (y .terminal a) ≡ false → Joinable d (y .terminal a) (y .terminal b)
+  rule-holds a b o n f g = record {
+    started-by = y .forkOf b;
+    is-fork = F .sound .real .forks b (o .0) n;
+    fork-seen = leads-path d (y .forkOf b) (y .terminal a) f;
+    start-unseen = λ p. false≢true (sym g ∙ path-leads ordered (rw (M .starts b (o .0)) at p));
+  }
+
+  -- and back: the check refuses nothing that the rule allows
+  rule-back : (a b : ℕ) → IsOut y a → IsOut y b → Joinable d (y .terminal a) (y .terminal b) → notJoinable y a b ≡ false
+  unfolding notJoinable
+  rule-back a b oa ob J = rw (ne-eqb b 0 not-main, ne-eqb b a not-self, fork-ok) start-ok
+    where
+      not-main : b ≡ 0 → ⊥
+      not-main e = some≢none (forkVertex d (y .terminal b)) (J .is-fork) (ap (λ z. forkVertex d (y .terminal z)) e ∙ F .sound .real .main)
+
+      not-self : b ≡ a → ⊥
+      not-self e = J .start-unseen (subst (Path d (startVertex d (y .terminal b))) (ap (y .terminal) e) (leads-path d _ (y .terminal b) (start-leads ordered (y .terminal b) (low b))))
+
+      is : J .started-by ≡ y .forkOf b
+      is = same-some (sym (J .is-fork) ∙ F .sound .real .forks b (ob .0) not-main)
+
+      fork-ok : leads d (y .forkOf b) (y .terminal a) ≡ true
+      fork-ok = subst (λ z. leads d z (y .terminal a) ≡ true) is (path-leads ordered (J .fork-seen))
+
+      start-ok : leads d (y .startOf b) (y .terminal a) ≡ false
+      start-ok = cases (leads d (y .startOf b) (y .terminal a)) (λ e. absurd (J .start-unseen (rw (M .starts b (ob .0)) (leads-path d (y .startOf b) (y .terminal a) e)))) (λ e. e)
+
   made-join : (a b : ℕ) → CanJoin y a b → Made (joinInto y a b)
   made-join a b H = record {
-    constructed = joined (M .constructed) (M .terminals a (H .out-a)) (M .terminals b (H .out-b)) rule;
+    constructed = joined (M .constructed) (M .terminals a (H .out-a)) (M .terminals b (H .out-b)) (rule-holds a b (H .out-b) (H .not-main) (H .fork-seen) (H .start-unseen));
     starts = starts-on jv a (H .out-a .0) refl;
     distinct = M .distinct;
     terminals = λ s o. let p = was s o in terminals-on jv a (H .out-a .0) refl two-sources refl s p (apart s b (p .0) (H .out-b .0) (not-b s o));
@@ -183,14 +215,6 @@ module _ (y : Day) (F : Fine y) (M : Made y) where
       was : (s : ℕ) → IsOut (joinInto y a b) s → IsOut y s
       was s o = (o .0, sym (changed-other (y .joined) b true s (not-b s o)) ∙ o .1)
 
-      rule : Joinable d (y .terminal a) (y .terminal b)
-      rule = record {
-        forked = y .forkOf b;
-        is-fork = F .sound .real .forks b (H .out-b .0) (H .not-main);
-        fork-seen = leads-path d (y .forkOf b) (y .terminal a) (H .fork-seen);
-        start-unseen = λ p. false≢true (sym (H .start-unseen) ∙ path-leads ordered (rw (M .starts b (H .out-b .0)) at p));
-      }
-
 made-after : (y : Day) (s : Step) → accepted y s ≡ true → Fine y → Made y → Made (after y s)
 unfolding after
 made-after y (Event c r u) e F M = made-enter y F M c r u (can-enter y c r u e)
@@ -206,3 +230,10 @@ made-after y (Join a b) e F M = made-join y F M a b (can-join y a b e)
 pub made-run : (ss : List Step) → Accepted ss → Made (run ss)
 unfolding run
 made-run ss A = along (λ y. Fine y × Made y) (λ y s e P. (fine-step y s e (P .0), made-after y s e (P .0) (P .1))) ss fresh A (fine-fresh, made-fresh) .1
+
+-- at every time of a run: the check of code 11 is the join rule
+pub joinable-iff : (ss : List Step) → Accepted ss → (a b : ℕ) → IsOut (run ss) a → IsOut (run ss) b → (notJoinable (run ss) a b ≡ false) ↔ Joinable (run ss .diagram) (run ss .terminal a) (run ss .terminal b)
+joinable-iff ss A a b oa ob =
+    let F = fine-run ss A in
+    let M = made-run ss A in
+    (λ e. let q = joinable (run ss) a b e in rule-holds (run ss) F M a b ob (eqb-false b 0 (q .0)) (q .2) (q .3), rule-back (run ss) F M a b oa ob)

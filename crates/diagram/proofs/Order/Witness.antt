@@ -8,7 +8,7 @@ use mathlib.Core.List.{List, List·Memᴰ, List·Memᴰ·head, List·Memᴰ·not
 use native.Mathlib.Omega.{arith}
 use lib.ListN.{length}
 use Rattle.diagram.proofs.Days.Moves.{CanEnter, can-enter}
-use Rattle.diagram.proofs.Days.Sound.{event-low, some≢none}
+use Rattle.diagram.proofs.Days.Sound.{event-low, same-some, some≢none}
 use Rattle.diagram.proofs.Graph.Paths.{leads-path, leads-trans, leads-up, path-older}
 use Rattle.diagram.proofs.Order.Constructed.{made-run}
 use Rattle.diagram.proofs.Order.Growth.{Fine, Older, fine-fresh, next, same}
@@ -98,9 +98,6 @@ yield-from (s ∷ ss) y A F t n q p = by (after y s .transaction t .closed) refl
 path-on : {x z : ℕ} {d e : Diagram} → Older d e → Path d x z → Path e x z
 path-on same p = p
 path-on (next o) p = path-older (path-on o p)
-
-same-some : {m n : ℕ} → some m ≡ some n → m ≡ n
-same-some e = cc
 
 -- an edge stays
 edge-older : {from : Vertex → List ℕ} {x z : ℕ} {d e : Diagram} → Older d e → Edge from x z d → Edge from x z e
