@@ -9,3 +9,4 @@ pub mod Bounded
 pub mod Kept
 pub mod Answers
 pub mod Passing
+pub mod Numbers

@@ -17,6 +17,8 @@ use Rattle.consistency.proofs.Cells.Answers.{answers}
 use Rattle.consistency.proofs.Cells.Kept.{Kept, fresh-kept, kept-after}
 use Rattle.consistency.proofs.Cells.Laid.{laid}
 use Rattle.consistency.proofs.Cells.Passing.{passing}
+use Rattle.consistency.proofs.Cells.Numbers.{numbers-follow}
+use Rattle.consistency.specs.Numbers.{NumbersFollowDays}
 use Rattle.consistency.proofs.Bytes.Ranged.{ranged}
 use Rattle.consistency.proofs.Bytes.Stored.{Stored, fresh-stored, step-stored}
 
@@ -63,3 +65,6 @@ bytes-follow ss P =
 
 pub checks-follow : ChecksFollowDays
 checks-follow ss P = passing (run ss) (cells (bytesAfter ss)) (bytes-follow ss P .follow)
+
+pub numbers-follow-days : NumbersFollowDays
+numbers-follow-days ss P = numbers-follow (run ss) (cells (bytesAfter ss)) (bytes-follow ss P .follow)

@@ -1,4 +1,5 @@
 -- What is claimed of whole days.
--- Base 3: a table that is made fresh and then used by accepted steps alone agrees with the plain day of revisions.
+-- A table that is made fresh and then used by accepted steps alone agrees with the plain day of revisions.
 pub mod Reached
 pub mod Follow
+pub mod Numbers

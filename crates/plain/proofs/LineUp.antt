@@ -6,8 +6,7 @@ use mathlib.Core.Option.{Option, none, some}
 use mathlib.Core.List.{List, List·Memᴰ·head, List·Memᴰ·tail, [], _++_, _∷_, append-assoc, append-nil}
 use native.Mathlib.Omega.{arith}
 use lib.ListN.{length}
-use borrow.Author.Tests.{ltb-true, not-false}
-use Rattle.diagram.proofs.Days.Accepting.{meant-given}
+use Rattle.diagram.proofs.Days.Accepting.{meant-low}
 use Rattle.diagram.proofs.Days.Moves.{step-moves}
 use Rattle.diagram.proofs.Graph.Visible.{visible}
 use Rattle.diagram.proofs.Order.Growth.{Fine, extends, fine-fresh}
@@ -52,10 +51,6 @@ ofBib-same f g bib (n ∷ ns) h = rw (h n (List·Memᴰ·head refl), ofBib-same 
 linesOf-same : (f g : ℕ → Entry) (ns : List ℕ) → ((n : ℕ) → n ∈ ns → f n ≡ g n) → linesOf f ns ≡ linesOf g ns
 linesOf-same f g [] h = refl
 linesOf-same f g (n ∷ ns) h = rw (h n (List·Memᴰ·head refl), linesOf-same f g ns (λ m i. h m (List·Memᴰ·tail i)))
-
--- a revision that a number means is one of the day's
-meant-low : (y : Day) (n r : ℕ) → meant y n ≡ some r → r < y .revisions
-meant-low y n r e = ltb-true r (y .revisions) (not-false _ (meant-given y n r e))
 
 -- a list of calls as a run of steps
 accepts : (cs : List Call) → Accepted (stepsAfter cs)

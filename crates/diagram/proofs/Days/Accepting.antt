@@ -1,21 +1,42 @@
 -- The other way: where no check applies, the step is accepted; and what a number means was given out.
-use Prim.Native.Nat.{ℕ}
-use mathlib.Core.Bool.{Bool, true, false, not, _&&_}
-use mathlib.Core.Path.{_≡_, refl}
+use Prim.Native.Nat.{_<_, _≤_, suc, ℕ}
+use mathlib.Core.Bool.{Bool, _&&_, false, true}
+use mathlib.Core.Path.{_≡_, ap}
 use mathlib.Core.Option.{none, some}
 use native.Mathlib.Omega.{arith}
 use lib.Dec.{ltb}
+use borrow.Author.Tests.{lt-ltb, ltb-true, not-false}
+use Rattle.diagram.specs.Checks.{busy, busyByOther, logFull, noneLeft, notJoinable, openElsewhere, stale, unknownClient}
+use Rattle.diagram.specs.Day.{Day, meant, nextNumber}
+use Rattle.diagram.specs.Steps.{Event, Fork, Join, Yield, accepted, after, notGiven}
 use Rattle.lists.proofs.Cases.{cases}
-use Rattle.diagram.specs.Day.{Day, meant}
-use Rattle.diagram.specs.Checks.{unknownClient, openElsewhere, busyByOther, busy, stale, logFull, noneLeft, notJoinable}
-use Rattle.diagram.specs.Steps.{Event, Yield, Fork, Join, notGiven, accepted}
+
+pub meant-same : (y : Day) (n r : ℕ) → meant y n ≡ some r → n ≡ r
+unfolding meant
+meant-same y n r e =
+    cases (ltb n (y .revisions))
+    (λ t. let q : some n ≡ some r = rw t at e in cc)
+    (λ t. let q : none ≡ some r = rw t at e in let z : _≡_ {A = ℕ} 0 1 = cc in absurd (omega arith))
 
 pub meant-given : (y : Day) (n r : ℕ) → meant y n ≡ some r → notGiven y r ≡ false
 unfolding meant
 meant-given y n r e =
     cases (ltb n (y .revisions))
-    (λ t. let q : some n ≡ some r = rw t at e in let s : n ≡ r = cc in rw (← s, t))
+    (λ t. rw (← meant-same y n r e, t))
     (λ t. let q : none ≡ some r = rw t at e in let z : _≡_ {A = ℕ} 0 1 = cc in absurd (omega arith))
+
+-- a number means a revision of the day
+pub meant-low : (y : Day) (n r : ℕ) → meant y n ≡ some r → r < y .revisions
+meant-low y n r e = ltb-true r (y .revisions) (not-false _ (meant-given y n r e))
+
+-- it goes on meaning it, and the number that a fork gives means the new revision
+pub meant-stays : (y z : Day) (n r : ℕ) → y .revisions ≤ z .revisions → meant y n ≡ some r → meant z n ≡ some r
+unfolding meant
+meant-stays y z n r h e = let l = meant-low y n r e in let q = meant-same y n r e in rw (lt-ltb n (z .revisions) (omega arith)) (ap some q)
+
+pub meant-new : (y : Day) (r : ℕ) → meant (after y (Fork r)) (nextNumber y) ≡ some (y .revisions)
+unfolding meant nextNumber after
+meant-new y r = rw (lt-ltb (y .revisions) (suc (y .revisions)) (omega arith))
 
 module _ (y : Day) where
   pub accept-event : (c r : ℕ) (u : Bool) → unknownClient c ≡ false → notGiven y r ≡ false → y .joined r ≡ false → openElsewhere y c r ≡ false
