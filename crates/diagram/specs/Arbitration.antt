@@ -40,11 +40,11 @@ pub record Shows (y : Day) (order : List ℕ) (x : ℕ) (updates : List ℕ) : T
   pub exactly : Only (Sees y x) (flat (eventsOf y) order) seen
   pub are : updates ≡ numbers (y .diagram) seen
 
--- the updates taken, each by one vertex, are numbered from 0 to n - 1
+-- the updates taken are numbered from 0 to n - 1, in the order entered
 pub record Numbered (d : Diagram) (n : ℕ) : Type 0 where
   pub inside : (e k : ℕ) → number d e ≡ some k → e < length d
   pub low : (e k : ℕ) → number d e ≡ some k → k < n
-  pub one : (e f k : ℕ) → number d e ≡ some k → number d f ≡ some k → e ≡ f
+  pub rising : (e f k m : ℕ) → number d e ≡ some k → number d f ≡ some m → e < f → k < m
   pub all : (k : ℕ) → k < n → (e : ℕ) × (number d e ≡ some k)
 
 -- of transaction t the vertex x sees all events, or none

@@ -45,7 +45,31 @@ examples =
     ∷ example (Join 0 0 ∷ Event 3 0 false ∷ Join 0 0 ∷ []) (false ∷ true ∷ false ∷ [])
     -- E7: "Two yields in a row: both taken."
     ∷ example (Event 3 0 true ∷ Yield 3 ∷ Yield 3 ∷ []) (true ∷ true ∷ true ∷ [])
+    -- 2: clients 0 to 15
+    ∷ example (Event 15 0 true ∷ Event 16 0 true ∷ Yield 16 ∷ Yield 15 ∷ []) (true ∷ false ∷ false ∷ true ∷ [])
+    -- 3 and 7: a client goes on with its own transaction, another waits, and a revision not yet started is refused
+    ∷ example (Event 0 0 true ∷ Event 0 0 false ∷ Event 1 0 true ∷ Fork 0 ∷ Fork 5 ∷ []) (true ∷ true ∷ false ∷ false ∷ false ∷ [])
+    -- 6 and 8: the client's transaction is on another revision; after its yield its last event is not seen there
+    ∷ example (Fork 0 ∷ Event 0 0 false ∷ Event 0 1 true ∷ Yield 0 ∷ Event 0 1 true ∷ Event 0 0 true ∷ []) (true ∷ true ∷ false ∷ true ∷ false ∷ true ∷ [])
+    -- 4: a joined revision is out no more
+    ∷ example (Fork 0 ∷ Join 0 1 ∷ Event 0 1 false ∷ Fork 1 ∷ Join 0 1 ∷ []) (true ∷ true ∷ false ∷ false ∷ false ∷ [])
     ∷ []
+
+-- a day with this many updates taken and revisions started
+abbrev pub withCounts : ℕ → ℕ → Day
+withCounts updates revisions = record {
+  diagram = root ∷ [];
+  revisions = revisions;
+  startOf = fresh .startOf;
+  forkOf = fresh .forkOf;
+  terminal = fresh .terminal;
+  joined = fresh .joined;
+  updates = updates;
+  lastEvent = fresh .lastEvent;
+  openBy = fresh .openBy;
+  transactions = 0;
+  transaction = fresh .transaction;
+}
 
 abbrev pub expected : List Example → List (List Bool)
 expected [] = []

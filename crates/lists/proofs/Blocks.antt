@@ -5,7 +5,7 @@ use mathlib.Core.Logic.{_⊎_, inl, inr, ∥∥₁-elim}
 use mathlib.Core.HLevel.{⊥-prop}
 use mathlib.Core.List.{List, List·Memᴰ·append-cases, List·Memᴰ·cases-cons, List·Memᴰ·head, List·Memᴰ·not-nil, List·Memᴰ·tail, List·Nodup}
 use mathlib.Core.List.{Memᴰ·append-left, Memᴰ·append-right, Nodup·of-append-left, Nodup·of-append-right, Sublistᴰ·cons, Sublistᴰ·cons-cons, Sublistᴰ·refl, Sublistᴰ·trans, [], _++_, _∷_}
-use mathlib.Core.List.{append-assoc, map, nodup-cons, nodup-nil}
+use mathlib.Core.List.{append-assoc, nodup-cons, nodup-nil}
 use lib.Dec.{eqb}
 use borrow.Author.Tests.{eqb-false, eqb-true}
 use Rattle.lists.proofs.Cases.{cases, either}
@@ -94,10 +94,6 @@ flatBack-from hold t (z ∷ l) i = pick (List·Memᴰ·append-cases (flatBack ho
 pub flatBack-same : (f g : ℕ → List ℕ) (l : List ℕ) → ((x : ℕ) → x ∈ l → f x ≡ g x) → flatBack f l ≡ flatBack g l
 flatBack-same f g [] h = refl
 flatBack-same f g (x ∷ l) h = rw (h x (List·Memᴰ·head refl), flatBack-same f g l (λ z i. h z (List·Memᴰ·tail i)))
-
-pub flatBack-map : (g : ℕ → List ℕ) (f : ℕ → ℕ) (l : List ℕ) → flatBack g (map f l) ≡ flatBack (λ x. g (f x)) l
-flatBack-map g f [] = refl
-flatBack-map g f (x ∷ l) = rw (flatBack-map g f l)
 
 pub flatBack-one : (hold : ℕ → List ℕ) (l : List ℕ) → List·Nodup (flatBack hold l) → (x z t : ℕ) → x ∈ l → z ∈ l → t ∈ hold x → t ∈ hold z → x ≡ z
 flatBack-one hold [] d x z t i j p q = absurd (List·Memᴰ·not-nil i)

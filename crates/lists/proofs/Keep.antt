@@ -22,10 +22,6 @@ pub in-member : (u : ℕ) (l : List ℕ) → u ∈ l → member u l ≡ true
 in-member u (x ∷ l) (List·Memᴰ·head q) = or-left (eqb u x) (member u l) (eq-eqb u x q)
 in-member u (x ∷ l) (List·Memᴰ·tail i) = or-right (eqb u x) (member u l) (in-member u l i)
 
-pub keep-same : (p q : ℕ → Bool) (l : List ℕ) → ((x : ℕ) → p x ≡ q x) → keep p l ≡ keep q l
-keep-same p q [] h = refl
-keep-same p q (x ∷ l) h = rw (h x, keep-same p q l h)
-
 pub keep-in : (p q : ℕ → Bool) (l : List ℕ) → ((x : ℕ) → x ∈ l → p x ≡ q x) → keep p l ≡ keep q l
 keep-in p q [] h = refl
 keep-in p q (x ∷ l) h = rw (h x (List·Memᴰ·head refl), keep-in p q l (λ z i. h z (List·Memᴰ·tail i)))

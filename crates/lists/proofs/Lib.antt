@@ -5,6 +5,5 @@ pub mod Sublists
 pub mod Places
 pub mod Blocks
 pub mod Keep
-pub mod Maps
 pub mod Counts
 pub mod Grown

@@ -1,6 +1,6 @@
 -- Words for lists of numbers: membership, order, one element put in or taken out, what passes a test, blocks in a row.
 use Prim.Native.Nat.{ℕ}
-use mathlib.Core.Bool.{Bool, true, false, cond, _||_}
+use mathlib.Core.Bool.{Bool, false, cond, _||_}
 use mathlib.Core.List.{List, [], _∷_, _++_, List·Memᴰ, Sublistᴰ}
 use lib.Dec.{eqb}
 

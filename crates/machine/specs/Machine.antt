@@ -1,6 +1,6 @@
 -- The layout machine: a day without its diagram, as lists and marks. A table keeps this, and `Follows` says that it is
 -- the day's. The servers' sets J of 002, section 4.3, are `joinable`.
-use Prim.Native.Nat.{ℕ, suc, _<_}
+use Prim.Native.Nat.{ℕ, suc}
 use mathlib.Core.Bool.{Bool, true, false, cond, not, _||_}
 use mathlib.Core.Path.{_≡_}
 use mathlib.Core.Option.{Option, none, some}
@@ -9,7 +9,7 @@ use lib.Dec.{eqb}
 use Rattle.lists.specs.Lists.{_∈_, changed, insert, remove, member, keep, flatBack, behind}
 use Rattle.diagram.specs.Effects.{entry, own, view}
 use Rattle.diagram.specs.Day.{Transaction, Day, IsOut}
-use Rattle.diagram.specs.Checks.{missing, stale, notJoinable}
+use Rattle.diagram.specs.Checks.{stale, notJoinable}
 use Rattle.diagram.specs.Steps.{Step, Event, Yield, Fork, Join}
 
 pub record Machine : Type 0 where

@@ -4,7 +4,6 @@ use Prim.Native.Nat.{ℕ, suc, _*_}
 use mathlib.Core.Bool.{Bool, true, false, _||_}
 use mathlib.Core.Path.{_≡_, refl}
 use mathlib.Core.Option.{Option, none, some}
-use mathlib.Core.List.{[]}
 use native.Mathlib.Omega.{arith}
 use lib.ListN.{length}
 use lib.Dec.{ltb}
@@ -17,7 +16,7 @@ use Rattle.diagram.specs.Effects.{own, view}
 use Rattle.diagram.specs.Day.{meant, nextNumber}
 use Rattle.diagram.specs.Checks.{unknownClient, openElsewhere, busyByOther, busy, stale, logFull, noneLeft, notJoinable}
 use Rattle.diagram.specs.Steps as Steps
-use Rattle.diagram.specs.Steps.{notGiven, accepted}
+use Rattle.diagram.specs.Steps.{accepted}
 use Rattle.diagram.proofs.Days.Accepting.{meant-given, accept-event, accept-yield, accept-fork, accept-join}
 use Rattle.plain.specs.Calls.{Update, Query, Yield, Fork, Join, Show}
 use Rattle.plain.specs.Record.{PlainDay, pathResult, noted}

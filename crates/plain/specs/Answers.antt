@@ -1,7 +1,7 @@
 -- What each call answers and does to the day: 01, "Codes of the desk". "The checks run in ascending number, and the first
 -- that applies ends the call." Code 1 does not arise here.
 use Prim.Native.Nat.{ℕ, _*_}
-use mathlib.Core.Bool.{Bool, true, false, cond, not, _||_}
+use mathlib.Core.Bool.{Bool, false, cond, not, _||_}
 use mathlib.Core.Option.{Option, none, some}
 use mathlib.Core.List.{List, [], _∷_}
 use lib.ListN.{length}
@@ -11,11 +11,11 @@ use Rattle.updates.specs.declared.kind.KindCheck.{KindCheck}
 use Rattle.updates.specs.declared.kind.KindCheck.the-variants.{Known, Unknown}
 use Rattle.updates.specs.Kinds.{kindCheck}
 use Rattle.diagram.specs.Effects.{own, view}
-use Rattle.diagram.specs.Day.{Day, meant, nextNumber}
+use Rattle.diagram.specs.Day.{meant, nextNumber}
 use Rattle.diagram.specs.Checks.{unknownClient, openElsewhere, busyByOther, busy, stale, logFull, noneLeft, notJoinable}
 use Rattle.diagram.specs.Steps as Steps
 use Rattle.diagram.specs.Steps.{after}
-use Rattle.plain.specs.Calls.{Call, Update, Query, Yield, Fork, Join, Show, Answer, Line}
+use Rattle.plain.specs.Calls.{Call, Update, Query, Yield, Fork, Join, Show, Answer}
 use Rattle.plain.specs.Record.{PlainDay, freshDay, pathResult, linesOf, noted}
 
 pub record Outcome : Type 0 where

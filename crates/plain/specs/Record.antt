@@ -1,6 +1,6 @@
 -- The day kept on paper: 01, "The plain day and its line-up". The day of revisions, with what each update was.
 use Prim.Native.Nat.{ℕ}
-use mathlib.Core.Bool.{Bool, true, false, cond}
+use mathlib.Core.Bool.{true, cond}
 use mathlib.Core.List.{List, [], _∷_}
 use lib.Dec.{eqb}
 use Rattle.lists.specs.Lists.{changed}

@@ -1,7 +1,7 @@
 -- Laws about the definitions by name, for the crates above: they need no definition's text.
 use Prim.Native.Nat.{ℕ, _<_, _^_}
 use mathlib.Core.Bool.{Bool, true, false}
-use mathlib.Core.Path.{_≡_, refl, sym, _∙_, ap}
+use mathlib.Core.Path.{_≡_, refl, _∙_, ap}
 use mathlib.Core.List.{List, [], _∷_, _++_}
 use native.Mathlib.Omega.{arith}
 use lib.Dec.{eqb, ltb}
@@ -12,7 +12,7 @@ use Rattle.updates.specs.Applied.{Update, applied}
 use Rattle.updates.specs.declared.kind.Kind.{Kind}
 use Rattle.updates.specs.declared.kind.Kind.the-variants.{Time, Earliest, Penalty, Strike}
 use Rattle.updates.specs.declared.kind.KindCheck.{KindCheck}
-use Rattle.updates.specs.declared.kind.KindCheck.the-variants.{Known, Unknown}
+use Rattle.updates.specs.declared.kind.KindCheck.the-variants.{Known}
 
 -- a kind's own number names it
 pub check-number : (k : Kind) → kindCheck (kindNumber k) ≡ Known k

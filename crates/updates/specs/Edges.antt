@@ -5,7 +5,7 @@ use mathlib.Core.List.{List, [], _∷_}
 use lib.Dec.{eqb}
 use Rattle.updates.specs.Applied.{Update, applied, freshValue}
 use Rattle.updates.specs.declared.kind.Kind.{Kind}
-use Rattle.updates.specs.declared.kind.Kind.the-variants.{Time, Earliest, Penalty}
+use Rattle.updates.specs.declared.kind.Kind.the-variants.{Time, Earliest, Penalty, Strike}
 
 pub record Edge : Type 0 where
   pub updates : List Update
@@ -25,6 +25,11 @@ edges =
     ∷ edge (update Time 0 ∷ update Earliest 9 ∷ []) 9
     ∷ edge (update Time 9 ∷ update Earliest 0 ∷ []) 9
     ∷ edge (update Time 9 ∷ update Earliest 9 ∷ []) 9
+    -- "the smaller of value and v", in either order
+    ∷ edge (update Time 9 ∷ update Earliest 5 ∷ []) 5
+    ∷ edge (update Time 5 ∷ update Earliest 9 ∷ []) 5
+    -- "Strike: the value becomes 0; v isn't looked at"
+    ∷ edge (update Time 9 ∷ update Strike 5 ∷ []) 0
     ∷ []
 
 unfoldable pub holds : List Edge → Bool

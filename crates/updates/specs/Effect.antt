@@ -1,6 +1,5 @@
 -- What one update makes of a value: 01, "Updates (each total)".
-use Prim.Native.Nat.{ℕ, _+_, _%_, _^_}
-use mathlib.Core.Bool.{Bool, true, false}
+use Prim.Native.Nat.{ℕ, _+_, _%_}
 use lib.Dec.{eqb, ltb}
 use Rattle.updates.specs.Kinds.{pick}
 use Rattle.updates.specs.declared.kind.Kind.{Kind}

@@ -17,7 +17,7 @@ use Rattle.machine.specs.Machine.{Machine, enterOn, freshMachine, joinOn, machi
 use Rattle.diagram.specs.Steps.{Event, Fork, Join, Step, Yield, accepted, after, noneOf, notGiven}
 use Rattle.diagram.proofs.Days.Moves.{can-enter, can-fork, can-join}
 use Rattle.machine.proofs.Follow.Agrees.{Agree, agree-fresh}
-use Rattle.machine.proofs.Follow.Shown.{follows}
+use Rattle.machine.proofs.Follow.Shown.{agree-after, follows}
 use Rattle.cells.specs.Sizes.{clients, main, revisions, updates}
 use Rattle.cells.specs.Cells.{Cells, chain}
 use Rattle.cells.specs.CellSteps.{freshCells}
@@ -26,7 +26,7 @@ use Rattle.consistency.proofs.Cells.Bounded.{Bounded, close-bounded, fo
 use Rattle.consistency.proofs.Cells.Entering.{queries, updates-on, yields}
 use Rattle.consistency.proofs.Cells.Forking.{forks}
 use Rattle.consistency.proofs.Cells.Joining.{joins}
-use Rattle.consistency.proofs.Cells.Laid.{Laid, agree-after, laid}
+use Rattle.consistency.proofs.Cells.Laid.{Laid, laid}
 use Rattle.consistency.proofs.Cells.Represents.{Represents, out-low}
 
 pub record Kept (y : Day) (m : Machine) (k : Cells) : Type 0 where

@@ -1,8 +1,7 @@
 -- What the layout machine's lists are on a day: nothing stands twice, and every number is one that was given.
 -- Only here is what `diagram` proves of its layout taken apart.
 use Prim.Native.Nat.{_<_, _≤_, ℕ}
-use mathlib.Core.Bool.{true}
-use mathlib.Core.Path.{_∙_, _≡_, refl, subst, sym}
+use mathlib.Core.Path.{_∙_, _≡_, subst, sym}
 use mathlib.Core.List.{List, List·Nodup}
 use lib.ListN.{length}
 use Rattle.lists.specs.Lists.{_∈_, flatBack}
@@ -12,13 +11,10 @@ use Rattle.blocks.specs.Blocks.{blocks}
 use Rattle.diagram.specs.Day.{Day, IsOut}
 use Rattle.diagram.specs.Diagram.{Diagram}
 use Rattle.diagram.specs.Effects.{entry, number, numbers}
-use Rattle.machine.specs.Machine.{Machine, machineAfter}
-use Rattle.diagram.specs.Steps.{Event, Fork, Join, Step, Yield, accepted, after}
+use Rattle.machine.specs.Machine.{Machine}
 use Rattle.diagram.proofs.Arranged.Advance.{contents}
-use Rattle.diagram.proofs.Days.Moves.{can-enter, can-fork, can-join}
 use Rattle.diagram.proofs.Days.Real.{Real}
 use Rattle.machine.proofs.Follow.Agrees.{Agree, ordered, terminal-low}
-use Rattle.machine.proofs.Follow.Steps.{agree-enter, agree-join, agree-fork, agree-yield}
 use Rattle.diagram.proofs.Graph.Events.{inheritedEvents, ownEvents}
 use Rattle.diagram.proofs.Graph.Visible.{view-numbers}
 use Rattle.diagram.proofs.Order.Inherited.{blocks-numbers, entry-is, numbers-nodup}
@@ -66,11 +62,3 @@ module _ (y : Day) (m : Machine) (A : Agree y m) where
         own-low = λ r i u j. low (ownEvents d (y .terminal r)) u (rw (own-numbers r i) at j);
         inherited-low = λ r i u j. low (inheritedEvents d (y .terminal r)) u (rw (A .same-inherited r (out r i)) at j);
       }
-
--- each step keeps the agreement of machine and day
-pub agree-after : (y : Day) (m : Machine) (s : Step) → accepted y s ≡ true → Agree y m → Agree (after y s) (machineAfter m s)
-unfolding after machineAfter
-agree-after y m (Event c r u) e A = agree-enter y m A c r u (can-enter y c r u e)
-agree-after y m (Yield c) e A = agree-yield y m A c (y .openBy c) refl
-agree-after y m (Fork r) e A = agree-fork y m A r (can-fork y r e)
-agree-after y m (Join a b) e A = agree-join y m A a b (can-join y a b e)

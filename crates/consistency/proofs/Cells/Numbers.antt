@@ -1,17 +1,15 @@
 -- What is shown of revisions, said of the numbers that mean them.
 use Prim.Native.Nat.{ℕ, _<_}
-use mathlib.Core.Bool.{not, false}
-use mathlib.Core.Path.{_≡_, _∙_, sym, subst}
-use mathlib.Core.Option.{some}
+use mathlib.Core.Path.{_∙_, sym, subst}
 use lib.Dec.{ltb}
 use Rattle.lists.proofs.Cases.{cases}
-use Rattle.diagram.specs.Day.{Day, IsOut, meant}
+use Rattle.diagram.specs.Day.{Day, meant}
 use Rattle.diagram.specs.Checks
 use Rattle.diagram.proofs.Days.Accepting.{meant-low, meant-same}
 use Rattle.cells.specs.Cells.{Cells}
 use Rattle.cells.specs.Checks as Asked
 use Rattle.consistency.specs.Follow.{CellsFollow}
-use Rattle.consistency.specs.Numbers.{Number, NumberOut, NumbersFollow, isGiven}
+use Rattle.consistency.specs.Numbers.{Number, NumbersFollow}
 
 module _ (y : Day) (k : Cells) (F : CellsFollow y k) where
   of-revision : (r : ℕ) → r < y .revisions → Number y k r r

@@ -5,22 +5,22 @@ use mathlib.Core.Path.{_∙_, _≡_, ap, refl, subst, sym}
 use mathlib.Core.Logic.{_⊎_, inl, inr}
 use mathlib.Core.Option.{Option, none, some}
 use mathlib.Core.List.{List, List·Memᴰ, List·Memᴰ·append-cases, List·Memᴰ·cases-cons, List·Memᴰ·eq-of-singleton, List·Memᴰ·head}
-use mathlib.Core.List.{List·Memᴰ·not-nil, List·Memᴰ·tail, List·Nodup, Memᴰ·append-left, Memᴰ·append-right, Memᴰ·cast, Sublistᴰ·append}
+use mathlib.Core.List.{List·Memᴰ·not-nil, List·Memᴰ·tail, Memᴰ·append-left, Memᴰ·append-right, Memᴰ·cast, Sublistᴰ·append}
 use mathlib.Core.List.{Sublistᴰ·cons, Sublistᴰ·refl, Sublistᴰ·slnil, [], _++_, _∷_, nodup-cons, nodup-nil, not-mem-nil}
 use native.Mathlib.Omega.{arith}
 use lib.ListN.{length}
 use lib.Dec.{eqb}
 use borrow.Author.Tests.{eq-eqb, eqb-false, eqb-true, ne-eqb}
 use Rattle.blocks.proofs.Invariant.{fork-inv, join-inv, update-inv}
-use Rattle.blocks.proofs.Past.{held-grow, held-join, held-order}
+use Rattle.blocks.proofs.Past.{held-grow, held-join}
 use Rattle.blocks.specs.Blocks.{Contents, Held, Inv, blocks, forkContents, forkJ, grow, joinJ, seen}
-use Rattle.diagram.proofs.Arranged.Advance.{Linked, May, advance, contents, inv-same, linked-fork, may, may-next, may-true, next, on}
+use Rattle.diagram.proofs.Arranged.Advance.{Linked, May, advance, contents, inv-same, may, may-next, may-true, next, on}
 use Rattle.diagram.proofs.Arranged.Advance.{on-bound, on-other, on-self, one-may, one-older, sees-before, sees-on, sees-other}
 use Rattle.diagram.proofs.Arranged.Advance.{true-may, unseen-before}
-use Rattle.diagram.proofs.Graph.Events.{inherited-from, inheritedStep, ownEventStep, ownEvents, path-view, view-split, viewEventStep, viewEvents}
+use Rattle.diagram.proofs.Graph.Events.{inherited-from, inheritedStep, ownEventStep, ownEvents, view-split, viewEventStep, viewEvents}
 use Rattle.diagram.proofs.Graph.Paths.{Ordered, leads-path, no-vertex, one-more, path-start}
 use Rattle.diagram.proofs.Graph.Tables.{tabulate-older}
-use Rattle.diagram.specs.Diagram.{Diagram, Path, Vertex, event, fork, join, leads, root, sources, start}
+use Rattle.diagram.specs.Diagram.{Diagram, Vertex, event, fork, join, leads, root, sources, start}
 use Rattle.diagram.specs.Effects.{forkStep, forkVertex, tabulate}
 use Rattle.lists.proofs.Cases.{cases, either, or-left, or-right, split}
 use Rattle.lists.proofs.Changed.{changed-other, changed-same}

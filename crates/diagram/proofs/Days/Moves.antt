@@ -1,17 +1,17 @@
 -- What is known when a step is accepted: the checks are unpacked here, and nowhere else.
 use Prim.Native.Nat.{ℕ, zero, suc, _<_}
-use mathlib.Core.Bool.{Bool, true, false, not, _||_, _&&_}
-use mathlib.Core.Path.{_≡_, refl}
+use mathlib.Core.Bool.{Bool, true, false, not, _&&_}
+use mathlib.Core.Path.{_≡_}
 use mathlib.Core.Logic.{_⊎_, inl, inr}
 use mathlib.Core.Option.{some}
 use native.Mathlib.Omega.{arith}
-use lib.Dec.{eqb, ltb}
+use lib.Dec.{eqb}
 use borrow.Author.Tests.{eqb-true, eqb-false, ne-eqb, ltb-true, not-true, not-false}
 use Rattle.lists.proofs.Cases.{split, or-false, and-true}
 use Rattle.diagram.specs.Sizes.{clientLimit}
 use Rattle.diagram.specs.Diagram.{leads}
 use Rattle.diagram.specs.Day.{Day, IsOut}
-use Rattle.diagram.specs.Checks.{unknownClient, isOn, isElsewhere, anyBelow, openElsewhere, busyByOther, busy, missing, stale, notJoinable}
+use Rattle.diagram.specs.Checks.{unknownClient, isOn, anyBelow, openElsewhere, busyByOther, busy, stale, notJoinable}
 use Rattle.diagram.specs.Steps.{Step, Event, Yield, Fork, Join, notGiven, accepted, enter, yield, forkAt, joinInto, after}
 
 pub any-below : (n : ℕ) (f : ℕ → Bool) → anyBelow n f ≡ false → (c : ℕ) → c < n → f c ≡ false

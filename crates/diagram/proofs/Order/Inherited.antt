@@ -16,6 +16,7 @@ use Rattle.diagram.proofs.Graph.Events.{inheritedEvents, inheritedStep,
 use Rattle.diagram.proofs.Graph.Paths.{Ordered, path-start}
 use Rattle.diagram.proofs.Graph.Tables.{tabulate-newest, tabulate-older}
 use Rattle.diagram.proofs.Graph.Visible.{numbers-old, view-numbers, view-paths}
+use Rattle.diagram.proofs.Order.Numbered.{one}
 use Rattle.diagram.specs.Arbitration.{Numbered}
 use Rattle.diagram.specs.Diagram.{Diagram, Vertex, start}
 use Rattle.diagram.specs.Effects.{entry, number, numbers, own, view}
@@ -40,7 +41,7 @@ numbers-nodup d n (x ∷ l) N D = by (number d x) refl (numbers-nodup d n l N (n
   where
     by : (o : Option ℕ) → number d x ≡ o → List·Nodup (numbers d l) → List·Nodup (entry o ++ numbers d l)
     by none q K = K
-    by (some k) q K = nodup-cons .1 (λ i. ∥∥₁-elim i ⊥-prop (λ j. let e = flat-from (λ e. entry (number d e)) k l j in nodup-cons .0 D .0 ∣ Memᴰ·cast (N .one x (e .0) k q (entry-is (number d (e .0)) k (e .2))) (e .1) ∣₁), K)
+    by (some k) q K = nodup-cons .1 (λ i. ∥∥₁-elim i ⊥-prop (λ j. let e = flat-from (λ e. entry (number d e)) k l j in nodup-cons .0 D .0 ∣ Memᴰ·cast (one N x (e .0) k q (entry-is (number d (e .0)) k (e .2))) (e .1) ∣₁), K)
 
 pub good-under : (s : Contents) (l : List ℕ) → Good s l → (x : ℕ) → x ∈ l → s x .inherited ⊑ blocks s (behind x l)
 unfolding behind

@@ -7,9 +7,10 @@ use mathlib.Core.Option.{Option, none, some}
 use mathlib.Core.List.{[], _∷_}
 use native.Mathlib.Omega.{arith}
 use lib.ListN.{length}
-use lib.Dec.{eqb}
-use borrow.Author.Tests.{eqb-false, eqb-true}
-use Rattle.diagram.proofs.Days.Moves.{Moves, enters, joinsInto, forksAt, yields}
+use lib.Dec.{eqb, ltb}
+use borrow.Author.Tests.{eqb-false, eqb-true, ltb-false, ltb-true}
+use Rattle.blocks.proofs.Joining.{low}
+use Rattle.diagram.proofs.Days.Moves.{Moves, enters, forksAt, joinsInto, yields}
 use Rattle.diagram.proofs.Days.Sound.{some≢none}
 use Rattle.diagram.proofs.Graph.Tables.{tabulate-newest, tabulate-older}
 use Rattle.diagram.specs.Arbitration.{IsEvent, Numbered, newest-is, older-is}
@@ -28,7 +29,7 @@ pub numbered-quiet : (v : Vertex) (d : Diagram) (n : ℕ) → numberStep d (numb
 numbered-quiet v d n z N = record {
   inside = λ e k q. omega (arith, N .inside e k (old e k q (number-new v d e)));
   low = λ e k q. N .low e k (old e k q (number-new v d e));
-  one = λ e f k p q. N .one e f k (old e k p (number-new v d e)) (old f k q (number-new v d f));
+  rising = λ e f k m p q. N .rising e f k m (old e k p (number-new v d e)) (old f m q (number-new v d f));
   all = λ k h. let a = N .all k h in (a .0, tabulate-older numberStep none v d (a .0) (N .inside (a .0) k (a .1)) ∙ a .1);
 }
   where
@@ -40,7 +41,7 @@ pub numbered-update : (p c : ℕ) (d : Diagram) (n : ℕ) → Numbered d n → N
 numbered-update p c d n N = record {
   inside = λ e k q. inside′ e k q (number-new v d e);
   low = λ e k q. low′ e k q (number-new v d e);
-  one = λ e f k a b. one′ e f k a b (number-new v d e) (number-new v d f);
+  rising = λ e f k m a b. rising′ e f k m a b (number-new v d e) (number-new v d f);
   all = all′;
 }
   where
@@ -61,11 +62,11 @@ numbered-update p c d n N = record {
     low′ e k q (inl a) = omega (arith, is e k q (a .1))
     low′ e k q (inr a) = omega (arith, N .low e k (sym a ∙ q))
 
-    one′ : (e f k : ℕ) → number (v ∷ d) e ≡ some k → number (v ∷ d) f ≡ some k → New e → New f → e ≡ f
-    one′ e f k p q (inl a) (inl b) = a .0 ∙ sym (b .0)
-    one′ e f k p q (inl a) (inr b) = absurd (omega (arith, is e k p (a .1), N .low f k (sym b ∙ q)))
-    one′ e f k p q (inr a) (inl b) = absurd (omega (arith, is f k q (b .1), N .low e k (sym a ∙ p)))
-    one′ e f k p q (inr a) (inr b) = N .one e f k (sym a ∙ p) (sym b ∙ q)
+    rising′ : (e f k m : ℕ) → number (v ∷ d) e ≡ some k → number (v ∷ d) f ≡ some m → New e → New f → e < f → k < m
+    rising′ e f k m p q (inl a) (inl b) l = absurd (omega (arith, a .0, b .0))
+    rising′ e f k m p q (inl a) (inr b) l = absurd (omega (arith, a .0, N .inside f m (sym b ∙ q)))
+    rising′ e f k m p q (inr a) (inl b) l = omega (arith, is f m q (b .1), N .low e k (sym a ∙ p))
+    rising′ e f k m p q (inr a) (inr b) l = N .rising e f k m (sym a ∙ p) (sym b ∙ q) l
 
     all′ : (k : ℕ) → k < suc n → (e : ℕ) × (number (v ∷ d) e ≡ some k)
     all′ k h =
@@ -78,7 +79,7 @@ unfolding tabulate
 numbered-fresh = record {
   inside = λ e k q. absurd (none-yet e k q);
   low = λ e k q. absurd (none-yet e k q);
-  one = λ e f k p q. absurd (none-yet e k p);
+  rising = λ e f k m p q l. absurd (none-yet e k p);
   all = λ k h. absurd (omega arith);
 }
   where
@@ -99,6 +100,13 @@ numbered-moves y z N (yields c h) = by (y .openBy c)
     by (some t) = N
 numbered-moves y z N (forksAt r S) = numbered-quiet (start (length (y .diagram))) (fork (y .terminal r) ∷ y .diagram) (y .updates) refl (numbered-quiet (fork (y .terminal r)) (y .diagram) (y .updates) refl N)
 numbered-moves y z N (joinsInto a b H) = numbered-quiet (join (y .terminal a) (y .terminal b)) (y .diagram) (y .updates) refl N
+
+-- so each number is of one vertex
+pub one : {d : Diagram} {n : ℕ} → Numbered d n → (e f k : ℕ) → number d e ≡ some k → number d f ≡ some k → e ≡ f
+one N e f k p q =
+    cases (ltb e f)
+    (λ a. absurd (omega (arith, N .rising e f k k p q (ltb-true e f a))))
+    (λ a. cases (ltb f e) (λ b. absurd (omega (arith, N .rising f e k k q p (ltb-true f e b)))) (λ b. let x = ltb-false e f a in let y = ltb-false f e b in omega arith))
 
 -- what has a number is an event
 pub number-event : (d : Diagram) (e k : ℕ) → number d e ≡ some k → IsEvent e d

@@ -80,7 +80,7 @@ module _ (y : Day) (k : Machine) (A : Agree y k) where
   }
 
 -- each step keeps the agreement, and so does every run
-agree-after : (y : Day) (k : Machine) (s : Step) → accepted y s ≡ true → Agree y k → Agree (after y s) (machineAfter k s)
+pub agree-after : (y : Day) (k : Machine) (s : Step) → accepted y s ≡ true → Agree y k → Agree (after y s) (machineAfter k s)
 unfolding after machineAfter
 agree-after y k (Event c r u) e A = agree-enter y k A c r u (can-enter y c r u e)
 agree-after y k (Yield c) e A = agree-yield y k A c (y .openBy c) refl
