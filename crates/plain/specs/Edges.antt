@@ -1,7 +1,7 @@
 -- 01, "Edges of a race day": the starred edges E1 to E9 as one table of calls with the code and value that each gives.
 use Prim.Native.Nat.{ℕ}
 use mathlib.Core.List.{List, [], _∷_}
-use Rattle.plain.specs.Calls.{Call, Update, Query, Yield, Fork, Join, Answer}
+use Rattle.plain.specs.Calls.{Call, Update, Query, Yield, Fork, Join, Show, Answer}
 use Rattle.plain.specs.Answers.{answers}
 
 pub record Edge : Type 0 where
@@ -52,6 +52,22 @@ edges =
     ∷ edge (Update 0 0 time 5 8 ∷ Yield 0 ∷ Fork 0 ∷ Join 0 1 ∷ []) ((0, 0) ∷ (0, 0) ∷ (0, 1) ∷ (0, 0) ∷ [])
     -- E9 "Bib 999 is taken; 1,000 gives 5."
     ∷ edge (Update 0 0 time 999 8 ∷ Update 0 0 time 1000 8 ∷ Query 0 0 1000 ∷ []) ((0, 0) ∷ (5, 0) ∷ (5, 0) ∷ [])
+    ∷ []
+
+-- the codes, where several apply: the lowest one ends the call; and the updates of another bib, which do not count
+abbrev pub codes : List Edge
+codes =
+    edge
+    (Update 16 9 0 1000 0 ∷ Update 0 9 0 1000 0 ∷ Update 0 0 0 7 0 ∷ Update 0 0 5 7 0 ∷ Update 0 0 strike 999 1 ∷ [])
+    ((2, 0) ∷ (3, 0) ∷ (5, 0) ∷ (5, 0) ∷ (0, 0) ∷ [])
+    ∷ edge
+    (Fork 0 ∷ Join 0 1 ∷ Update 0 1 0 1000 0 ∷ Query 0 1 1000 ∷ Show 1 0 ∷ Join 0 1 ∷ Show 0 0 ∷ [])
+    ((0, 1) ∷ (0, 0) ∷ (4, 0) ∷ (4, 0) ∷ (4, 0) ∷ (4, 0) ∷ (0, 0) ∷ [])
+    ∷ edge
+    (Fork 0 ∷ Update 0 0 time 7 5 ∷ Update 1 1 time 7 6 ∷ Update 0 1 time 7 6 ∷ Update 2 1 time 7 6 ∷ Show 1 0 ∷ Fork 1 ∷ Join 0 1
+    ∷ Yield 0 ∷ Yield 1 ∷ Update 0 1 time 7 6 ∷ Show 1 11 ∷ Show 1 12 ∷ Join 0 1 ∷ [])
+    ((0, 1) ∷ (0, 0) ∷ (0, 1) ∷ (6, 0) ∷ (7, 0) ∷ (7, 0) ∷ (7, 0) ∷ (7, 0) ∷ (0, 0) ∷ (0, 0) ∷ (8, 0) ∷ (12, 0) ∷ (0, 1) ∷ (0, 1) ∷ [])
+    ∷ edge (Update 0 0 time 7 5 ∷ Update 0 0 time 8 6 ∷ Query 0 0 7 ∷ Query 0 0 8 ∷ Query 0 0 9 ∷ []) ((0, 0) ∷ (0, 1) ∷ (0, 5) ∷ (0, 6) ∷ (0, 0) ∷ [])
     ∷ []
 
 abbrev pub said : List Answer → List (ℕ × ℕ)
