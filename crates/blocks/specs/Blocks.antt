@@ -1,4 +1,4 @@
--- A row of blocks, one for each revision in a layout, and what may be done to it: 2-theory's layout machine over lists.
+-- A row of blocks, one for each revision in a layout, and what may be done to it: fork one, join one into another.
 -- The layout is kept right to left: what stands left of a revision is the rest of the list behind it.
 use Prim.Native.Nat.{ℕ}
 use mathlib.Core.Bool.{Bool, true, cond, _||_}

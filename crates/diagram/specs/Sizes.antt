@@ -1,4 +1,4 @@
--- 01, "Sizes of a day": "A table has 64 boxes, 16 tablets, .. and 4,096 updates at most". Proofs never open these.
+-- 01, "Sizes of a day": "A table has 64 boxes, 16 tablets, .. and 4,096 updates at most". The proofs of this crate never open these; its examples do.
 use Prim.Native.Nat.{ℕ}
 
 unfoldable pub revisionLimit : ℕ

@@ -128,7 +128,7 @@ after y (Yield c) = yield y c (y .openBy c)
 after y (Fork r) = forkAt y r
 after y (Join a b) = joinInto y a b
 
--- a run from a day, and from the start; each of its steps is accepted
+-- a run from a day, and from the fresh one; `Accepted`: each step is accepted when it comes
 unfoldable pub runFrom : Day → List Step → Day
 runFrom y [] = y
 runFrom y (s ∷ ss) = runFrom (after y s) ss
