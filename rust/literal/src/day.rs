@@ -93,12 +93,6 @@ impl Day {
         self.diagram.leads(y, x)
     }
 
-    /// Whether transaction t sees transaction s: "if one of its events sees one of the other's".
-    pub fn transaction_sees(&self, t: usize, s: usize) -> bool {
-        let [t, s] = [t, s].map(|k| &self.transactions[k].events);
-        t.iter().any(|&x| s.iter().any(|&y| self.sees(x, y)))
-    }
-
     /// The revision that a vertex belongs to.
     pub fn revision_of(&self, x: VertexId) -> usize {
         let start = self.diagram.start_of(x);
