@@ -56,7 +56,8 @@ pub enum Call {
 /// The kinds of update by name, kind 1 first.
 pub const KINDS: [&str; 4] = ["Time", "Earliest", "Penalty", "Strike"];
 
-const STRIKE: u8 = 4;
+/// The kind that is written without its argument where that is 0.
+pub const STRIKE: u8 = 4;
 
 impl fmt::Display for Call {
     fn fmt(&self, f: &mut fmt::Formatter<'_>) -> fmt::Result {

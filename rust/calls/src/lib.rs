@@ -14,5 +14,5 @@ mod call;
 mod code;
 
 pub use answer::{Answer, Line};
-pub use call::{Call, KINDS};
+pub use call::{Call, KINDS, STRIKE};
 pub use code::Code;
