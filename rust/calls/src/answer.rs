@@ -1,0 +1,46 @@
+//! What a call answers with.
+
+use crate::Code;
+
+/// The code, the value, and the lines that an accepted list writes.
+#[derive(Clone, Debug, PartialEq, Eq)]
+pub struct Answer {
+    /// Why the call was refused, or that it was accepted.
+    pub code: Code,
+    /// 0 in a refusal.
+    pub value: u32,
+    /// Empty but for an accepted list.
+    pub lines: Vec<Line>,
+}
+
+/// One entry of a listing, in the order of its fields there.
+#[derive(Clone, Copy, Debug, PartialEq, Eq)]
+pub struct Line {
+    /// 1 Time, 2 Earliest, 3 Penalty, 4 Strike.
+    pub kind: u8,
+    /// The client that entered it.
+    pub client: u8,
+    /// The bib.
+    pub bib: u16,
+    /// The argument as it was entered, a Strike's too.
+    pub v: u32,
+    /// The update's number, counted over all revisions from 0.
+    pub number: u32,
+}
+
+impl Answer {
+    /// A refusal: value 0, nothing written.
+    pub fn refused(code: Code) -> Self {
+        Answer { code, value: 0, lines: Vec::new() }
+    }
+
+    /// Accepted, with a value.
+    pub fn accepted(value: u32) -> Self {
+        Answer { code: Code::Accepted, value, lines: Vec::new() }
+    }
+
+    /// An accepted list: its value is the count of its lines.
+    pub fn listed(lines: Vec<Line>) -> Self {
+        Answer { code: Code::Accepted, value: lines.len() as u32, lines }
+    }
+}

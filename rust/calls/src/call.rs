@@ -1,0 +1,111 @@
+//! A call with its arguments, and its text, as in 01's example.
+
+use std::fmt;
+
+/// A call with its arguments as they come, in range or not.
+#[derive(Clone, Copy, Debug, PartialEq, Eq)]
+pub enum Call {
+    /// One entry by a client on a revision.
+    Update {
+        /// 01: tablet.
+        client: u8,
+        /// 01: box.
+        revision: u8,
+        /// 1 Time, 2 Earliest, 3 Penalty, 4 Strike.
+        kind: u8,
+        /// The bib that is entered.
+        bib: u16,
+        /// Thousandths of a second.
+        v: u32,
+    },
+    /// A client looks up a bib on a revision.
+    Query {
+        /// 01: tablet.
+        client: u8,
+        /// 01: box.
+        revision: u8,
+        /// The bib that is looked up.
+        bib: u16,
+    },
+    /// A client ends its transaction.
+    Yield {
+        /// 01: tablet.
+        client: u8,
+    },
+    /// A new revision starts from this one.
+    Fork {
+        /// The forker.
+        revision: u8,
+    },
+    /// The joiner takes over the joinee's updates, and the joinee ends.
+    Join {
+        /// The revision that goes on.
+        joiner: u8,
+        /// The revision that ends.
+        joinee: u8,
+    },
+    /// The visible updates of a revision. A list is no event, and no step of a day file.
+    List {
+        /// 01: box.
+        revision: u8,
+        /// The length of the listing buffer (01: sheet) in bytes.
+        room: usize,
+    },
+}
+
+/// The kinds of update by name, kind 1 first.
+pub const KINDS: [&str; 4] = ["Time", "Earliest", "Penalty", "Strike"];
+
+/// The kind that is written without its argument where that is 0.
+pub const STRIKE: u8 = 4;
+
+impl fmt::Display for Call {
+    fn fmt(&self, f: &mut fmt::Formatter<'_>) -> fmt::Result {
+        match *self {
+            Call::Update { client, revision, kind, bib, v } => {
+                write!(f, "update {client}/{revision} ")?;
+                match KINDS.get(usize::from(kind).wrapping_sub(1)) {
+                    Some(name) => f.write_str(name)?,
+                    None => write!(f, "{kind}")?,
+                }
+                write!(f, " bib {bib}")?;
+                if kind == STRIKE && v == 0 {
+                    return Ok(());
+                }
+                write!(f, " {v}")
+            }
+            Call::Query { client, revision, bib } => {
+                write!(f, "query {client}/{revision} bib {bib}")
+            }
+            Call::Yield { client } => write!(f, "yield {client}"),
+            Call::Fork { revision } => write!(f, "fork box {revision}"),
+            Call::Join { joiner, joinee } => write!(f, "join {joiner} with {joinee}"),
+            Call::List { revision, room } => write!(f, "list box {revision} room {room}"),
+        }
+    }
+}
+
+#[cfg(test)]
+mod tests {
+    use super::*;
+
+    #[test]
+    fn calls_are_written_as_in_the_example_of_01() {
+        let update = |kind, v| Call::Update { client: 0, revision: 1, kind, bib: 7, v };
+        let written = [
+            (update(1, 61000), "update 0/1 Time bib 7 61000"),
+            (update(4, 0), "update 0/1 Strike bib 7"),
+            (update(4, 5), "update 0/1 Strike bib 7 5"),
+            (update(0, 0), "update 0/1 0 bib 7 0"),
+            (update(5, 1), "update 0/1 5 bib 7 1"),
+            (Call::Query { client: 1, revision: 0, bib: 7 }, "query 1/0 bib 7"),
+            (Call::Yield { client: 1 }, "yield 1"),
+            (Call::Fork { revision: 0 }, "fork box 0"),
+            (Call::Join { joiner: 0, joinee: 1 }, "join 0 with 1"),
+            (Call::List { revision: 2, room: 12 }, "list box 2 room 12"),
+        ];
+        for (call, text) in written {
+            assert_eq!(call.to_string(), text);
+        }
+    }
+}

@@ -1,0 +1,70 @@
+//! The codes of the desk: their numbers and names in 01.
+
+use std::fmt;
+
+/// Why a call was refused, or that it was accepted. The discriminant is 01's number.
+#[derive(Clone, Copy, Debug, PartialEq, Eq, PartialOrd, Ord)]
+#[repr(u8)]
+pub enum Code {
+    /// No check applies.
+    Accepted = 0,
+    /// The buffer is no table. It arises on buffers only.
+    NoTable = 1,
+    /// Client above 15.
+    StrangeClient = 2,
+    /// Revision number not yet given out.
+    NeverForked = 3,
+    /// The revision was joined.
+    Joined = 4,
+    /// Bib above 999, or update kind not 1 to 4.
+    BadEntry = 5,
+    /// The client's open transaction is on another revision.
+    OtherRevisionOpen = 6,
+    /// Another client, or for fork, join and list any client, has an open transaction there.
+    InUse = 7,
+    /// No path from the client's last event to the terminal.
+    StaleClient = 8,
+    /// 4,096 updates taken.
+    LogFull = 9,
+    /// 64 revisions started.
+    NoRevisionLeft = 10,
+    /// The join rule does not hold.
+    NotJoinable = 11,
+    /// The listing buffer is too small.
+    ListingShort = 12,
+    /// A day file's step byte is not 1 to 5. Given by the program, by no call.
+    StrangeStep = 13,
+}
+
+impl Code {
+    /// 01's number.
+    pub fn number(self) -> u8 {
+        self as u8
+    }
+
+    /// 01's name.
+    pub fn name(self) -> &'static str {
+        match self {
+            Code::Accepted => "taken",
+            Code::NoTable => "no table",
+            Code::StrangeClient => "strange tablet",
+            Code::NeverForked => "never sent",
+            Code::Joined => "handed in",
+            Code::BadEntry => "bad entry",
+            Code::OtherRevisionOpen => "other box open",
+            Code::InUse => "in use",
+            Code::StaleClient => "not caught up",
+            Code::LogFull => "log full",
+            Code::NoRevisionLeft => "no box left",
+            Code::NotJoinable => "not joinable",
+            Code::ListingShort => "sheet short",
+            Code::StrangeStep => "strange step",
+        }
+    }
+}
+
+impl fmt::Display for Code {
+    fn fmt(&self, f: &mut fmt::Formatter<'_>) -> fmt::Result {
+        write!(f, "{} {}", self.number(), self.name())
+    }
+}

@@ -1,0 +1,18 @@
+//! The calls of a day, what they answer with, and how a call is written.
+//!
+//! Words only. No rule of the table stands here: the implementations that are compared with one
+//! another share these types and nothing else.
+//!
+//! "01" is the scope document, "002" the paper "Eventually Consistent Transactions". Identifiers
+//! use the paper's terms: revision (01: box), client (tablet), terminal (line end), joined (handed
+//! in), accepted (taken), arbitration order (line-up).
+
+#![forbid(unsafe_code)]
+
+mod answer;
+mod call;
+mod code;
+
+pub use answer::{Answer, Line};
+pub use call::{Call, KINDS, STRIKE};
+pub use code::Code;

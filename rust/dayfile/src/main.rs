@@ -1,0 +1,122 @@
+//! The command-line tool: day files from text and back, and what a day answers.
+
+#![forbid(unsafe_code)]
+
+use std::fs::File;
+use std::io::{self, Read, Write};
+use std::process::ExitCode;
+
+use dayfile::{
+    printed_day, read_file, read_text, shown_day, write_file, write_text, Record, LONGEST,
+};
+
+const HELP: &str = "\
+Day files from readable text and back, and what a day answers.
+
+usage: dayfile pack   [TEXT [FILE]]   text to day file
+       dayfile unpack [FILE [TEXT]]   day file to text
+       dayfile show   [FILE]          each step with its code, value and refusal
+       dayfile print  [FILE]          the printed day: index, code, value
+       dayfile --help                 this text
+
+A missing name or `-` means standard input or standard output.
+
+A text has one step a line. A # begins a comment; blank lines are left out.
+
+    update TABLET/BOX KIND bib BIB V   KIND: Time, Earliest, Penalty, Strike, or 0 to 255
+    update TABLET/BOX Strike bib BIB   the same with V 0
+    query TABLET/BOX bib BIB
+    yield TABLET
+    fork box BOX
+    join BOX with BOX                  the joiner, then the box handed in
+    step BYTE                          a step byte that is not 1 to 5
+
+TABLET and BOX are 0 to 255, BIB is 0 to 65535, V is 0 to 4294967295: what fits
+the record, in range or not, so that refusals can be written too. A packed file
+has its records at offset 8, and 0 in the fields that a step doesn't use.
+Unpacking leaves out those fields and the bytes between header and records.
+
+exit status: 0 done, 1 bad text, bad file or no such file, 2 wrong usage
+";
+
+fn main() -> ExitCode {
+    let arguments: Vec<String> = std::env::args().skip(1).collect();
+    let words: Vec<&str> = arguments.iter().map(String::as_str).collect();
+    let done = match words[..] {
+        ["--help" | "-h" | "help"] => write_bytes("-", HELP.as_bytes()),
+        ["pack"] => pack("-", "-"),
+        ["pack", text] => pack(text, "-"),
+        ["pack", text, file] => pack(text, file),
+        ["unpack"] => unpack("-", "-"),
+        ["unpack", file] => unpack(file, "-"),
+        ["unpack", file, text] => unpack(file, text),
+        ["show"] => show("-"),
+        ["show", file] => show(file),
+        ["print"] => print("-"),
+        ["print", file] => print(file),
+        _ => {
+            eprintln!("dayfile: wrong usage; see dayfile --help");
+            return ExitCode::from(2);
+        }
+    };
+    match done {
+        Ok(()) => ExitCode::SUCCESS,
+        Err(message) => {
+            eprintln!("dayfile: {message}");
+            ExitCode::FAILURE
+        }
+    }
+}
+
+fn pack(text: &str, file: &str) -> Result<(), String> {
+    let bytes = read_bytes(text, usize::MAX)?;
+    let content = String::from_utf8(bytes).map_err(|_| named(text, "not a text in UTF-8"))?;
+    let records = read_text(&content).map_err(|error| named(text, error))?;
+    let bytes = write_file(&records).ok_or_else(|| named(text, "too many steps"))?;
+    write_bytes(file, &bytes)
+}
+
+fn unpack(file: &str, text: &str) -> Result<(), String> {
+    write_bytes(text, write_text(&records(file)?).as_bytes())
+}
+
+fn show(file: &str) -> Result<(), String> {
+    write_bytes("-", shown_day(&records(file)?).as_bytes())
+}
+
+/// A bad file is printed as such, and is an error besides.
+fn print(file: &str) -> Result<(), String> {
+    let bytes = read_bytes(file, LONGEST + 1)?;
+    write_bytes("-", printed_day(&bytes).as_bytes())?;
+    read_file(&bytes).map(|_| ()).map_err(|error| named(file, error))
+}
+
+fn records(file: &str) -> Result<Vec<Record>, String> {
+    read_file(&read_bytes(file, LONGEST + 1)?).map_err(|error| named(file, error))
+}
+
+/// Reads so many bytes at most: one more than fits tells a file that is too long.
+fn read_bytes(name: &str, most: usize) -> Result<Vec<u8>, String> {
+    let mut bytes = Vec::new();
+    let source: io::Result<Box<dyn Read>> = match name {
+        "-" => Ok(Box::new(io::stdin())),
+        _ => File::open(name).map(|file| Box::new(file) as Box<dyn Read>),
+    };
+    let read = source.and_then(|source| source.take(most as u64).read_to_end(&mut bytes));
+    read.map(|_| bytes).map_err(|error| named(name, error))
+}
+
+fn write_bytes(name: &str, bytes: &[u8]) -> Result<(), String> {
+    let written = match name {
+        "-" => io::stdout().write_all(bytes).and_then(|()| io::stdout().flush()),
+        _ => std::fs::write(name, bytes),
+    };
+    written.map_err(|error| named(name, error))
+}
+
+fn named(name: &str, error: impl std::fmt::Display) -> String {
+    match name {
+        "-" => error.to_string(),
+        _ => format!("{name}: {error}"),
+    }
+}

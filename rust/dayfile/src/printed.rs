@@ -1,0 +1,30 @@
+//! The printed day, as 01's program prints it.
+
+use std::fmt::Write;
+
+use calls::{Answer, Code};
+use plain::Day;
+
+use crate::file::read_file;
+use crate::record::Record;
+
+/// The answer of each step, from a fresh table. A strange step gives 13, and the day goes on.
+pub fn answers(records: &[Record]) -> Vec<Answer> {
+    let mut day = Day::fresh();
+    let answer = |record: &Record| match record.call() {
+        Some(call) => day.call(call),
+        None => Answer::refused(Code::StrangeStep),
+    };
+    records.iter().map(answer).collect()
+}
+
+/// `bad file` alone, or `steps n` and a line for each record: index, code, value.
+pub fn printed_day(bytes: &[u8]) -> String {
+    let Ok(records) = read_file(bytes) else { return "bad file\n".to_string() };
+    let mut text = format!("steps {}\n", records.len());
+    for (index, answer) in answers(&records).iter().enumerate() {
+        // Writing to a string does not fail.
+        let _ = writeln!(text, "{index} {} {}", answer.code.number(), answer.value);
+    }
+    text
+}

@@ -1,0 +1,130 @@
+//! The command-line tool as a user meets it: output, messages and exit status.
+
+use std::io::Write;
+use std::process::{Command, Output, Stdio};
+
+const TEXT: &str = include_str!("../../../examples/crossing.txt");
+const FILE: &[u8] = include_bytes!("../../../examples/crossing.day");
+
+/// Runs the tool with these arguments and this standard input.
+fn dayfile(arguments: &[&str], input: &[u8]) -> Output {
+    let mut child = Command::new(env!("CARGO_BIN_EXE_dayfile"))
+        .args(arguments)
+        .stdin(Stdio::piped())
+        .stdout(Stdio::piped())
+        .stderr(Stdio::piped())
+        .spawn()
+        .unwrap();
+    // A tool that reads no input may be gone before it is written.
+    let _ = child.stdin.take().unwrap().write_all(input);
+    child.wait_with_output().unwrap()
+}
+
+/// What it wrote to standard output, having ended well.
+fn output(arguments: &[&str], input: &[u8]) -> Vec<u8> {
+    let output = dayfile(arguments, input);
+    assert!(output.status.success(), "{}", String::from_utf8_lossy(&output.stderr));
+    assert_eq!(output.stderr, b"");
+    output.stdout
+}
+
+/// Its exit status and what it wrote to standard output and standard error, as text.
+fn failure(arguments: &[&str], input: &[u8]) -> (Option<i32>, String, String) {
+    let output = dayfile(arguments, input);
+    let text = |bytes| String::from_utf8(bytes).unwrap();
+    (output.status.code(), text(output.stdout), text(output.stderr))
+}
+
+#[test]
+fn packs_and_unpacks() {
+    assert_eq!(output(&["pack"], TEXT.as_bytes()), FILE);
+    assert_eq!(output(&["unpack", "-", "-"], FILE), TEXT.as_bytes());
+}
+
+#[test]
+fn packs_and_unpacks_by_file_name() {
+    let examples = concat!(env!("CARGO_MANIFEST_DIR"), "/../../examples");
+    let (text, file) = (format!("{examples}/crossing.txt"), format!("{examples}/crossing.day"));
+    assert_eq!(output(&["pack", &text], b""), FILE);
+    assert_eq!(output(&["unpack", &file], b""), TEXT.as_bytes());
+
+    let made = std::env::temp_dir().join(format!("dayfile-test-{}.day", std::process::id()));
+    assert_eq!(output(&["pack", &text, made.to_str().unwrap()], b""), b"");
+    let written = std::fs::read(&made).unwrap();
+    std::fs::remove_file(&made).unwrap();
+    assert_eq!(written, FILE);
+}
+
+#[test]
+fn shows_answers_beside_steps() {
+    let shown = "\
+index  step                           code       value
+    0  update 0/0 Time bib 7 61000       0           0
+    1  yield 0                           0           0
+    2  fork box 0                        0           1
+    3  update 1/1 Penalty bib 7 5000     0           1
+    4  fork box 1                        7           0  in use
+    5  yield 1                           0           0
+    6  update 0/0 Time bib 7 60000       0           2
+    7  yield 0                           0           0
+    8  query 0/1 bib 7                   8           0  not caught up
+    9  join 0 with 1                     0           1
+   10  query 1/0 bib 7                   0       65000
+   11  update 0/1 Strike bib 7           4           0  handed in
+";
+    assert_eq!(String::from_utf8(output(&["show"], FILE)).unwrap(), shown);
+}
+
+#[test]
+fn prints_the_day() {
+    let printed = String::from_utf8(output(&["print"], FILE)).unwrap();
+    assert_eq!(printed.lines().count(), 13);
+    assert_eq!(printed.lines().nth(11), Some("10 0 65000"));
+}
+
+#[test]
+fn help_goes_to_standard_output() {
+    let help = String::from_utf8(output(&["--help"], b"")).unwrap();
+    for word in ["pack", "unpack", "show", "print", "update TABLET/BOX KIND bib BIB V"] {
+        assert!(help.contains(word), "{word}");
+    }
+}
+
+#[test]
+fn bad_text() {
+    let refused = failure(&["pack"], b"yield 0\nfork 1\n");
+    let message = "dayfile: line 2: expected `box`, found `1`\n";
+    assert_eq!(refused, (Some(1), String::new(), message.to_string()));
+    let refused = failure(&["pack"], b"yield 0\n\xff\n");
+    assert_eq!(refused, (Some(1), String::new(), "dayfile: not a text in UTF-8\n".to_string()));
+}
+
+#[test]
+fn bad_files() {
+    let longer = vec![0; 65_537];
+    let cases: [(&[u8], &str); 4] = [
+        (b"\x01\0\0\0", "bad file: 4 bytes, and the header alone has 8"),
+        (&longer, "bad file: longer than 65536 bytes"),
+        (b"\0\0\0\0\x07\0\0\0", "bad file: records begin at byte 7, within the header"),
+        (b"\x02\0\0\0\x08\0\0\0", "bad file: 2 records from byte 8 on end at byte 32, not at 8"),
+    ];
+    for (bytes, message) in cases {
+        let message = format!("dayfile: {message}\n");
+        for command in ["show", "unpack"] {
+            let refused = failure(&[command], bytes);
+            assert_eq!(refused, (Some(1), String::new(), message.clone()), "{command}");
+        }
+        assert_eq!(failure(&["print"], bytes), (Some(1), "bad file\n".to_string(), message));
+    }
+}
+
+#[test]
+fn missing_files_and_wrong_usage() {
+    let (status, _, message) = failure(&["show", "no such file"], b"");
+    assert_eq!(status, Some(1));
+    assert!(message.starts_with("dayfile: no such file: "), "{message}");
+    for arguments in [&[][..], &["list"], &["show", "a", "b"], &["pack", "a", "b", "c"]] {
+        let wrong = "dayfile: wrong usage; see dayfile --help\n".to_string();
+        assert_eq!(failure(arguments, b""), (Some(2), String::new(), wrong));
+    }
+}

@@ -1,0 +1,53 @@
+//! The literal replay against the plain implementation, answer by answer.
+
+use calls::{Answer, Call};
+
+/// The first call that the two answer differently, in words.
+pub fn disagreement(calls: &[Call]) -> Option<String> {
+    let mut both = Both::fresh();
+    calls.iter().find_map(|&call| both.differ(call))
+}
+
+/// As [`disagreement`], with a listing of every revision after each call: with room enough, with
+/// just enough, and with one byte less.
+pub fn disagreement_with_listings(calls: &[Call]) -> Option<String> {
+    let mut both = Both::fresh();
+    calls.iter().find_map(|&call| both.differ(call).or_else(|| both.differ_in_listings()))
+}
+
+struct Both {
+    literal: literal::Day,
+    plain: plain::Day,
+}
+
+impl Both {
+    fn fresh() -> Self {
+        Both { literal: literal::Day::fresh(), plain: plain::Day::fresh() }
+    }
+
+    fn differ(&mut self, call: Call) -> Option<String> {
+        let (literal, plain) = (self.literal.call(call), self.plain.call(call));
+        (literal != plain).then(|| {
+            format!("`{call}`: literal {}, plain {}", described(&literal), described(&plain))
+        })
+    }
+
+    fn differ_in_listings(&mut self) -> Option<String> {
+        (0..self.literal.revisions().len()).find_map(|number| {
+            let revision = number as u8;
+            let needed = 12 * self.literal.visible(number).len();
+            [usize::MAX, needed, needed.saturating_sub(1)]
+                .into_iter()
+                .find_map(|room| self.differ(Call::List { revision, room }))
+        })
+    }
+}
+
+fn described(answer: &Answer) -> String {
+    let mut text = format!("code {}, value {}", answer.code.number(), answer.value);
+    if !answer.lines.is_empty() {
+        let numbers: Vec<u32> = answer.lines.iter().map(|line| line.number).collect();
+        text += &format!(", updates {numbers:?} of {:?}", answer.lines);
+    }
+    text
+}

@@ -1,0 +1,232 @@
+//! Random days. The generator knows no rule of the table: it keeps a picture of the day from the
+//! answers alone and picks calls that are likely to be accepted, and some that are not.
+
+use calls::{Answer, Call, Code};
+
+use crate::profile::Profile;
+use crate::rng::Rng;
+
+/// Room for the longest listing.
+const ENOUGH: usize = 4_096 * 12;
+
+/// A random day: its calls, picked by the answers of the plain implementation.
+pub fn random_day(profile: &Profile, seed: u64) -> Vec<Call> {
+    let mut generator = Generator::new(profile, seed);
+    let mut day = plain::Day::fresh();
+    let count = profile.calls / 2 + generator.rng.below(profile.calls / 2 + 1);
+    (0..count)
+        .map(|_| {
+            let call = generator.pick();
+            let answer = day.call(call);
+            generator.learn(call, &answer);
+            call
+        })
+        .collect()
+}
+
+/// What the answers told so far.
+struct Generator<'a> {
+    profile: &'a Profile,
+    rng: Rng,
+    /// The revisions that are out.
+    out: Vec<u8>,
+    /// How many revisions were started.
+    given: usize,
+    /// Who forked each revision, or took over the one that did.
+    forker: Vec<u8>,
+    /// The revision of each client's open transaction.
+    open: [Option<u8>; 16],
+    /// Where each client was last, or who took that over.
+    last: [u8; 16],
+    updates: usize,
+}
+
+impl<'a> Generator<'a> {
+    fn new(profile: &'a Profile, seed: u64) -> Self {
+        Generator {
+            profile,
+            rng: Rng::new(seed),
+            out: vec![0],
+            given: 1,
+            forker: vec![0],
+            open: [None; 16],
+            last: [0; 16],
+            updates: 0,
+        }
+    }
+
+    fn learn(&mut self, call: Call, answer: &Answer) {
+        if answer.code != Code::Accepted {
+            return;
+        }
+        match call {
+            Call::Update { client, revision, .. } => {
+                self.entered(client, revision);
+                self.updates += 1;
+            }
+            Call::Query { client, revision, .. } => self.entered(client, revision),
+            Call::Yield { client } => self.open[usize::from(client)] = None,
+            Call::Fork { revision } => {
+                self.out.push(answer.value as u8);
+                self.forker.push(revision);
+                self.given += 1;
+            }
+            Call::Join { joiner, joinee } => {
+                self.out.retain(|&revision| revision != joinee);
+                let moved = self.last.iter_mut().chain(&mut self.forker);
+                moved.filter(|revision| **revision == joinee).for_each(|place| *place = joiner);
+            }
+            Call::List { .. } => {}
+        }
+    }
+
+    fn entered(&mut self, client: u8, revision: u8) {
+        self.open[usize::from(client)] = Some(revision);
+        self.last[usize::from(client)] = revision;
+    }
+
+    fn pick(&mut self) -> Call {
+        let call = self.likely();
+        if self.rng.percent(self.profile.strange) {
+            self.spoilt(call)
+        } else {
+            call
+        }
+    }
+
+    /// A call with numbers in range.
+    fn likely(&mut self) -> Call {
+        let w = self.profile.weights;
+        let mut at = self.rng.below(w.update + w.query + w.yields + w.fork + w.join + w.list);
+        let mut falls = |weight: usize| {
+            let here = at < weight;
+            at = at.saturating_sub(weight);
+            here
+        };
+        if falls(w.update) {
+            self.update()
+        } else if falls(w.query) {
+            self.query()
+        } else if falls(w.yields) {
+            Call::Yield { client: self.client() }
+        } else if falls(w.fork) && self.given < self.profile.revisions {
+            self.fork()
+        } else if falls(w.join) {
+            self.join()
+        } else {
+            self.list()
+        }
+    }
+
+    fn client(&mut self) -> u8 {
+        self.rng.below(usize::from(self.profile.clients)) as u8
+    }
+
+    fn any_out(&mut self) -> u8 {
+        self.rng.pick(&self.out)
+    }
+
+    /// Where a client goes on or starts.
+    fn place(&mut self, client: u8) -> u8 {
+        let at = usize::from(client);
+        let here = self.open[at].unwrap_or(self.last[at]);
+        let roam = match self.open[at] {
+            Some(_) => self.profile.roam / 8,
+            None => self.profile.roam,
+        };
+        if self.rng.percent(roam) || !self.out.contains(&here) {
+            self.any_out()
+        } else {
+            here
+        }
+    }
+
+    fn bib(&mut self) -> u16 {
+        self.rng.below(usize::from(self.profile.bibs)) as u16
+    }
+
+    fn update(&mut self) -> Call {
+        let client = self.client();
+        let revision = self.place(client);
+        let kind = 1 + self.rng.below(4) as u8;
+        let any = self.rng.bits() as u32;
+        let small = self.rng.below(100_000) as u32;
+        let v = self.rng.pick(&[0, 1, small, small, small, any, u32::MAX]);
+        let call = Call::Update { client, revision, kind, bib: self.bib(), v };
+        self.settled(Some(client), &[revision], call)
+    }
+
+    fn query(&mut self) -> Call {
+        let client = self.client();
+        let revision = self.place(client);
+        let call = Call::Query { client, revision, bib: self.bib() };
+        self.settled(Some(client), &[revision], call)
+    }
+
+    /// In most cases, the yield of another client that keeps one of these revisions busy.
+    fn settled(&mut self, caller: Option<u8>, revisions: &[u8], call: Call) -> Call {
+        let busy = (0..16).find(|&client| {
+            let open = self.open[usize::from(client)];
+            Some(client) != caller && open.is_some_and(|revision| revisions.contains(&revision))
+        });
+        match busy {
+            Some(client) if self.rng.percent(self.profile.settle) => Call::Yield { client },
+            _ => call,
+        }
+    }
+
+    fn fork(&mut self) -> Call {
+        let newest = self.out[self.out.len() - 1];
+        let any = self.any_out();
+        let revision = if self.rng.percent(self.profile.newest) { newest } else { any };
+        self.settled(None, &[revision], Call::Fork { revision })
+    }
+
+    /// In most cases a revision with its forker, else any two.
+    fn join(&mut self) -> Call {
+        let joinee = self.any_out();
+        let any = self.any_out();
+        let likely = self.rng.percent(60);
+        let joiner = if likely { self.forker[usize::from(joinee)] } else { any };
+        self.settled(None, &[joiner, joinee], Call::Join { joiner, joinee })
+    }
+
+    fn list(&mut self) -> Call {
+        let revision = self.any_out();
+        let some = 12 * self.rng.below(self.updates + 2);
+        let room = self.rng.pick(&[ENOUGH, ENOUGH, some, some + 11]);
+        self.settled(None, &[revision], Call::List { revision, room })
+    }
+
+    /// One argument replaced: the first number out of range, any number, or for revisions one that
+    /// was given out, joined or not.
+    fn spoilt(&mut self, call: Call) -> Call {
+        let any = self.rng.bits();
+        let given = self.rng.below(self.given) as u8;
+        let number = self.rng.pick(&[given, given, given, self.given as u8, 64, any as u8]);
+        let strange_client = self.rng.pick(&[16, any as u8]);
+        let strange_bib = self.rng.pick(&[999, 1_000, any as u16]);
+        let strange_kind = self.rng.pick(&[0, 5, any as u8]);
+        let which = self.rng.below(4);
+        match call {
+            Call::Update { client, revision, kind, bib, v } => match which {
+                0 => Call::Update { client: strange_client, revision, kind, bib, v },
+                1 => Call::Update { client, revision: number, kind, bib, v },
+                2 => Call::Update { client, revision, kind: strange_kind, bib, v },
+                _ => Call::Update { client, revision, kind, bib: strange_bib, v },
+            },
+            Call::Query { client, revision, bib } => match which {
+                0 => Call::Query { client: strange_client, revision, bib },
+                1 | 2 => Call::Query { client, revision: number, bib },
+                _ => Call::Query { client, revision, bib: strange_bib },
+            },
+            Call::Yield { .. } => Call::Yield { client: strange_client },
+            Call::Fork { .. } => Call::Fork { revision: number },
+            Call::Join { joiner, joinee } => match which {
+                0 | 1 => Call::Join { joiner: number, joinee },
+                _ => Call::Join { joiner, joinee: number },
+            },
+            Call::List { room, .. } => Call::List { revision: number, room },
+        }
+    }
+}

@@ -1,0 +1,27 @@
+//! Random days, and the checkers that judge them.
+//!
+//! Days are made from a seed, and a failed check prints it with the shortest day found that still
+//! fails. Two checkers use them: the literal replay and the plain implementation agree on every
+//! answer, and demand 3's line-up holds by brute force.
+
+#![forbid(unsafe_code)]
+
+mod arbitration;
+mod chains;
+mod compare;
+mod facts;
+mod generator;
+mod line_up;
+mod profile;
+mod report;
+mod rng;
+
+pub use arbitration::arbitration_order;
+pub use chains::chain_of_joins;
+pub use compare::{disagreement, disagreement_with_listings};
+pub use facts::{Facts, Step, Visible};
+pub use generator::random_day;
+pub use line_up::{broken_sentence, SENTENCES};
+pub use profile::{Profile, Weights};
+pub use report::must_pass;
+pub use rng::Rng;

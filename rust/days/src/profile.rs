@@ -1,0 +1,157 @@
+//! Kinds of day: what a random day is mostly made of.
+
+/// How often each call is tried, against the others.
+#[derive(Clone, Copy, Debug)]
+pub struct Weights {
+    /// Updates.
+    pub update: usize,
+    /// Queries.
+    pub query: usize,
+    /// Yields.
+    pub yields: usize,
+    /// Forks.
+    pub fork: usize,
+    /// Joins.
+    pub join: usize,
+    /// Lists.
+    pub list: usize,
+}
+
+/// A kind of day.
+#[derive(Clone, Copy, Debug)]
+pub struct Profile {
+    /// Printed with the seed.
+    pub name: &'static str,
+    /// A day has so many calls at most, and at least half of them.
+    pub calls: usize,
+    /// Clients that take part.
+    pub clients: u8,
+    /// Bibs that are entered.
+    pub bibs: u16,
+    /// No fork is tried with so many revisions started.
+    pub revisions: usize,
+    /// What is tried.
+    pub weights: Weights,
+    /// In so many of a hundred forks, the newest revision is forked.
+    pub newest: u32,
+    /// In so many of a hundred cases, a busy revision is yielded on first.
+    pub settle: u32,
+    /// In so many of a hundred cases, a client starts on any revision, not where it was last.
+    pub roam: u32,
+    /// In so many of a hundred calls, one argument is any number that fits its bytes.
+    pub strange: u32,
+}
+
+impl Profile {
+    /// Short days that brute force can judge, on few revisions and bibs.
+    pub const SMALL: Profile = Profile {
+        name: "small",
+        calls: 64,
+        clients: 3,
+        bibs: 2,
+        revisions: 7,
+        weights: Weights { update: 30, query: 14, yields: 22, fork: 14, join: 16, list: 4 },
+        newest: 30,
+        settle: 80,
+        roam: 40,
+        strange: 2,
+    };
+
+    /// A bit of everything.
+    pub const MIXED: Profile = Profile {
+        name: "mixed",
+        calls: 200,
+        clients: 16,
+        bibs: 5,
+        revisions: 65,
+        weights: Weights { update: 35, query: 15, yields: 20, fork: 10, join: 12, list: 8 },
+        newest: 20,
+        settle: 60,
+        roam: 40,
+        strange: 5,
+    };
+
+    /// Revisions that fork revisions of their own.
+    pub const NESTED: Profile = Profile {
+        name: "nested",
+        calls: 200,
+        clients: 6,
+        bibs: 2,
+        revisions: 65,
+        weights: Weights { update: 25, query: 8, yields: 20, fork: 20, join: 24, list: 3 },
+        newest: 75,
+        settle: 90,
+        roam: 70,
+        strange: 1,
+    };
+
+    /// Clients that walk off without a yield, or start where they are not caught up.
+    pub const STALE: Profile = Profile {
+        name: "stale",
+        calls: 200,
+        clients: 16,
+        bibs: 3,
+        revisions: 65,
+        weights: Weights { update: 35, query: 20, yields: 15, fork: 12, join: 14, list: 4 },
+        newest: 20,
+        settle: 15,
+        roam: 90,
+        strange: 1,
+    };
+
+    /// Transactions of queries alone.
+    pub const QUERIES: Profile = Profile {
+        name: "queries",
+        calls: 150,
+        clients: 5,
+        bibs: 2,
+        revisions: 65,
+        weights: Weights { update: 8, query: 40, yields: 22, fork: 12, join: 15, list: 3 },
+        newest: 30,
+        settle: 80,
+        roam: 60,
+        strange: 1,
+    };
+
+    /// All 64 revisions and the fork that is refused.
+    pub const FORKS: Profile = Profile {
+        name: "forks",
+        calls: 400,
+        clients: 4,
+        bibs: 2,
+        revisions: 65,
+        weights: Weights { update: 12, query: 5, yields: 12, fork: 50, join: 18, list: 3 },
+        newest: 40,
+        settle: 95,
+        roam: 60,
+        strange: 1,
+    };
+
+    /// Arguments out of their range.
+    pub const STRANGE: Profile = Profile {
+        name: "strange",
+        calls: 150,
+        clients: 16,
+        bibs: 1_000,
+        revisions: 65,
+        weights: Weights { update: 30, query: 15, yields: 15, fork: 15, join: 15, list: 10 },
+        newest: 20,
+        settle: 60,
+        roam: 50,
+        strange: 40,
+    };
+
+    /// A log that fills up, and what goes on after it.
+    pub const FULL: Profile = Profile {
+        name: "full",
+        calls: 14_000,
+        clients: 4,
+        bibs: 20,
+        revisions: 40,
+        weights: Weights { update: 900, query: 10, yields: 60, fork: 5, join: 8, list: 2 },
+        newest: 30,
+        settle: 90,
+        roam: 8,
+        strange: 0,
+    };
+}

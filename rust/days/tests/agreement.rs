@@ -1,0 +1,124 @@
+//! Random days of all kinds: the literal replay and the plain implementation give the same code,
+//! value and listing for every call.
+
+use std::collections::BTreeMap;
+
+use calls::{Call, Code};
+use days::{
+    chain_of_joins, disagreement, disagreement_with_listings, must_pass, random_day, Profile,
+};
+
+/// How many days of each kind are replayed.
+const KINDS: [(Profile, u64); 7] = [
+    (Profile::MIXED, 600),
+    (Profile::NESTED, 600),
+    (Profile::STALE, 400),
+    (Profile::QUERIES, 400),
+    (Profile::FORKS, 200),
+    (Profile::STRANGE, 400),
+    (Profile::FULL, 12),
+];
+
+#[test]
+fn small_days_agree_in_every_listing_after_every_step() {
+    for seed in 0..3_000 {
+        let day = random_day(&Profile::SMALL, seed);
+        must_pass("small", seed, &day, disagreement_with_listings);
+    }
+}
+
+#[test]
+fn days_of_all_kinds_agree() {
+    for (profile, count) in KINDS {
+        for seed in 0..count {
+            must_pass(profile.name, seed, &random_day(&profile, seed), disagreement);
+        }
+    }
+}
+
+#[test]
+fn chains_of_joins_agree() {
+    for seed in 0..100 {
+        must_pass("chain of joins", seed, &chain_of_joins(seed), disagreement);
+    }
+    for seed in 100..120 {
+        must_pass("chain of joins", seed, &chain_of_joins(seed), disagreement_with_listings);
+    }
+}
+
+/// The random days are worth replaying: each call meets each of its codes, many times over.
+#[test]
+fn every_call_meets_each_of_its_codes() {
+    let mut met: BTreeMap<(&str, u8), usize> = BTreeMap::new();
+    for (profile, count) in KINDS {
+        for seed in 0..count {
+            let mut day = plain::Day::fresh();
+            for call in random_day(&profile, seed) {
+                *met.entry((name(call), day.call(call).code.number())).or_default() += 1;
+            }
+        }
+    }
+    let codes: [(&str, &[u8]); 6] = [
+        ("update", &[0, 2, 3, 4, 5, 6, 7, 8, 9]),
+        ("query", &[0, 2, 3, 4, 5, 6, 7, 8]),
+        ("yield", &[0, 2]),
+        ("fork", &[0, 3, 4, 7, 10]),
+        ("join", &[0, 3, 4, 7, 11]),
+        ("list", &[0, 3, 4, 7, 12]),
+    ];
+    for (call, codes) in codes {
+        let of_call = met.iter().filter(|((name, _), _)| *name == call);
+        let found: Vec<u8> = of_call.map(|((_, code), _)| *code).collect();
+        assert_eq!(found, codes, "codes of {call}");
+        for &code in codes {
+            let times = met[&(call, code)];
+            assert!(times >= 30, "{call} met code {code} only {times} times");
+        }
+    }
+}
+
+/// The sizes of a day are reached: full logs that go on, all 64 revisions, deep joins.
+#[test]
+fn random_days_reach_the_limits() {
+    let full = (0..12).filter(|&seed| {
+        let calls = random_day(&Profile::FULL, seed);
+        let mut day = plain::Day::fresh();
+        let codes: Vec<Code> = calls.iter().map(|&call| day.call(call).code).collect();
+        let at = codes.iter().position(|&code| code == Code::LogFull);
+        let joined_after = |at: usize| {
+            let mut rest = calls[at..].iter().zip(&codes[at..]);
+            rest.any(|(call, &code)| name(*call) == "join" && code == Code::Accepted)
+        };
+        at.is_some_and(joined_after)
+    });
+    assert!(full.count() >= 6, "full logs with joins after them");
+
+    let all_started = (0..100).filter(|&seed| {
+        let mut day = plain::Day::fresh();
+        let mut answered = random_day(&Profile::FORKS, seed).into_iter().map(|c| (c, day.call(c)));
+        answered.any(|(call, answer)| name(call) == "fork" && answer.value == 63)
+    });
+    assert!(all_started.count() >= 30, "days with 64 revisions");
+
+    let longest = (0..100).map(|seed| {
+        let mut day = plain::Day::fresh();
+        let accepted = |call: &Call| day.call(*call).code == Code::Accepted;
+        chain_of_joins(seed)
+            .into_iter()
+            .filter(accepted)
+            .filter(|call| name(*call) == "join")
+            .count()
+    });
+    assert_eq!(longest.max(), Some(63), "joins in a chain");
+}
+
+fn name(call: Call) -> &'static str {
+    match call {
+        Call::Update { .. } => "update",
+        Call::Query { .. } => "query",
+        Call::Yield { .. } => "yield",
+        Call::Fork { .. } => "fork",
+        Call::Join { .. } => "join",
+        Call::List { .. } => "list",
+    }
+}

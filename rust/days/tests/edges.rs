@@ -1,0 +1,303 @@
+//! 01, "Edges of a race day", of the literal replay and of the plain implementation: codes and
+//! values, call by call. The readings of docs/DECISIONS.md stand beside them.
+
+use calls::{Answer, Call};
+
+const TIME: u8 = 1;
+const EARLIEST: u8 = 2;
+const PENALTY: u8 = 3;
+const STRIKE: u8 = 4;
+
+fn update(client: u8, revision: u8, kind: u8, bib: u16, v: u32) -> Call {
+    Call::Update { client, revision, kind, bib, v }
+}
+
+fn query(client: u8, revision: u8, bib: u16) -> Call {
+    Call::Query { client, revision, bib }
+}
+
+fn yields(client: u8) -> Call {
+    Call::Yield { client }
+}
+
+fn fork(revision: u8) -> Call {
+    Call::Fork { revision }
+}
+
+fn join(joiner: u8, joinee: u8) -> Call {
+    Call::Join { joiner, joinee }
+}
+
+fn list(revision: u8, room: usize) -> Call {
+    Call::List { revision, room }
+}
+
+/// The answers of both implementations, which are the same.
+fn answers(calls: &[Call]) -> Vec<Answer> {
+    let (mut literal, mut plain) = (literal::Day::fresh(), plain::Day::fresh());
+    let by_literal: Vec<Answer> = calls.iter().map(|&call| literal.call(call)).collect();
+    let by_plain: Vec<Answer> = calls.iter().map(|&call| plain.call(call)).collect();
+    assert_eq!(by_literal, by_plain);
+    by_literal
+}
+
+/// Makes the calls of one day, and compares each answer's code and value.
+fn day(name: &str, steps: &[(Call, u8, u32)]) {
+    let calls: Vec<Call> = steps.iter().map(|step| step.0).collect();
+    for (at, (answer, &(call, code, value))) in answers(&calls).iter().zip(steps).enumerate() {
+        assert_eq!((answer.code.number(), answer.value), (code, value), "{name}, {at}: {call}");
+    }
+}
+
+#[test]
+fn e1_the_order_is_not_that_of_the_numbers() {
+    day(
+        "E1",
+        &[
+            (update(0, 0, TIME, 7, 61000), 0, 0),
+            (yields(0), 0, 0),
+            (fork(0), 0, 1),
+            (update(1, 1, PENALTY, 7, 5000), 0, 1),
+            (fork(1), 7, 0),
+            (yields(1), 0, 0),
+            (update(0, 0, TIME, 7, 60000), 0, 2),
+            (yields(0), 0, 0),
+            (query(0, 1, 7), 8, 0),
+            (join(0, 1), 0, 1),
+            (query(1, 0, 7), 0, 65000),
+            (update(0, 1, STRIKE, 7, 0), 4, 0),
+        ],
+    );
+}
+
+#[test]
+fn e2_no_revision_takes_over_its_forker() {
+    day(
+        "E2",
+        &[
+            (fork(0), 0, 1),
+            (fork(1), 0, 2),
+            (join(0, 2), 11, 0),
+            (join(2, 1), 11, 0),
+            (join(0, 1), 0, 0),
+            (join(0, 2), 0, 0),
+        ],
+    );
+}
+
+#[test]
+fn e3_the_later_fork_saw_the_earlier_one() {
+    day("E3", &[(fork(0), 0, 1), (fork(0), 0, 2), (join(1, 2), 11, 0), (join(2, 1), 0, 0)]);
+}
+
+#[test]
+fn e4_a_join_with_itself() {
+    day("E4", &[(join(0, 0), 11, 0), (query(3, 0, 7), 0, 0), (join(0, 0), 7, 0)]);
+}
+
+#[test]
+fn e5_a_penalty_wraps() {
+    day(
+        "E5",
+        &[
+            (update(0, 0, TIME, 7, 1), 0, 0),
+            (update(0, 0, PENALTY, 7, 4_294_967_295), 0, 1),
+            (query(0, 0, 7), 0, 0),
+        ],
+    );
+}
+
+#[test]
+fn e6_earliest() {
+    for (first, second) in [(0, 9), (9, 0), (9, 9)] {
+        day(
+            "E6",
+            &[
+                (update(0, 0, EARLIEST, 7, first), 0, 0),
+                (update(0, 0, EARLIEST, 7, second), 0, 1),
+                (query(0, 0, 7), 0, 9),
+            ],
+        );
+    }
+}
+
+#[test]
+fn e7_two_yields_in_a_row() {
+    day("E7", &[(update(2, 0, TIME, 5, 8), 0, 0), (yields(2), 0, 0), (yields(2), 0, 0)]);
+    day("E7 without an event", &[(yields(15), 0, 0), (yields(15), 0, 0), (yields(16), 2, 0)]);
+}
+
+#[test]
+fn e8_a_join_without_updates_gains_nothing() {
+    day(
+        "E8",
+        &[(update(0, 0, TIME, 5, 8), 0, 0), (yields(0), 0, 0), (fork(0), 0, 1), (join(0, 1), 0, 0)],
+    );
+}
+
+#[test]
+fn e9_the_last_bib() {
+    day(
+        "E9",
+        &[
+            (update(0, 0, TIME, 999, 8), 0, 0),
+            (update(0, 0, TIME, 1000, 8), 5, 0),
+            (query(0, 0, 999), 0, 8),
+            (query(0, 0, 1000), 5, 0),
+        ],
+    );
+}
+
+/// Update 4,096 is taken, the next gives 9, and joins still work. The log is one for all revisions.
+#[test]
+fn the_log_is_full_after_4096_updates_of_all_revisions() {
+    let mut steps = vec![(fork(0), 0, 1), (fork(0), 0, 2)];
+    for number in 0..4_096 {
+        let client = (number % 3) as u8;
+        steps.push((update(client, client, PENALTY, 7, 1), 0, number));
+    }
+    steps.extend([(0, 0), (1, 1), (2, 2)].map(|(c, r)| (update(c, r, TIME, 7, 1), 9, 0)));
+    steps.extend([0, 1, 2].map(|client| (yields(client), 0, 0)));
+    steps.push((update(3, 0, STRIKE, 7, 0), 9, 0));
+    steps.push((query(0, 0, 7), 0, 1_366));
+    steps.push((yields(0), 0, 0));
+    steps.push((join(0, 1), 0, 1_365));
+    steps.push((update(3, 0, STRIKE, 7, 0), 9, 0));
+    steps.push((join(0, 2), 0, 1_365));
+    steps.push((query(0, 0, 7), 0, 4_096));
+    steps.push((list(0, 12 * 4_096), 7, 0));
+    steps.push((yields(0), 0, 0));
+    steps.push((list(0, 12 * 4_096 - 1), 12, 0));
+    steps.push((list(0, 12 * 4_096), 0, 4_096));
+    day("full log", &steps);
+}
+
+/// The 63rd fork gives box 63, the next gives 10. Boxes handed in still count.
+#[test]
+fn sixty_three_forks() {
+    let mut steps: Vec<(Call, u8, u32)> = Vec::new();
+    for number in 1..=63 {
+        let forker = if number % 5 == 0 { number - 1 } else { 0 };
+        steps.push((fork(forker), 0, u32::from(number)));
+    }
+    steps.push((fork(0), 10, 0));
+    steps.push((fork(63), 10, 0));
+    steps.push((fork(64), 3, 0));
+    steps.push((join(0, 63), 0, 0));
+    steps.push((fork(0), 10, 0));
+    steps.push((fork(63), 4, 0));
+    steps.push((query(0, 0, 0), 0, 0));
+    steps.push((fork(0), 7, 0));
+    day("63 forks", &steps);
+}
+
+#[test]
+fn an_empty_listing_needs_no_room() {
+    day("empty listing", &[(list(0, 0), 0, 0), (list(1, 0), 3, 0)]);
+}
+
+#[test]
+fn a_listing_is_in_the_order_of_the_effects() {
+    let calls = [
+        update(4, 0, TIME, 7, 61000),
+        yields(4),
+        fork(0),
+        update(1, 1, STRIKE, 999, 5),
+        yields(1),
+        update(0, 0, EARLIEST, 7, u32::MAX),
+        yields(0),
+        join(0, 1),
+        list(0, 36),
+    ];
+    let answer = answers(&calls).pop().unwrap();
+    let line = |kind, client, bib, v, number| calls::Line { kind, client, bib, v, number };
+    let lines =
+        [line(TIME, 4, 7, 61000, 0), line(EARLIEST, 0, 7, u32::MAX, 2), line(STRIKE, 1, 999, 5, 1)];
+    assert_eq!((answer.code.number(), answer.value), (0, 3));
+    assert_eq!(answer.lines, lines);
+}
+
+/// Readings 1 and 2: the lowest number that applies to either box.
+#[test]
+fn a_join_takes_the_lowest_code_of_either_revision() {
+    let start =
+        [(fork(0), 0, 1), (fork(0), 0, 2), (join(0, 1), 0, 0), (update(0, 2, TIME, 1, 1), 0, 0)];
+    for (joiner, joinee, code) in [(1, 9, 3), (9, 1, 3), (2, 1, 4), (1, 2, 4), (2, 0, 7), (0, 2, 7)]
+    {
+        let mut steps = start.to_vec();
+        steps.push((join(joiner, joinee), code, 0));
+        day("join codes", &steps);
+    }
+}
+
+/// Each check of an update and of a query ends the call before the ones after it: mending the
+/// lowest fault each time brings out the next code.
+#[test]
+fn codes_come_in_ascending_order() {
+    let start = [
+        (fork(0), 0, 1),
+        (fork(0), 0, 2),
+        (fork(0), 0, 3),
+        (join(0, 3), 0, 0),
+        (update(1, 1, TIME, 1, 1), 0, 0),
+        (update(2, 2, TIME, 1, 1), 0, 1),
+    ];
+    let ask = |call, code| {
+        let mut steps = start.to_vec();
+        steps.push((call, code, 0));
+        day("ascending", &steps);
+    };
+    ask(update(16, 64, 0, 1000, 0), 2);
+    ask(update(2, 64, 0, 1000, 0), 3);
+    ask(update(2, 3, 0, 1000, 0), 4);
+    ask(update(2, 1, 0, 999, 0), 5);
+    ask(update(2, 1, 5, 999, 0), 5);
+    ask(update(2, 1, TIME, 1000, 0), 5);
+    ask(update(2, 1, TIME, 999, 0), 6);
+    ask(update(3, 1, TIME, 999, 0), 7);
+    ask(query(16, 64, 1000), 2);
+    ask(query(2, 4, 1000), 3);
+    ask(query(2, 3, 1000), 4);
+    ask(query(2, 1, 1000), 5);
+    ask(query(2, 1, 999), 6);
+    ask(query(3, 1, 999), 7);
+}
+
+/// Readings 2 and 3: a query ties its client as an update does, and a stale client gets 8.
+#[test]
+fn a_query_is_an_event() {
+    day(
+        "query ties",
+        &[
+            (fork(0), 0, 1),
+            (query(0, 0, 7), 0, 0),
+            (update(1, 0, TIME, 7, 1), 7, 0),
+            (update(0, 1, TIME, 7, 1), 6, 0),
+            (fork(0), 7, 0),
+            (list(0, 0), 7, 0),
+            (yields(0), 0, 0),
+            (query(0, 1, 7), 8, 0),
+            (update(0, 1, TIME, 7, 1), 8, 0),
+            (query(0, 0, 7), 0, 0),
+            (yields(0), 0, 0),
+            (fork(0), 0, 2),
+            (query(0, 2, 7), 0, 0),
+        ],
+    );
+}
+
+/// A refused call leaves nothing behind: no last event, no open transaction, no number.
+#[test]
+fn a_refused_call_changes_nothing() {
+    day(
+        "refusals",
+        &[
+            (fork(0), 0, 1),
+            (update(0, 0, 9, 7, 1), 5, 0),
+            (query(0, 0, 1000), 5, 0),
+            (update(0, 1, TIME, 7, 1), 0, 0),
+            (update(1, 1, TIME, 7, 1), 7, 0),
+            (update(1, 0, TIME, 7, 1), 0, 1),
+        ],
+    );
+}

@@ -1,0 +1,104 @@
+//! The checks behind codes 2 to 12, each by itself: 01, "Codes of the desk".
+
+use calls::Code;
+
+use crate::day::{Day, CLIENTS};
+use crate::update::BIBS;
+
+/// 64 boxes, handed in or not.
+const REVISIONS: usize = 64;
+/// 4,096 updates, the sum over all boxes.
+const UPDATES: usize = 4_096;
+/// Bytes of one entry of a listing.
+const ENTRY: usize = 12;
+
+/// The code, if the condition in the table of codes holds.
+fn refuse_if(condition: bool, code: Code) -> Result<(), Code> {
+    if condition {
+        Err(code)
+    } else {
+        Ok(())
+    }
+}
+
+/// 5: "bib above 999".
+pub(crate) fn bib_known(bib: u16) -> Result<(), Code> {
+    refuse_if(usize::from(bib) >= BIBS, Code::BadEntry)
+}
+
+/// 5: "update kind not 1 to 4".
+pub(crate) fn kind_known(kind: u8) -> Result<(), Code> {
+    refuse_if(!(1..=4).contains(&kind), Code::BadEntry)
+}
+
+impl Day {
+    /// 2: "tablet above 15".
+    pub(crate) fn client_known(&self, client: usize) -> Result<(), Code> {
+        refuse_if(client >= CLIENTS, Code::StrangeClient)
+    }
+
+    /// 3: "box number not yet given out".
+    pub(crate) fn given_out(&self, revision: usize) -> Result<(), Code> {
+        refuse_if(revision >= self.revisions.len(), Code::NeverForked)
+    }
+
+    /// 4: "box already a joinee".
+    pub(crate) fn still_out(&self, revision: usize) -> Result<(), Code> {
+        refuse_if(self.revisions[revision].joined, Code::Joined)
+    }
+
+    /// 6: "the tablet's open transaction is on another box".
+    pub(crate) fn open_nowhere_else(&self, client: usize, revision: usize) -> Result<(), Code> {
+        let open = self.open_revision(client);
+        refuse_if(open.is_some_and(|other| other != revision), Code::OtherRevisionOpen)
+    }
+
+    /// 7, update and query: "another tablet has the box busy".
+    pub(crate) fn used_by_no_other(&self, client: usize, revision: usize) -> Result<(), Code> {
+        let mut others = (0..CLIENTS).filter(|&other| other != client);
+        refuse_if(others.any(|other| self.open_revision(other) == Some(revision)), Code::InUse)
+    }
+
+    /// 7, fork, list and join: "the box, or either box, is busy".
+    pub(crate) fn idle(&self, revision: usize) -> Result<(), Code> {
+        let mut clients = 0..CLIENTS;
+        refuse_if(clients.any(|client| self.open_revision(client) == Some(revision)), Code::InUse)
+    }
+
+    /// 8: "the path from the tablet's last event is missing".
+    pub(crate) fn caught_up(&self, client: usize, revision: usize) -> Result<(), Code> {
+        let terminal = self.revisions[revision].terminal;
+        let last_event = self.clients[client].last_event;
+        refuse_if(last_event.is_some_and(|x| !self.diagram.leads(x, terminal)), Code::StaleClient)
+    }
+
+    /// 9: "4,096 updates taken".
+    pub(crate) fn log_has_room(&self) -> Result<(), Code> {
+        refuse_if(self.updates.len() >= UPDATES, Code::LogFull)
+    }
+
+    /// 10: "64 boxes started".
+    pub(crate) fn revision_left(&self) -> Result<(), Code> {
+        refuse_if(self.revisions.len() >= REVISIONS, Code::NoRevisionLeft)
+    }
+
+    /// 11: "joinee is box 0, is the joiner, its fork isn't seen, or its start is".
+    pub(crate) fn joinable(&self, joiner: usize, joinee: usize) -> Result<(), Code> {
+        let terminal = self.revisions[joiner].terminal;
+        let start = self.revisions[joinee].start;
+        let fork_seen = self.diagram.f_edge(start).is_some_and(|x| self.diagram.leads(x, terminal));
+        let start_seen = self.diagram.leads(start, terminal);
+        let refused = joinee == 0 || joinee == joiner || !fork_seen || start_seen;
+        refuse_if(refused, Code::NotJoinable)
+    }
+
+    /// 12: "the listing's buffer is smaller than it needs".
+    pub(crate) fn listing_fits(&self, visible: usize, room: usize) -> Result<(), Code> {
+        refuse_if(room < ENTRY * visible, Code::ListingShort)
+    }
+
+    /// The revision of a client's open transaction.
+    fn open_revision(&self, client: usize) -> Option<usize> {
+        self.clients[client].open.map(|transaction| self.transactions[transaction].revision)
+    }
+}

@@ -1,0 +1,104 @@
+//! The record of the day: 01, "The plain day and its line-up".
+
+use crate::diagram::{Diagram, VertexId};
+use crate::update::Update;
+
+/// How many clients there are: 0 to 15.
+pub(crate) const CLIENTS: usize = 16;
+
+/// A revision that was started.
+#[derive(Clone, Copy, Debug)]
+pub struct Revision {
+    /// Its start vertex.
+    pub start: VertexId,
+    /// Its last vertex.
+    pub terminal: VertexId,
+    /// Whether it was joined.
+    pub joined: bool,
+}
+
+/// The events of a client between yields.
+#[derive(Clone, Debug)]
+pub struct Transaction {
+    /// Whose it is.
+    pub client: usize,
+    /// Where it is.
+    pub revision: usize,
+    /// Its events, as entered; never empty.
+    pub events: Vec<VertexId>,
+    /// The size of the diagram when its yield came; none while it is open. The yield came before
+    /// the vertices from that place on.
+    pub yielded: Option<usize>,
+}
+
+/// What is kept of a client.
+#[derive(Clone, Copy, Debug, Default)]
+pub(crate) struct Client {
+    pub(crate) last_event: Option<VertexId>,
+    /// Its open transaction, by its place among all transactions.
+    pub(crate) open: Option<usize>,
+}
+
+/// The day kept on paper.
+#[derive(Clone, Debug)]
+pub struct Day {
+    pub(crate) diagram: Diagram,
+    pub(crate) revisions: Vec<Revision>,
+    pub(crate) clients: [Client; CLIENTS],
+    pub(crate) updates: Vec<Update>,
+    pub(crate) transactions: Vec<Transaction>,
+}
+
+impl Day {
+    /// "It begins with box 0 out, at the root."
+    pub fn fresh() -> Self {
+        let (diagram, root) = Diagram::root();
+        Day {
+            diagram,
+            revisions: vec![Revision { start: root, terminal: root, joined: false }],
+            clients: [Client::default(); CLIENTS],
+            updates: Vec::new(),
+            transactions: Vec::new(),
+        }
+    }
+
+    /// The diagram.
+    pub fn diagram(&self) -> &Diagram {
+        &self.diagram
+    }
+
+    /// All revisions started, by number.
+    pub fn revisions(&self) -> &[Revision] {
+        &self.revisions
+    }
+
+    /// All transactions, open ones and those of queries alone too, in the order of their first
+    /// events.
+    pub fn transactions(&self) -> &[Transaction] {
+        &self.transactions
+    }
+
+    /// All updates taken, by number.
+    pub fn updates(&self) -> &[Update] {
+        &self.updates
+    }
+
+    /// The visible updates of a revision, busy or not, in the listing's order.
+    pub fn visible(&self, revision: usize) -> Vec<usize> {
+        self.diagram.visible(self.revisions[revision].terminal)
+    }
+
+    /// Whether vertex x sees vertex y: "A vertex sees each vertex from which a path leads to it."
+    pub fn sees(&self, x: VertexId, y: VertexId) -> bool {
+        self.diagram.leads(y, x)
+    }
+
+    /// The revision that a vertex belongs to.
+    pub fn revision_of(&self, x: VertexId) -> usize {
+        let start = self.diagram.start_of(x);
+        match self.revisions.iter().position(|revision| revision.start == start) {
+            Some(revision) => revision,
+            None => unreachable!("every start vertex starts a revision"),
+        }
+    }
+}

@@ -1,0 +1,18 @@
+//! A literal replay of 01: the day kept on paper.
+//!
+//! An explicit graph of vertices and edges, a path search each time a path is asked for, and the
+//! recursion of 002's Definitions 8 and 9. Nothing is clever and nothing is kept that can be worked
+//! out. It is the measure that the table and the plain implementation are compared with.
+
+#![forbid(unsafe_code)]
+
+mod checks;
+mod day;
+mod diagram;
+mod effects;
+mod steps;
+mod update;
+
+pub use day::{Day, Revision, Transaction};
+pub use diagram::{Diagram, VertexId, VertexKind};
+pub use update::Update;

@@ -1,0 +1,57 @@
+//! Numbers that passed their range check, so that one is never taken for another.
+
+use calls::Code;
+
+/// Revision numbers are 0 to 63.
+pub(crate) const REVISIONS: usize = 64;
+/// Client numbers are 0 to 15.
+pub(crate) const CLIENTS: usize = 16;
+/// Bibs are 0 to 999.
+pub(crate) const BIBS: u16 = 1_000;
+
+/// A revision that was given out (01: box).
+#[derive(Clone, Copy, Debug, PartialEq, Eq)]
+pub(crate) struct Revision(pub(crate) u8);
+
+/// A client (01: tablet).
+#[derive(Clone, Copy, Debug, PartialEq, Eq)]
+pub(crate) struct Client(pub(crate) u8);
+
+/// A bib.
+#[derive(Clone, Copy, Debug, PartialEq, Eq)]
+pub(crate) struct Bib(pub(crate) u16);
+
+impl Revision {
+    /// The main revision.
+    pub(crate) const MAIN: Revision = Revision(0);
+
+    pub(crate) fn index(self) -> usize {
+        usize::from(self.0)
+    }
+}
+
+impl Client {
+    /// Code 2.
+    pub(crate) fn checked(number: u8) -> Result<Self, Code> {
+        if usize::from(number) < CLIENTS {
+            Ok(Client(number))
+        } else {
+            Err(Code::StrangeClient)
+        }
+    }
+
+    pub(crate) fn index(self) -> usize {
+        usize::from(self.0)
+    }
+}
+
+impl Bib {
+    /// Code 5.
+    pub(crate) fn checked(number: u16) -> Result<Self, Code> {
+        if number < BIBS {
+            Ok(Bib(number))
+        } else {
+            Err(Code::BadEntry)
+        }
+    }
+}
