@@ -7,7 +7,7 @@ use native.Mathlib.Nat.{add-zero, add-suc}
 use native.Mathlib.Omega.{arith}
 use lib.Dec.{eqb, ltb}
 use lib.ListN.{length, take, drop, getD, length-append, length-take, length-drop, List·getD-eq-default}
-use lib.Seq.{take-at, drop-at, take-add, take-all, length-take-le}
+use lib.Seq.{take-at, drop-at, take-add, take-all, getD-take, getD-drop, length-take-le}
 use borrow.Author.Tests.{eqb-true, eqb-false, eq-eqb, ne-eqb, ltb-true, ltb-false}
 use borrow.Rule.Slice.PartMut.{midOf, putMid}
 use Rattle.lists.specs.Lists.{changed}
@@ -129,6 +129,13 @@ part-read d i a k ea ek = rw (ea, ek)
 pub part-wrote : (d : List ℕ) (i a k : ℕ) (q : List ℕ) → length d ≡ bytes → i < parts → offset i ≡ a → size i ≡ k → putMid a k d q ≡ wrote d i q
 part-wrote d i a k q h l ea ek =
     rw (← ea, ← ek) (ap (λ z. putMid (offset i) (size i) z q) (sym (glue-split d h)) ∙ glue-write (split d) (split-sized d h) i q l)
+
+pub part-lent : (d : List ℕ) (i a k : ℕ) (f : List ℕ → List ℕ) (q : List ℕ) → length d ≡ bytes → i < parts → offset i ≡ a → size i ≡ k → q ≡ f (midOf a k d) → putMid a k d q ≡ wrote d i (f (split d i))
+part-lent d i a k f q h l ea ek e = part-wrote d i a k q h l ea ek ∙ ap (wrote d i) (e ∙ ap f (part-read d i a k ea ek))
+
+-- byte j of part i, read in the whole
+pub part-byte : (d : List ℕ) (i a k j : ℕ) → offset i ≡ a → size i ≡ k → j < k → getD d (a + j) 0 ≡ getD (split d i) j 0
+part-byte d i a k j ea ek h = sym (getD-drop a d j 0) ∙ sym (getD-take k (drop a d) j 0 h) ∙ ap (λ z. getD z j 0) (part-read d i a k ea ek)
 
 -- bytes that are these parts
 pub record Holds (d : List ℕ) (p : Parts) : Type 0 where

@@ -11,22 +11,23 @@ use Rattle.cells.specs.Sizes.{revisions, clients, updates}
 use Rattle.cells.specs.Tables.{every}
 use Rattle.cells.specs.Parts.{Parts, split, statePart, usedPart, lastPart, firstPart, countPart, basePart, layoutPart, queuePart, openedPart, countersPart, signaturePart}
 use Rattle.cells.specs.Words.{byte, word}
-use Rattle.cells.specs.Decode.{decode}
+use Rattle.cells.specs.Cells.{Cells}
+use Rattle.cells.specs.Decode.{decode, cells}
 use Rattle.cells.specs.Range.{bytesBelow, wordsBelow, countersIn, signed, partsIn, inRange}
 use Rattle.cells.proofs.Tables.{every-at}
 
 -- the ranges that the steps rely on
-pub record Ranges (p : Parts) : Type 0 where
-  pub last : (r : ℕ) → r < revisions → decode p .last r < updates
-  pub first : (r : ℕ) → r < revisions → decode p .first r < updates
-  pub count : (r : ℕ) → r < revisions → decode p .count r ≤ updates
-  pub base : (r : ℕ) → r < revisions → decode p .base r ≤ updates
-  pub layout : (i : ℕ) → i < revisions → byte (p layoutPart) i < revisions
-  pub taken : decode p .updates ≤ updates
-  pub some-out : 0 < decode p .out
-  pub most-out : decode p .out ≤ revisions
-  pub some-given : 0 < decode p .given
-  pub most-given : decode p .given ≤ revisions
+pub record Ranges (k : Cells) : Type 0 where
+  pub last : (r : ℕ) → r < revisions → k .last r < updates
+  pub first : (r : ℕ) → r < revisions → k .first r < updates
+  pub count : (r : ℕ) → r < revisions → k .count r ≤ updates
+  pub base : (r : ℕ) → r < revisions → k .base r ≤ updates
+  pub layout : (i : ℕ) → i < revisions → byte (k .layout) i < revisions
+  pub taken : k .updates ≤ updates
+  pub some-out : 0 < k .out
+  pub most-out : k .out ≤ revisions
+  pub some-given : 0 < k .given
+  pub most-given : k .given ≤ revisions
 
 module _ (n limit : ℕ) (t : List ℕ) where
   byte-below : bytesBelow n limit t ≡ true → (i : ℕ) → i < n → byte t i < limit
@@ -43,7 +44,7 @@ counters-in t e =
     let d = and-true (ltb 0 (byte t 3)) (ltb (byte t 3) 65) (c .1) in
     (ltb-true _ _ (a .0), ltb-true _ _ (b .0), ltb-true _ _ (c .0), ltb-true _ _ (d .0), ltb-true _ _ (d .1))
 
-pub parts-ranges : (p : Parts) → partsIn p ≡ true → Ranges p
+pub parts-ranges : (p : Parts) → partsIn p ≡ true → Ranges (decode p)
 parts-ranges p e =
     let a = and-true (bytesBelow revisions 3 (p statePart)) _ e in
     let b = and-true (bytesBelow revisions 2 (p usedPart)) _ (a .1) in
@@ -68,6 +69,6 @@ parts-ranges p e =
       most-given = let z = m .4 in omega arith;
     }
 
-pub ranges : (d : List ℕ) → inRange d ≡ true → Ranges (split d)
-unfolding inRange
+pub ranges : (d : List ℕ) → inRange d ≡ true → Ranges (cells d)
+unfolding inRange cells
 ranges d e = parts-ranges (split d) e

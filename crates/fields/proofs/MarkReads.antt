@@ -1,0 +1,47 @@
+-- A mark read in the whole.
+use Prim.Native.Nat.{ℕ, zero, suc, _+_, _*_, _-_, _/_, _%_, _<_, _≤_}
+use mathlib.Core.Bool.{Bool, true, false, _&&_}
+use mathlib.Core.Path.{_≡_, refl, sym, ap, _∙_}
+use mathlib.Core.List.{List}
+use native.Mathlib.Numerals.{sub-one}
+use native.Mathlib.Omega.{arith}
+use lib.ListN.{getD}
+use borrow.Author.Tests.{lt-ltb}
+use Rattle.cells.specs.Sizes.{bytes, revisions, clients, updates}
+use Rattle.cells.specs.Parts.{split, offset, size, rowsPart, seenPart, caughtPart}
+use Rattle.cells.specs.Marks.{bit, putRow}
+use Rattle.cells.specs.Cells.{marked}
+use Rattle.cells.specs.Decode.{cells}
+use Rattle.cells.specs.Steps.{putRowOf}
+use Rattle.cells.proofs.Parts.{part-byte}
+
+module _ (d : List ℕ) where
+  pub seen-at : (x y : ℕ) → x < revisions → y < revisions → bit (getD d (38400 + (8 * x + y / 8)) 0) (y % 8) ≡ cells d .seen x y
+  unfolding cells offset size
+  seen-at x y h g = rw (lt-ltb x revisions h, lt-ltb y revisions g, part-byte d seenPart 38400 512 (8 * x + y / 8) refl refl (omega arith))
+
+  pub caught-at : (x y : ℕ) → x < clients → y < revisions → bit (getD d (38912 + (8 * x + y / 8)) 0) (y % 8) ≡ cells d .caught x y
+  unfolding cells offset size
+  caught-at x y h g = rw (lt-ltb x clients h, lt-ltb y revisions g, part-byte d caughtPart 38912 128 (8 * x + y / 8) refl refl (omega arith))
+
+  none : (b : Bool) → false ≡ (b && false)
+  none true = refl
+  none false = refl
+
+  -- the main revision has no row, and a row that is not in use has no mark
+  pub main-unmarked : (r u : ℕ) → r ≡ 0 → false ≡ marked (cells d) r u
+  unfolding cells
+  main-unmarked r u e = rw e (none (cells d .used 0))
+
+  pub unused-unmarked : (r u : ℕ) → cells d .used r ≡ false → false ≡ marked (cells d) r u
+  unused-unmarked r u e = rw e
+
+  pub marked-at : (r u : ℕ) → r < revisions → (r ≡ 0 → ⊥) → u < updates → cells d .used r ≡ true → bit (getD d (512 * (r - 1) + u / 8) 0) (u % 8) ≡ marked (cells d) r u
+  unfolding cells offset size
+  marked-at zero u h n l e = absurd (n refl)
+  marked-at (suc r) u h n l e = rw (e, sub-one, lt-ltb r 63 (omega arith), lt-ltb u updates l) (let e : 512 * r + u / 8 ≡ 0 + (512 * r + u / 8) = omega arith in ap (λ z. bit (getD d z 0) (u % 8)) e ∙ ap (λ b. bit b (u % 8)) (part-byte d rowsPart 0 32256 (512 * r + u / 8) refl refl (omega arith)))
+
+-- the rows begin at revision 1
+pub row-of : (t : List ℕ) (c x : ℕ) (f : ℕ → Bool) → 0 < c → x ≡ c → putRow 512 t (x - 1) f ≡ putRowOf t c f
+row-of t zero x f h e = absurd (omega arith)
+row-of t (suc c) x f h e = rw (e, sub-one)

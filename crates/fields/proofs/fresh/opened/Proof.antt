@@ -1,0 +1,24 @@
+-- `fields::fresh::opened` meets its contract: one part is lent and comes back written. Assumes nothing.
+use mathlib.Core.Path.{_∙_, ap, refl}
+use native.Mathlib.Omega.{arith}
+use borrow.Author.Needs.{needs}
+use Rattle.cells.specs.Parts.{offset, openedPart, size, wrote}
+use Rattle.cells.proofs.Parts.{part-wrote}
+use Rattle.fields.proofs.fresh.opened.Statement.{statement}
+use Rattle.fields.proofs.fresh.opened.Tie as tie
+
+returns : tie.Need-returns
+unfolding offset size
+returns c =
+    let d = c .before .before .before .before .before .before .args .d .now in
+    part-wrote d openedPart 39808 16 _ (omega arith) (omega arith) refl refl ∙ ap (wrote d openedPart) (c .before .before .copy16 .ensures ∙ c .before .before .before .fresh-opened .ensures)
+
+pub opened-spec : {M : Type 1} → statement M
+opened-spec = tie.close (tie.spec
+    (λ c. search needs)
+    (λ c. search needs)
+    (λ c. search needs)
+    (λ c κs. search needs)
+    (λ c κs. search needs)
+    (λ c. search needs)
+    returns)

@@ -1,0 +1,24 @@
+-- `fields::fresh::sign` meets its contract: one part is lent and comes back written. Assumes nothing.
+use mathlib.Core.Path.{_∙_, ap, refl}
+use native.Mathlib.Omega.{arith}
+use borrow.Author.Needs.{needs}
+use Rattle.cells.specs.Parts.{offset, signaturePart, size, wrote}
+use Rattle.cells.proofs.Parts.{part-wrote}
+use Rattle.fields.proofs.fresh.sign.Statement.{statement}
+use Rattle.fields.proofs.fresh.sign.Tie as tie
+
+returns : tie.Need-returns
+unfolding offset size
+returns c =
+    let d = c .before .before .before .before .before .before .args .d .now in
+    part-wrote d signaturePart 40952 8 _ (omega arith) (omega arith) refl refl ∙ ap (wrote d signaturePart) (c .before .before .copy8 .ensures ∙ c .before .before .before .signature .ensures)
+
+pub sign-spec : {M : Type 1} → statement M
+sign-spec = tie.close (tie.spec
+    (λ c. search needs)
+    (λ c. search needs)
+    (λ c. search needs)
+    (λ c κs. search needs)
+    (λ c κs. search needs)
+    (λ c. search needs)
+    returns)

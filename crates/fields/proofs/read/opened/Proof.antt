@@ -1,0 +1,25 @@
+-- `fields::read::opened` meets its contract: the part is read in its place. Assumes nothing.
+use mathlib.Core.Path.{_∙_, ap, refl}
+use borrow.Author.Needs.{needs}
+use borrow.Rule.Slice.PartMut.{midOf}
+use Rattle.cells.specs.Decode.{cells}
+use Rattle.cells.specs.Parts.{offset, openedPart, size}
+use Rattle.cells.specs.Words.{byte}
+use Rattle.cells.proofs.Parts.{part-read}
+use Rattle.fields.proofs.read.opened.Statement.{statement}
+use Rattle.fields.proofs.read.opened.Tie as tie
+
+returns : tie.Need-returns
+unfolding cells offset size
+returns c =
+    let d = c .before .before .before .before .args .d .now in
+    (c .byte-at .ensures .0 ∙ ap (λ r. byte (midOf 39808 16 d) r) (c .before .wide .ensures .0) ∙ ap (λ t. byte t (c .before .before .before .before .args .c .0)) (part-read d openedPart 39808 16 refl refl), c .byte-at .ensures .1)
+
+pub opened-spec : {M : Type 1} → statement M
+opened-spec = tie.close (tie.spec
+    (λ c. search needs)
+    (λ c. search needs)
+    (λ c. search needs)
+    (λ c κs. search needs)
+    (λ c κs. search needs)
+    returns)

@@ -1,0 +1,27 @@
+-- `fields::write::first` meets its contract: one part is lent and comes back written. Assumes nothing.
+use mathlib.Core.Path.{_∙_, ap, refl}
+use native.Mathlib.Omega.{arith}
+use borrow.Author.Needs.{needs}
+use Rattle.cells.specs.Parts.{firstPart, offset, size, split, wrote}
+use Rattle.cells.specs.Words.{putWord}
+use Rattle.cells.proofs.Parts.{part-lent}
+use Rattle.fields.proofs.write.first.Statement.{statement}
+use Rattle.fields.proofs.write.first.Tie as tie
+
+returns : tie.Need-returns
+unfolding offset size
+returns c =
+    let s = c .before .before .before .before .before .before .args in
+    let d = s .d .now in
+    part-lent d firstPart 39296 128 (λ t. putWord t (c .before .before .before .wide .result) (s .v)) _ (omega arith) (omega arith) refl refl (c .before .before .put-word .ensures)
+    ∙ ap (λ r. wrote d firstPart (putWord (split d firstPart) r (s .v))) (c .before .before .before .wide .ensures .0)
+
+pub first-spec : {M : Type 1} → statement M
+first-spec = tie.close (tie.spec
+    (λ c. search needs)
+    (λ c. search needs)
+    (λ c. search needs)
+    (λ c κs. search needs)
+    (λ c κs. search needs)
+    (λ c. search needs)
+    returns)

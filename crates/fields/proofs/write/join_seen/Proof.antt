@@ -1,0 +1,32 @@
+-- `fields::write::join_seen` meets its contract: one part is lent and comes back written. Assumes nothing.
+use mathlib.Core.Path.{_∙_, ap, refl}
+use native.Mathlib.Omega.{arith}
+use borrow.Author.Needs.{needs}
+use Rattle.cells.specs.CellSteps.{joinSeen}
+use Rattle.cells.specs.Decode.{cells}
+use Rattle.cells.specs.Marks.{markIn, pack}
+use Rattle.cells.specs.Parts.{offset, seenPart, size, split, wrote}
+use Rattle.cells.specs.Sizes.{revisions}
+use Rattle.cells.proofs.Parts.{part-lent}
+use Rattle.fields.proofs.write.join_seen.Statement.{statement}
+use Rattle.fields.proofs.write.join_seen.Tie as tie
+
+returns : tie.Need-returns
+unfolding cells offset size
+returns c =
+    let s = c .before .before .before .before .before .before .before .args in
+    let d = s .d .now in
+    part-lent d seenPart 38400 512 (λ t. pack revisions (joinSeen (markIn 8 revisions t) (c .before .before .before .before .wide .result) (c .before .before .before .wide2 .result))) _ (omega arith) (omega arith) refl refl (c .before .before .join-seen .ensures)
+    ∙ ap (λ x. wrote d seenPart (pack revisions (joinSeen (markIn 8 revisions (split d seenPart)) x (c .before .before .before .wide2 .result)))) (c .before .before .before .before .wide .ensures .0)
+    ∙ ap (λ y. wrote d seenPart (pack revisions (joinSeen (markIn 8 revisions (split d seenPart)) (s .a .0) y))) (c .before .before .before .wide2 .ensures .0)
+
+pub join-seen-spec : {M : Type 1} → statement M
+join-seen-spec = tie.close (tie.spec
+    (λ c. search needs)
+    (λ c. search needs)
+    (λ c. search needs)
+    (λ c κs. search needs)
+    (λ c κs. search needs)
+    (λ c κs. search needs)
+    (λ c. search needs)
+    returns)

@@ -1,0 +1,28 @@
+-- `fields::write::leave` meets its contract: one part is lent and comes back written. Assumes nothing.
+use mathlib.Core.Path.{refl}
+use mathlib.Core.List.{[], _++_, _∷_}
+use native.Mathlib.Omega.{arith}
+use lib.ListN.{take}
+use borrow.Author.Needs.{needs}
+use Rattle.lists.specs.Lists.{remove}
+use Rattle.cells.specs.Parts.{layoutPart, offset, size}
+use Rattle.cells.specs.Sizes.{revisions}
+use Rattle.cells.proofs.Parts.{part-lent}
+use Rattle.fields.proofs.write.leave.Statement.{statement}
+use Rattle.fields.proofs.write.leave.Tie as tie
+
+returns : tie.Need-returns
+unfolding offset size
+returns c =
+    let s = c .before .before .before .before .before .args in
+    let d = s .d .now in
+    part-lent d layoutPart 39680 64 (λ t. take revisions (remove (s .b .0) t ++ (0 ∷ []))) _ (omega arith) (omega arith) refl refl (c .before .before .take-out .ensures)
+
+pub leave-spec : {M : Type 1} → statement M
+leave-spec = tie.close (tie.spec
+    (λ c. search needs)
+    (λ c. search needs)
+    (λ c. search needs)
+    (λ c κs. search needs)
+    (λ c. search needs)
+    returns)

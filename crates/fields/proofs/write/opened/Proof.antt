@@ -1,0 +1,27 @@
+-- `fields::write::opened` meets its contract: one part is lent and comes back written. Assumes nothing.
+use mathlib.Core.Path.{_∙_, ap, refl}
+use native.Mathlib.Omega.{arith}
+use lib.ListN.{set}
+use borrow.Author.Needs.{needs}
+use Rattle.cells.specs.Parts.{offset, openedPart, size, split, wrote}
+use Rattle.cells.proofs.Parts.{part-lent}
+use Rattle.fields.proofs.write.opened.Statement.{statement}
+use Rattle.fields.proofs.write.opened.Tie as tie
+
+returns : tie.Need-returns
+unfolding offset size
+returns c =
+    let s = c .before .before .before .before .before .before .args in
+    let d = s .d .now in
+    part-lent d openedPart 39808 16 (λ t. set t (c .before .before .before .wide .result) (s .v)) _ (omega arith) (omega arith) refl refl (c .before .before .put-byte .ensures)
+    ∙ ap (λ r. wrote d openedPart (set (split d openedPart) r (s .v))) (c .before .before .before .wide .ensures .0)
+
+pub opened-spec : {M : Type 1} → statement M
+opened-spec = tie.close (tie.spec
+    (λ c. search needs)
+    (λ c. search needs)
+    (λ c. search needs)
+    (λ c κs. search needs)
+    (λ c κs. search needs)
+    (λ c. search needs)
+    returns)

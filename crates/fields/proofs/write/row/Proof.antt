@@ -1,0 +1,33 @@
+-- `fields::write::row` meets its contract: one part is lent and comes back written. Assumes nothing.
+use Prim.Native.Nat.{_-_, ℕ}
+use mathlib.Core.Bool.{Bool, false}
+use mathlib.Core.Path.{_∙_, ap, refl}
+use native.Mathlib.Omega.{arith}
+use lib.ListN.{getD}
+use borrow.Author.Needs.{needs}
+use Rattle.cells.specs.Marks.{putRow}
+use Rattle.cells.specs.Parts.{offset, rowsPart, size, split, wrote}
+use Rattle.cells.proofs.Parts.{part-lent}
+use Rattle.fields.proofs.MarkReads.{row-of}
+use Rattle.fields.proofs.write.row.Statement.{statement}
+use Rattle.fields.proofs.write.row.Tie as tie
+
+returns : tie.Need-returns
+unfolding offset size
+returns c =
+    let s = c .before .before .before .before .before .before .args in
+    let d = s .d .now in
+    let f : ℕ → Bool = λ u. getD (s .row) u false in
+    part-lent d rowsPart 0 32256 (λ t. putRow 512 t (c .before .before .before .before .wide .result - 1) f) _ (omega arith) (omega arith) refl refl (c .before .before .put .ensures)
+    ∙ ap (wrote d rowsPart) (row-of (split d rowsPart) (s .c .0) (c .before .before .before .before .wide .result) f (omega arith) (c .before .before .before .before .wide .ensures .0))
+
+pub row-spec : {M : Type 1} → statement M
+row-spec = tie.close (tie.spec
+    (λ c κs. search needs)
+    (λ c. search needs)
+    (λ c. search needs)
+    (λ c. search needs)
+    (λ c. search needs)
+    (λ c κs. search needs)
+    (λ c. search needs)
+    returns)

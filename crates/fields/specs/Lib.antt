@@ -1,0 +1,2 @@
+-- Words of the layout's code.
+pub mod Place

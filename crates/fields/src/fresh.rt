@@ -1,0 +1,70 @@
+// The parts of a fresh day: all bytes 0, then each part that is not.
+ghost use mathlib.Core.Path.{_≡_};
+ghost use mathlib.Core.Bool.{true};
+ghost use lib.ListN.{length, replicate};
+ghost use Rattle.cells.specs.Sizes.{bytes, clients, closed};
+ghost use Rattle.cells.specs.Parts.{glue, size, wrote, caughtPart, openedPart, signaturePart};
+ghost use Rattle.cells.specs.Marks.{pack};
+ghost use Rattle.cells.specs.Range.{signature};
+use crate::table::CAUGHT;
+use crate::table::COUNTERS;
+use crate::table::OPENED;
+use crate::table::SIGNATURE;
+use crate::table::STATE;
+use crate::table::Table;
+
+pub fn clear(d: &mut [u8])
+    requires { ⌜ length (now d) ≡ bytes ⌝ }
+    ensures { λ _. ⌜ now (d .exit) ≡ glue (λ i. replicate (size i) 0) ⌝ }
+{
+    let mut i: usize = 0;
+    while i < 40960 {
+        d[i] = 0;
+        i += 1;
+    }
+}
+
+// Every caught-up mark.
+pub fn caught(d: &mut [u8])
+    requires { ⌜ length (now d) ≡ bytes ⌝ }
+    ensures { λ _. ⌜ now (d .exit) ≡ wrote (now (d .entry)) caughtPart (pack clients (λ c r. true)) ⌝ }
+{
+    marks::rows::store16(&mut d[CAUGHT..STATE], Table::fresh_caught());
+}
+
+fn copy16(t: &mut [u8], from: [u8; 16])
+    requires { ⌜ length (now t) ≡ 16 ⌝ }
+    ensures { λ _. ⌜ now (t .exit) ≡ from ⌝ }
+{
+    let mut i: usize = 0;
+    while i < 16 {
+        t[i] = from[i];
+        i += 1;
+    }
+}
+
+fn copy8(t: &mut [u8], from: [u8; 8])
+    requires { ⌜ length (now t) ≡ 8 ⌝ }
+    ensures { λ _. ⌜ now (t .exit) ≡ from ⌝ }
+{
+    let mut i: usize = 0;
+    while i < 8 {
+        t[i] = from[i];
+        i += 1;
+    }
+}
+
+// No open transaction.
+pub fn opened(d: &mut [u8])
+    requires { ⌜ length (now d) ≡ bytes ⌝ }
+    ensures { λ _. ⌜ now (d .exit) ≡ wrote (now (d .entry)) openedPart (replicate clients closed) ⌝ }
+{
+    copy16(&mut d[OPENED..COUNTERS], Table::fresh_opened());
+}
+
+pub fn sign(d: &mut [u8])
+    requires { ⌜ length (now d) ≡ bytes ⌝ }
+    ensures { λ _. ⌜ now (d .exit) ≡ wrote (now (d .entry)) signaturePart signature ⌝ }
+{
+    copy8(&mut d[SIGNATURE..Table::BYTES], Table::signature());
+}

@@ -1,0 +1,70 @@
+// The layout: the revisions that are out, right to left, in 64 places.
+ghost use mathlib.Core.Path.{_≡_};
+ghost use mathlib.Core.List.{[], _++_, _∷_};
+ghost use Prim.Native.Nat.{_+_, _<_};
+ghost use lib.ListN.{drop, length, take};
+ghost use Rattle.lists.specs.Lists.{insert, remove};
+ghost use Rattle.fields.specs.Place.{firstPlace};
+
+// The first place of r, or 64.
+pub fn find(t: &[u8], r: u8) -> usize
+    requires { ⌜ length (now t) ≡ 64 ⌝ }
+    ensures { λ i. ⌜ i ≡ firstPlace r (now (t .entry)) ⌝ }
+{
+    let mut i: usize = 0;
+    while i < 64 {
+        if t[i] == r {
+            return i;
+        }
+        i += 1;
+    }
+    i
+}
+
+// What stands behind place i moves one place to the front.
+pub fn close_gap(t: &mut [u8], i: usize)
+    requires { ⌜ (length (now t) ≡ 64) × (i < 64) ⌝ }
+    ensures { λ _. ⌜ now (t .exit) ≡ (take i (now (t .entry)) ++ drop (i + 1) (now (t .entry))) ++ (0 ∷ []) ⌝ }
+{
+    let mut j = i;
+    while j < 63 {
+        t[j] = t[j + 1];
+        j += 1;
+    }
+    t[63] = 0;
+}
+
+// What stands at place i and behind it moves one place back; the last falls out. c comes to place i.
+pub fn open_gap(t: &mut [u8], i: usize, c: u8)
+    requires { ⌜ (length (now t) ≡ 64) × (i < 64) ⌝ }
+    ensures { λ _. ⌜ now (t .exit) ≡ take 64 (take i (now (t .entry)) ++ (c ∷ drop i (now (t .entry)))) ⌝ }
+{
+    let mut j: usize = 63;
+    while i < j {
+        t[j] = t[j - 1];
+        j -= 1;
+    }
+    t[i] = c;
+}
+
+// b leaves the layout.
+pub fn take_out(t: &mut [u8], b: u8)
+    requires { ⌜ length (now t) ≡ 64 ⌝ }
+    ensures { λ _. ⌜ now (t .exit) ≡ take 64 (remove b (now (t .entry)) ++ (0 ∷ [])) ⌝ }
+{
+    let i = find(t, b);
+    if i < 64 {
+        close_gap(t, i);
+    }
+}
+
+// c comes into the layout in front of p.
+pub fn put_in(t: &mut [u8], p: u8, c: u8)
+    requires { ⌜ length (now t) ≡ 64 ⌝ }
+    ensures { λ _. ⌜ now (t .exit) ≡ take 64 (insert p c (now (t .entry))) ⌝ }
+{
+    let i = find(t, p);
+    if i < 64 {
+        open_gap(t, i, c);
+    }
+}

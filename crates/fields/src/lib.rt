@@ -1,0 +1,8 @@
+// The cells by name, over the first 40,960 bytes of a table: sizes, reads and writes. The one place for offsets.
+pub mod fresh; // fresh.rt: the parts of a fresh day
+pub mod layout; // layout.rt: the places of the revisions that are out
+pub mod numbers; // numbers.rt: words and half bytes in a part
+pub mod read; // read.rt: each cell read
+pub mod row; // row.rt: a row of inherited marks, by value
+pub mod table; // table.rt: the sizes of a day, revision and client numbers
+pub mod write; // write.rt: each cell written

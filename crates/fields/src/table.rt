@@ -1,0 +1,81 @@
+// The sizes of a day, and the numbers of revisions and clients, each of a type of its own.
+ghost use mathlib.Core.Path.{_≡_};
+ghost use mathlib.Core.Bool.{true};
+ghost use lib.ListN.{replicate};
+ghost use Rattle.cells.specs.Sizes.{revisions, clients, closed};
+ghost use Rattle.cells.specs.Range.{signature};
+
+// The table: its sizes, and the parts of a fresh day that are not 0.
+pub struct Table;
+
+// A revision number: 0 to 63.
+pub struct Revision(pub u8);
+
+// A client number: 0 to 15.
+pub struct Client(pub u8);
+
+// Where each part begins: docs/CELLS.md, "The parts".
+pub const ROWS: usize = 0;
+
+pub const LOW: usize = 32256;
+
+pub const HIGH: usize = 36352;
+
+pub const SEEN: usize = 38400;
+
+pub const CAUGHT: usize = 38912;
+
+pub const STATE: usize = 39040;
+
+pub const USED: usize = 39104;
+
+pub const LAST: usize = 39168;
+
+pub const FIRST: usize = 39296;
+
+pub const COUNT: usize = 39424;
+
+pub const BASE: usize = 39552;
+
+pub const LAYOUT: usize = 39680;
+
+pub const QUEUE: usize = 39744;
+
+pub const OPENED: usize = 39808;
+
+pub const COUNTERS: usize = 39824;
+
+pub const KEPT: usize = 39828;
+
+pub const SIGNATURE: usize = 40952;
+
+impl Table {
+    pub const REVISIONS: usize = 64;
+
+    pub const CLIENTS: usize = 16;
+
+    pub const UPDATES: usize = 4096;
+
+    pub const BYTES: usize = 40960;
+
+    // A client without events may start anywhere: every caught-up mark.
+    pub fn fresh_caught() -> [[bool; Table::REVISIONS]; Table::CLIENTS]
+        ensures { λ r. ⌜ r ≡ replicate clients (replicate revisions true) ⌝ }
+    {
+        [[true; Table::REVISIONS]; Table::CLIENTS]
+    }
+
+    // No transaction is open.
+    pub fn fresh_opened() -> [u8; Table::CLIENTS]
+        ensures { λ r. ⌜ r ≡ replicate clients closed ⌝ }
+    {
+        [64; Table::CLIENTS]
+    }
+
+    // What marks the bytes as a table with this layout.
+    pub fn signature() -> [u8; 8]
+        ensures { λ r. ⌜ r ≡ signature ⌝ }
+    {
+        [83, 73, 76, 84, 84, 79, 78, 71]
+    }
+}

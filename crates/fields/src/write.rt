@@ -1,0 +1,189 @@
+// Each cell written, by name: every function writes one part.
+ghost use mathlib.Core.Path.{_≡_};
+ghost use mathlib.Core.Bool.{false};
+ghost use mathlib.Core.List.{[], _++_, _∷_};
+ghost use Prim.Native.Nat.{_<_, _/_, _%_};
+ghost use lib.Dec.{eqb};
+ghost use lib.ListN.{getD, length, set, take};
+ghost use Rattle.lists.specs.Lists.{insert, remove};
+ghost use Rattle.cells.specs.Sizes.{bytes, clients, revisions, updates};
+ghost use Rattle.cells.specs.Parts.{split, wrote, lowPart, highPart, seenPart, caughtPart, statePart, usedPart, lastPart, firstPart};
+ghost use Rattle.cells.specs.Parts.{countPart, basePart, layoutPart, openedPart, countersPart, rowsPart};
+ghost use Rattle.cells.specs.Words.{putHalf, putWord};
+ghost use Rattle.cells.specs.Marks.{pack, putRow};
+ghost use Rattle.cells.specs.Decode.{cells};
+ghost use Rattle.cells.specs.CellSteps.{forkSeen, forkCaught, joinSeen, joinCaught};
+ghost use Rattle.cells.specs.Steps.{putRowOf};
+use crate::numbers::put_byte;
+use crate::numbers::put_half;
+use crate::numbers::put_word;
+use crate::numbers::wide;
+use crate::table::BASE;
+use crate::table::CAUGHT;
+use crate::table::COUNT;
+use crate::table::COUNTERS;
+use crate::table::Client;
+use crate::table::FIRST;
+use crate::table::HIGH;
+use crate::table::KEPT;
+use crate::table::LAST;
+use crate::table::LAYOUT;
+use crate::table::LOW;
+use crate::table::OPENED;
+use crate::table::QUEUE;
+use crate::table::ROWS;
+use crate::table::Revision;
+use crate::table::SEEN;
+use crate::table::STATE;
+use crate::table::Table;
+use crate::table::USED;
+
+pub fn state(d: &mut [u8], r: Revision, v: usize)
+    requires { ⌜ (length (now d) ≡ bytes) × (r .0 < revisions) × (v < 256) ⌝ }
+    ensures { λ _. ⌜ now (d .exit) ≡ wrote (now (d .entry)) statePart (set (split (now (d .entry)) statePart) (r .0) v) ⌝ }
+{
+    put_byte(&mut d[STATE..USED], wide(r.0), v);
+}
+
+pub fn used(d: &mut [u8], r: Revision, v: usize)
+    requires { ⌜ (length (now d) ≡ bytes) × (r .0 < revisions) × (v < 256) ⌝ }
+    ensures { λ _. ⌜ now (d .exit) ≡ wrote (now (d .entry)) usedPart (set (split (now (d .entry)) usedPart) (r .0) v) ⌝ }
+{
+    put_byte(&mut d[USED..LAST], wide(r.0), v);
+}
+
+pub fn last(d: &mut [u8], r: Revision, v: usize)
+    requires { ⌜ (length (now d) ≡ bytes) × (r .0 < revisions) × (v < 65536) ⌝ }
+    ensures { λ _. ⌜ now (d .exit) ≡ wrote (now (d .entry)) lastPart (putWord (split (now (d .entry)) lastPart) (r .0) v) ⌝ }
+{
+    put_word(&mut d[LAST..FIRST], wide(r.0), v);
+}
+
+pub fn first(d: &mut [u8], r: Revision, v: usize)
+    requires { ⌜ (length (now d) ≡ bytes) × (r .0 < revisions) × (v < 65536) ⌝ }
+    ensures { λ _. ⌜ now (d .exit) ≡ wrote (now (d .entry)) firstPart (putWord (split (now (d .entry)) firstPart) (r .0) v) ⌝ }
+{
+    put_word(&mut d[FIRST..COUNT], wide(r.0), v);
+}
+
+pub fn count(d: &mut [u8], r: Revision, v: usize)
+    requires { ⌜ (length (now d) ≡ bytes) × (r .0 < revisions) × (v < 65536) ⌝ }
+    ensures { λ _. ⌜ now (d .exit) ≡ wrote (now (d .entry)) countPart (putWord (split (now (d .entry)) countPart) (r .0) v) ⌝ }
+{
+    put_word(&mut d[COUNT..BASE], wide(r.0), v);
+}
+
+pub fn base(d: &mut [u8], r: Revision, v: usize)
+    requires { ⌜ (length (now d) ≡ bytes) × (r .0 < revisions) × (v < 65536) ⌝ }
+    ensures { λ _. ⌜ now (d .exit) ≡ wrote (now (d .entry)) basePart (putWord (split (now (d .entry)) basePart) (r .0) v) ⌝ }
+{
+    put_word(&mut d[BASE..LAYOUT], wide(r.0), v);
+}
+
+pub fn opened(d: &mut [u8], c: Client, v: usize)
+    requires { ⌜ (length (now d) ≡ bytes) × (c .0 < clients) × (v < 256) ⌝ }
+    ensures { λ _. ⌜ now (d .exit) ≡ wrote (now (d .entry)) openedPart (set (split (now (d .entry)) openedPart) (c .0) v) ⌝ }
+{
+    put_byte(&mut d[OPENED..COUNTERS], wide(c.0), v);
+}
+
+// The low 8 bits of a link, and its high 4 bits.
+pub fn link_low(d: &mut [u8], u: usize, v: usize)
+    requires { ⌜ (length (now d) ≡ bytes) × (u < updates) × (v < 256) ⌝ }
+    ensures { λ _. ⌜ now (d .exit) ≡ wrote (now (d .entry)) lowPart (set (split (now (d .entry)) lowPart) u v) ⌝ }
+{
+    put_byte(&mut d[LOW..HIGH], u, v);
+}
+
+pub fn link_high(d: &mut [u8], u: usize, v: usize)
+    requires { ⌜ (length (now d) ≡ bytes) × (u < updates) × (v < 16) ⌝ }
+    ensures { λ _. ⌜ now (d .exit) ≡ wrote (now (d .entry)) highPart (putHalf (split (now (d .entry)) highPart) u v) ⌝ }
+{
+    put_half(&mut d[HIGH..SEEN], u, v);
+}
+
+pub fn updates(d: &mut [u8], v: usize)
+    requires { ⌜ (length (now d) ≡ bytes) × (v < 65536) ⌝ }
+    ensures { λ _. ⌜ now (d .exit) ≡ wrote (now (d .entry)) countersPart (putWord (split (now (d .entry)) countersPart) 0 v) ⌝ }
+{
+    put_word(&mut d[COUNTERS..KEPT], 0, v);
+}
+
+pub fn out(d: &mut [u8], v: usize)
+    requires { ⌜ (length (now d) ≡ bytes) × (v < 256) ⌝ }
+    ensures { λ _. ⌜ now (d .exit) ≡ wrote (now (d .entry)) countersPart (set (split (now (d .entry)) countersPart) 2 v) ⌝ }
+{
+    put_byte(&mut d[COUNTERS..KEPT], 2, v);
+}
+
+pub fn given(d: &mut [u8], v: usize)
+    requires { ⌜ (length (now d) ≡ bytes) × (v < 256) ⌝ }
+    ensures { λ _. ⌜ now (d .exit) ≡ wrote (now (d .entry)) countersPart (set (split (now (d .entry)) countersPart) 3 v) ⌝ }
+{
+    put_byte(&mut d[COUNTERS..KEPT], 3, v);
+}
+
+// Client c has caught up with r alone.
+pub fn caught_only(d: &mut [u8], c: Client, r: Revision)
+    requires { ⌜ (length (now d) ≡ bytes) × (c .0 < clients) × (r .0 < revisions) ⌝ }
+    ensures { λ _. ⌜ now (d .exit) ≡ wrote (now (d .entry)) caughtPart (putRow 8 (split (now (d .entry)) caughtPart) (c .0) (λ y. eqb y (r .0))) ⌝ }
+{
+    marks::packed::set_only(&mut d[CAUGHT..STATE], wide(c.0), wide(r.0));
+}
+
+// p forked c: the seen marks.
+pub fn fork_seen(d: &mut [u8], p: Revision, c: Revision)
+    requires { ⌜ (length (now d) ≡ bytes) × (p .0 < revisions) × (c .0 < revisions) ⌝ }
+    ensures { λ _. ⌜ now (d .exit) ≡ wrote (now (d .entry)) seenPart (pack revisions (forkSeen (cells (now (d .entry)) .seen) (p .0) (c .0))) ⌝ }
+{
+    marks::packed::fork_seen(&mut d[SEEN..CAUGHT], wide(p.0), wide(c.0));
+}
+
+// a joined b: the seen marks.
+pub fn join_seen(d: &mut [u8], a: Revision, b: Revision)
+    requires { ⌜ (length (now d) ≡ bytes) × (a .0 < revisions) × (b .0 < revisions) ⌝ }
+    ensures { λ _. ⌜ now (d .exit) ≡ wrote (now (d .entry)) seenPart (pack revisions (joinSeen (cells (now (d .entry)) .seen) (a .0) (b .0))) ⌝ }
+{
+    marks::packed::join_seen(&mut d[SEEN..CAUGHT], wide(a.0), wide(b.0));
+}
+
+// p forked c: the caught-up marks.
+pub fn fork_caught(d: &mut [u8], p: Revision, c: Revision)
+    requires { ⌜ (length (now d) ≡ bytes) × (p .0 < revisions) × (c .0 < revisions) ⌝ }
+    ensures { λ _. ⌜ now (d .exit) ≡ wrote (now (d .entry)) caughtPart (pack clients (forkCaught (cells (now (d .entry)) .caught) (p .0) (c .0))) ⌝ }
+{
+    marks::packed::fork_caught(&mut d[CAUGHT..STATE], wide(p.0), wide(c.0));
+}
+
+// a joined b: the caught-up marks.
+pub fn join_caught(d: &mut [u8], a: Revision, b: Revision)
+    requires { ⌜ (length (now d) ≡ bytes) × (a .0 < revisions) × (b .0 < revisions) ⌝ }
+    ensures { λ _. ⌜ now (d .exit) ≡ wrote (now (d .entry)) caughtPart (pack clients (joinCaught (cells (now (d .entry)) .caught) (a .0) (b .0))) ⌝ }
+{
+    marks::packed::join_caught(&mut d[CAUGHT..STATE], wide(a.0), wide(b.0));
+}
+
+// c comes into the layout in front of p.
+pub fn enter(d: &mut [u8], p: Revision, c: Revision)
+    requires { ⌜ length (now d) ≡ bytes ⌝ }
+    ensures { λ _. ⌜ now (d .exit) ≡ wrote (now (d .entry)) layoutPart (take revisions (insert (p .0) (c .0) (split (now (d .entry)) layoutPart))) ⌝ }
+{
+    crate::layout::put_in(&mut d[LAYOUT..QUEUE], p.0, c.0);
+}
+
+// b leaves the layout.
+pub fn leave(d: &mut [u8], b: Revision)
+    requires { ⌜ length (now d) ≡ bytes ⌝ }
+    ensures { λ _. ⌜ now (d .exit) ≡ wrote (now (d .entry)) layoutPart (take revisions (remove (b .0) (split (now (d .entry)) layoutPart) ++ (0 ∷ []))) ⌝ }
+{
+    crate::layout::take_out(&mut d[LAYOUT..QUEUE], b.0);
+}
+
+// The row of revision c, which is not the main revision.
+pub fn row(d: &mut [u8], c: Revision, row: [bool; Table::UPDATES])
+    requires { ⌜ (length (now d) ≡ bytes) × (0 < c .0) × (c .0 < revisions) ⌝ }
+    ensures { λ _. ⌜ now (d .exit) ≡ wrote (now (d .entry)) rowsPart (putRowOf (split (now (d .entry)) rowsPart) (c .0) (λ u. getD row u false)) ⌝ }
+{
+    let x = wide(c.0) - 1;
+    crate::row::put(&mut d[ROWS..LOW], x, row);
+}

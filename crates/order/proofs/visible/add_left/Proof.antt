@@ -1,0 +1,86 @@
+-- `order::visible::add_left` meets its contract: what r inherited from the revisions at place `i` and behind is there.
+-- Assumes nothing.
+use Prim.Native.Nat.{_+_, _-_, _≤_}
+use mathlib.Core.Path.{_∙_, _≡_, ap, sym}
+use mathlib.Core.Logic.{_⊎_, inl, inr, ⊎-elim}
+use native.Mathlib.Omega.{arith}
+use lib.ListN.{drop, length}
+use borrow.Author.Needs.{needs}
+use Rattle.lists.specs.Lists.{flatBack}
+use Rattle.cells.specs.Cells.{marked, outs, own}
+use Rattle.cells.specs.Decode.{cells}
+use Rattle.cells.specs.Order.{inherited, picks}
+use Rattle.cells.specs.Sizes.{updates}
+use Rattle.cells.proofs.Range.{ranges}
+use Rattle.order.specs.Added.{Added}
+use Rattle.order.proofs.Behind.{block-more, no-block, outs-at, outs-length}
+use Rattle.order.proofs.Laws.{added-as, added-bounds, added-none, added-then}
+use Rattle.order.proofs.visible.add_left.Statement.{statement}
+use Rattle.order.proofs.visible.add_left.Tie as tie
+
+abbrev Inv-loop : tie.InvT-loop
+Inv-loop d r j out₀ i₀ m₀ out i m = (i ≤ cells d .out) × ((i ≡ cells d .out) ⊎ (j + 1 ≤ i)) × (m ≤ updates) × (length out ≡ updates) × Added out₀ 0 (flatBack (inherited (cells d) (r .0)) (drop i (outs (cells d)))) out m
+
+abbrev μ-loop : tie.MeasureT-loop
+μ-loop d r j out₀ i₀ m₀ out i m = i
+
+loop-holds : tie.Need-loop-holds Inv-loop μ-loop
+loop-holds c =
+    let s = c .before .before .before .args in
+    let k = cells (s .d .now) in
+    let o = c .out .ensures .0 in
+    let n = outs-length (s .d .now) (c .before .before .before .pre .0) (ranges (s .d .now) (c .before .before .before .pre .1) .most-out) in
+    (omega arith, inl o, search needs, c .before .before .before .pre .4, added-as (no-block (inherited k (s .r .0)) (outs k) (c .out .result) (omega arith)) (added-none (s .out .now) (c .before .before .before .pre .4) 0 (omega arith)))
+
+at-place-requires : tie.Need-at-place-requires Inv-loop μ-loop
+at-place-requires c κs = let r = ranges (c .before .before .before .before .before .args .d .now) (c .before .before .before .before .before .pre .1) .most-out in (c .before .before .before .before .before .pre .0, omega arith)
+
+add-some-requires : tie.Need-add-some-requires Inv-loop μ-loop
+add-some-requires c κs =
+    let s = c .before .before .before .before .before .before .before .before .args in
+    let l = c .before .before .before .before .loop in
+    let r = ranges (s .d .now) (c .before .before .before .before .before .before .before .before .pre .1) in
+    let o = r .most-out in
+    (c .before .before .before .before .before .before .before .before .pre .0, c .before .before .before .before .before .before .before .before .pre .1, c .before .before .before .before .before .before .before .before .pre .2, rw (c .before .before .at-place .ensures) (r .layout (l .i - 1) (omega arith)), l .inv .3, l .inv .2)
+
+loop-again : tie.Need-loop-again Inv-loop μ-loop
+loop-again c =
+    let s = c .before .before .before .before .before .before .before .before .before .before .before .args in
+    let k = cells (s .d .now) in
+    let l = c .before .before .before .before .before .before .before .loop in
+    let o = ranges (s .d .now) (c .before .before .before .before .before .before .before .before .before .before .before .pre .1) .most-out in
+    let n = outs-length (s .d .now) (c .before .before .before .before .before .before .before .before .before .before .before .pre .0) o in
+    let e : picks (c .before .before .before .before .base-in .result) (marked k (s .r .0)) (own k (c .before .before .before .before .before .at-place .result .0)) ≡ inherited k (s .r .0) (c .before .before .before .before .before .at-place .result .0) = ap (λ b. picks b (marked k (s .r .0)) (own k (c .before .before .before .before .before .at-place .result .0))) (c .before .before .before .before .base-in .ensures) in
+    let a = added-as e (c .before .before .add-some .ensures) in
+    let w = added-bounds (l .out) (l .inv .3) (l .m) _ _ _ (l .inv .2) a in
+    let x = c .before .before .before .before .before .at-place .ensures ∙ sym (outs-at k (l .i - 1) (omega arith)) in
+    (omega arith, inr (omega arith), w .1, w .2, added-as (block-more (inherited k (s .r .0)) (outs k) (l .i) (c .before .before .before .before .before .at-place .result .0) (omega arith) (omega arith) x) (added-then (s .out .now) (c .before .before .before .before .before .before .before .before .before .before .before .pre .4) 0 _ (l .out) (l .m) _ _ _ (omega arith) (l .inv .4) a))
+
+returns : tie.Need-returns Inv-loop μ-loop
+returns c =
+    let s = c .before .before .before .before .before .args in
+    let k = cells (s .d .now) in
+    let l = c .before .loop in
+    let o = ranges (s .d .now) (c .before .before .before .before .before .pre .1) .most-out in
+    let n = outs-length (s .d .now) (c .before .before .before .before .before .pre .0) o in
+    let f = inherited k (s .r .0) in
+    ⊎-elim
+    (λ e. added-as (sym (no-block f (outs k) (l .i) (omega arith)) ∙ no-block f (outs k) (s .j + 1) (omega arith)) (l .inv .4))
+    (λ g. let e : l .i ≡ s .j + 1 = omega arith in added-as (ap (λ i. flatBack f (drop i (outs k))) e) (l .inv .4))
+    (l .inv .1)
+
+pub add-left-spec : {M : Type 1} → statement M
+add-left-spec = tie.close (tie.spec
+    Inv-loop
+    μ-loop
+    (λ c κs. search needs)
+    loop-holds
+    (λ c. search needs)
+    (λ c. search needs)
+    at-place-requires
+    (λ c κs. search needs)
+    add-some-requires
+    (λ c. search needs)
+    loop-again
+    (λ c. search needs)
+    returns)

@@ -1,0 +1,37 @@
+-- `order::visible::list` meets its contract: what r inherited, and behind it its own list. Assumes nothing.
+use mathlib.Core.Path.{ap, sym}
+use native.Mathlib.Omega.{arith}
+use borrow.Author.Needs.{needs}
+use Rattle.lists.specs.Lists.{flatBack}
+use Rattle.cells.specs.Cells.{marked}
+use Rattle.cells.specs.Decode.{cells}
+use Rattle.cells.specs.Order.{inherited, order}
+use Rattle.order.proofs.Laws.{added-as, added-bounds, added-then, picks-all}
+use Rattle.order.proofs.visible.list.Statement.{statement}
+use Rattle.order.proofs.visible.list.Tie as tie
+
+add-some-requires : tie.Need-add-some-requires
+add-some-requires c κs =
+    let s = c .before .before .before .before .before .before .before .before .before .args in
+    let w = added-bounds (s .out .now) (c .before .before .before .before .before .before .before .before .before .pre .3) 0 _ _ _ (omega arith) (c .before .before .before .before .add-left .ensures) in
+    (c .before .before .before .before .before .before .before .before .before .pre .0, c .before .before .before .before .before .before .before .before .before .pre .1, c .before .before .before .before .before .before .before .before .before .pre .2, c .before .before .before .before .before .before .before .before .before .pre .2, w .2, w .1)
+
+returns : tie.Need-returns
+unfolding order
+returns c =
+    let s = c .before .before .before .before .before .before .before .before .before .before .before .before .args in
+    let k = cells (s .d .now) in
+    let f = inherited k (s .r .0) in
+    let left = added-as (ap (flatBack f) (sym (c .before .before .before .before .before .before .before .before .before .place-of .ensures .1))) (c .before .before .before .before .before .before .before .add-left .ensures) in
+    let own-list = added-as (picks-all k (s .r .0) (c .before .before .before .before .count .result) (marked k (s .r .0)) (c .before .before .before .before .count .ensures .0)) (c .before .before .add-some .ensures) in
+    let a = added-then (s .out .now) (c .before .before .before .before .before .before .before .before .before .before .before .before .pre .3) 0 _ _ _ _ _ _ (omega arith) left own-list in
+    (a .many, a .eq)
+
+pub list-spec : {M : Type 1} → statement M
+list-spec = tie.close (tie.spec
+    (λ c κs. search needs)
+    (λ c κs. search needs)
+    (λ c κs. search needs)
+    add-some-requires
+    (λ c. search needs)
+    returns)

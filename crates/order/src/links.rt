@@ -1,0 +1,38 @@
+// Own lists, gathered along their links. The list of a revision runs through every revision joined into it and those joined into
+// these; the number of earlier entries falls at each call.
+ghost use mathlib.Core.Path.{_≡_};
+ghost use mathlib.Core.Bool.{true};
+ghost use mathlib.Core.List.{_++_};
+ghost use Prim.Native.Nat.{_<_, _≤_};
+ghost use lib.ListN.{drop, length};
+ghost use Rattle.cells.specs.Sizes.{bytes, revisions, updates};
+ghost use Rattle.cells.specs.Cells.{chain, own};
+ghost use Rattle.cells.specs.Decode.{cells};
+ghost use Rattle.cells.specs.Range.{inRange};
+use fields::read;
+use fields::table::Revision;
+
+// The n updates that end at `at`, in the first n places.
+pub fn gather(d: &[u8], at: usize, n: usize, out: &mut [u16])
+    requires { ⌜ (length (now d) ≡ bytes) × (at < updates) × (n ≤ length (now out)) ⌝ }
+    ensures { λ _. ⌜ now (out .exit) ≡ chain (cells (now (d .entry)) .link) at n ++ drop n (now (out .entry)) ⌝ }
+{
+    if n == 0 {
+        return;
+    }
+    let m = n - 1;
+    out[m] = at as u16;
+    let next = read::link(d, at);
+    gather(d, next, m, out);
+}
+
+// The own list of r; how many it has.
+pub fn own_list(d: &[u8], r: Revision, out: &mut [u16]) -> usize
+    requires { ⌜ (length (now d) ≡ bytes) × (inRange (now d) ≡ true) × (r .0 < revisions) × (length (now out) ≡ updates) ⌝ }
+    ensures { λ n. ⌜ (n ≡ cells (now (d .entry)) .count (r .0)) × (n ≤ updates) × (now (out .exit) ≡ own (cells (now (d .entry))) (r .0) ++ drop n (now (out .entry))) ⌝ }
+{
+    let n = read::count(d, r);
+    let at = read::last(d, r);
+    gather(d, at, n, out);
+    n
+}
