@@ -60,6 +60,11 @@ fn the_layout_puts_the_joinee_after_the_joiner() {
     assert_eq!(broken_sentence(&facts, &order), None);
 }
 
+/// The visible updates of a revision that is out after so many calls.
+fn updates(facts: &mut Facts, calls: usize, revision: usize) -> &mut Vec<usize> {
+    &mut facts.views[calls][revision].as_mut().unwrap().updates
+}
+
 /// Each sentence refuses a record in which it alone was made wrong.
 #[test]
 fn each_sentence_can_fail() {
@@ -79,9 +84,9 @@ fn each_sentence_can_fail() {
     spoil("queries answer by the order", &[0, 1, 2, 3], &|_| {});
     spoil("queries answer by the order", &order, &|facts| facts.steps[10].answer.value = 4);
     spoil("visible updates stand in listed order", &[0, 1, 2, 3], &|_| {});
-    spoil("lists grow at the end", &order, &|facts| {
-        facts.visible[9][0] = Some(vec![0, 1, 2, 3]);
-    });
+    spoil("visible updates are those seen", &order, &|facts| updates(facts, 9, 0).push(1));
+    spoil("visible updates are those seen", &order, &|facts| updates(facts, 5, 1).clear());
+    spoil("lists grow at the end", &order, &|facts| updates(facts, 9, 0).swap(2, 3));
     spoil("transactions are seen whole", &order, &|facts| {
         let event = facts.events(0).next().unwrap();
         facts.sees[4][event] = false;
