@@ -15,6 +15,7 @@ mod line_up;
 mod profile;
 mod report;
 mod rng;
+mod seeds;
 
 pub use arbitration::arbitration_order;
 pub use chains::chain_of_joins;
@@ -25,3 +26,4 @@ pub use line_up::{broken_sentence, SENTENCES};
 pub use profile::{Profile, Weights};
 pub use report::must_pass;
 pub use rng::Rng;
+pub use seeds::seeds;

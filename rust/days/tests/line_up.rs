@@ -2,8 +2,8 @@
 
 use calls::{Call, Code};
 use days::{
-    arbitration_order, broken_sentence, chain_of_joins, must_pass, random_day, Facts, Profile,
-    SENTENCES,
+    arbitration_order, broken_sentence, chain_of_joins, must_pass, random_day, seeds, Facts,
+    Profile, SENTENCES,
 };
 
 fn line_up(calls: &[Call]) -> Option<String> {
@@ -13,7 +13,7 @@ fn line_up(calls: &[Call]) -> Option<String> {
 
 #[test]
 fn small_days_have_a_line_up() {
-    for seed in 0..2_000 {
+    for seed in seeds(2_000) {
         must_pass("small", seed, &random_day(&Profile::SMALL, seed), line_up);
     }
 }
@@ -22,7 +22,7 @@ fn small_days_have_a_line_up() {
 fn days_with_many_revisions_have_a_line_up() {
     let few_calls = |profile: Profile| Profile { calls: 90, ..profile };
     for profile in [Profile::NESTED, Profile::STALE, Profile::QUERIES].map(few_calls) {
-        for seed in 0..300 {
+        for seed in seeds(300) {
             must_pass(profile.name, seed, &random_day(&profile, seed), line_up);
         }
     }
