@@ -8,6 +8,7 @@ use calls::Call;
 /// # Panics
 ///
 /// If the check answers with a complaint.
+#[track_caller]
 pub fn must_pass(name: &str, seed: u64, calls: &[Call], check: impl Fn(&[Call]) -> Option<String>) {
     let Some(complaint) = check(calls) else { return };
     let shortest = shrunk(calls, |day| check(day).is_some());
