@@ -77,7 +77,7 @@ fn every_call_meets_each_of_its_codes() {
     }
 }
 
-/// The sizes of a day are reached: full logs that go on, all 64 revisions, deep joins.
+/// The sizes of a day are reached: full logs that go on, all 64 revisions, 63 joins.
 #[test]
 fn random_days_reach_the_limits() {
     let full = (0..12).filter(|&seed| {
@@ -100,16 +100,16 @@ fn random_days_reach_the_limits() {
     });
     assert!(all_started.count() >= 30, "days with 64 revisions");
 
-    let longest = (0..100).map(|seed| {
+    let joins = (0..100).map(|seed| {
         let mut day = plain::Day::fresh();
-        let accepted = |call: &Call| day.call(*call).code == Code::Accepted;
-        chain_of_joins(seed)
-            .into_iter()
-            .filter(accepted)
-            .filter(|call| name(*call) == "join")
-            .count()
+        let calls = chain_of_joins(seed);
+        for &call in &calls {
+            let accepted = day.call(call).code == Code::Accepted;
+            assert!(accepted || !["fork", "join"].contains(&name(call)), "seed {seed}: {call}");
+        }
+        calls.into_iter().filter(|&call| name(call) == "join").count()
     });
-    assert_eq!(longest.max(), Some(63), "joins in a chain");
+    assert_eq!(joins.max(), Some(63), "joins of one day");
 }
 
 fn name(call: Call) -> &'static str {

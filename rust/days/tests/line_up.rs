@@ -65,7 +65,7 @@ fn updates(facts: &mut Facts, calls: usize, revision: usize) -> &mut Vec<usize> 
     &mut facts.views[calls][revision].as_mut().unwrap().updates
 }
 
-/// Each sentence refuses a record in which it alone was made wrong.
+/// Each sentence holds of the day, and refuses the records that were made wrong for it.
 #[test]
 fn each_sentence_can_fail() {
     let (order, facts) = day();
