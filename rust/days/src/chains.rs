@@ -4,8 +4,8 @@ use calls::Call;
 
 use crate::rng::Rng;
 
-/// A chain of up to 63 revisions, each with a few updates, joined in one of three ways. Every call
-/// is accepted, but for some queries of clients that are not caught up.
+/// A chain of up to 63 revisions, each with a few updates, joined in one of three ways. Every fork
+/// and join is accepted; entries of clients that are not caught up are refused.
 pub fn chain_of_joins(seed: u64) -> Vec<Call> {
     let mut rng = Rng::new(seed);
     let length = 2 + rng.below(62) as u8;

@@ -2,7 +2,7 @@
 //! of vertices, and what stood where before and after each call.
 
 use calls::{Answer, Call};
-use literal::{Day, Transaction, Update, VertexId, VertexKind};
+use literal::{Day, Revision, Transaction, Update, VertexId, VertexKind};
 
 /// A call of the day.
 #[derive(Clone, Debug)]
@@ -17,8 +17,14 @@ pub struct Step {
     pub closed: Vec<bool>,
 }
 
-/// The visible updates of each revision that is out.
-pub type Visible = Vec<Option<Vec<usize>>>;
+/// A revision that is out, at some time of the day.
+#[derive(Clone, Debug)]
+pub struct View {
+    /// Its last vertex.
+    pub terminal: usize,
+    /// Its visible updates, in the listing's order.
+    pub updates: Vec<usize>,
+}
 
 /// A day and all that demand 3 says about it. Vertices and transactions go by their places.
 #[derive(Clone, Debug)]
@@ -31,38 +37,34 @@ pub struct Facts {
     pub transactions: Vec<Transaction>,
     /// The updates taken, by number.
     pub updates: Vec<Update>,
-    /// The terminals of the revisions that are out at the end.
-    pub terminals: Vec<Option<usize>>,
     /// The calls.
     pub steps: Vec<Step>,
-    /// The visible updates before the first call and after each one.
-    pub visible: Vec<Visible>,
+    /// The view of each revision before the first call and after each one; none once it is joined.
+    pub views: Vec<Vec<Option<View>>>,
 }
 
 impl Facts {
     /// The day of these calls, and its facts.
     pub fn of(calls: &[Call]) -> (Day, Facts) {
         let mut day = Day::fresh();
-        let mut visible = vec![visible_now(&day)];
+        let mut views = vec![views_now(&day)];
         let mut steps = Vec::new();
         for &call in calls {
             let vertices = day.diagram().size();
             let closed = day.transactions().iter().map(|t| t.yielded.is_some()).collect();
             let answer = day.call(call);
             steps.push(Step { call, answer, vertices, closed });
-            visible.push(visible_now(&day));
+            views.push(views_now(&day));
         }
         let diagram = day.diagram();
         let row = |x| diagram.vertices().map(|y| day.sees(x, y)).collect();
-        let out = |r: &literal::Revision| (!r.joined).then_some(r.terminal.place());
         let facts = Facts {
             kinds: diagram.vertices().map(|x| diagram.kind(x)).collect(),
             sees: diagram.vertices().map(row).collect(),
             transactions: day.transactions().to_vec(),
             updates: day.updates().to_vec(),
-            terminals: day.revisions().iter().map(out).collect(),
             steps,
-            visible,
+            views,
         };
         (day, facts)
     }
@@ -93,7 +95,10 @@ impl Facts {
     }
 }
 
-fn visible_now(day: &Day) -> Visible {
-    let revisions = day.revisions().iter().enumerate();
-    revisions.map(|(r, revision)| (!revision.joined).then(|| day.visible(r))).collect()
+fn views_now(day: &Day) -> Vec<Option<View>> {
+    let view = |(number, revision): (usize, &Revision)| {
+        let view = View { terminal: revision.terminal.place(), updates: day.visible(number) };
+        (!revision.joined).then_some(view)
+    };
+    day.revisions().iter().enumerate().map(view).collect()
 }

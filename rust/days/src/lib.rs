@@ -15,13 +15,15 @@ mod line_up;
 mod profile;
 mod report;
 mod rng;
+mod seeds;
 
 pub use arbitration::arbitration_order;
 pub use chains::chain_of_joins;
 pub use compare::{disagreement, disagreement_with_listings};
-pub use facts::{Facts, Step, Visible};
+pub use facts::{Facts, Step, View};
 pub use generator::random_day;
 pub use line_up::{broken_sentence, SENTENCES};
 pub use profile::{Profile, Weights};
 pub use report::must_pass;
 pub use rng::Rng;
+pub use seeds::seeds;

@@ -10,10 +10,11 @@ use crate::facts::Facts;
 type Check = fn(&Facts, &[usize]) -> Option<String>;
 
 /// The sentences by name.
-pub const SENTENCES: [(&str, Check); 8] = [
+pub const SENTENCES: [(&str, Check); 9] = [
     ("every transaction once", every_transaction_once),
     ("after all others that it sees", after_all_that_it_sees),
     ("queries answer by the order", queries_answer_by_the_order),
+    ("visible updates are those seen", visible_are_those_seen),
     ("visible updates stand in listed order", visible_in_order),
     ("lists grow at the end", lists_grow_at_the_end),
     ("transactions are seen whole", seen_whole),
@@ -73,21 +74,33 @@ fn queries_answer_by_the_order(facts: &Facts, order: &[usize]) -> Option<String>
     })
 }
 
-/// "The visible updates of a box are those its line end sees, in the listing's order, busy or
-/// not." 00: they "stand in listed order" in the line-up.
+/// "The visible updates of a box are those its line end sees, in the listing's order, busy or not."
+/// Each stands in the list once, at any time of the day.
+fn visible_are_those_seen(facts: &Facts, order: &[usize]) -> Option<String> {
+    facts.views.iter().flatten().flatten().find_map(|view| {
+        let [mut visible, mut seen] =
+            [view.updates.clone(), facts.seen_in_order(order, view.terminal)];
+        visible.sort_unstable();
+        seen.sort_unstable();
+        (visible != seen)
+            .then(|| format!("vertex {} sees {seen:?}, not {visible:?}", view.terminal))
+    })
+}
+
+/// 00: "the visible updates of every box out at the list's end stand in listed order".
 fn visible_in_order(facts: &Facts, order: &[usize]) -> Option<String> {
-    let at_end = facts.visible.last()?;
-    facts.terminals.iter().zip(at_end).enumerate().find_map(|(revision, (terminal, visible))| {
-        let seen = terminal.map(|x| facts.seen_in_order(order, x));
-        (seen != *visible).then(|| format!("revision {revision}: {visible:?}, not {seen:?}"))
+    facts.views.last()?.iter().flatten().find_map(|view| {
+        let ordered = facts.seen_in_order(order, view.terminal);
+        (view.updates != ordered).then(|| format!("{:?}, not {ordered:?}", view.updates))
     })
 }
 
 /// "For a box that stays out, the list before a call begins the list after it."
 fn lists_grow_at_the_end(facts: &Facts, _: &[usize]) -> Option<String> {
-    facts.visible.windows(2).zip(&facts.steps).find_map(|(lists, step)| {
-        lists[0].iter().zip(&lists[1]).find_map(|pair| match pair {
-            (Some(before), Some(after)) if !after.starts_with(before) => {
+    facts.views.windows(2).zip(&facts.steps).find_map(|(views, step)| {
+        views[0].iter().zip(&views[1]).find_map(|pair| match pair {
+            (Some(before), Some(after)) if !after.updates.starts_with(&before.updates) => {
+                let (before, after) = (&before.updates, &after.updates);
                 Some(format!("`{}` makes {before:?} into {after:?}", step.call))
             }
             _ => None,

@@ -8,6 +8,7 @@ use calls::Call;
 /// # Panics
 ///
 /// If the check answers with a complaint.
+#[track_caller]
 pub fn must_pass(name: &str, seed: u64, calls: &[Call], check: impl Fn(&[Call]) -> Option<String>) {
     let Some(complaint) = check(calls) else { return };
     let shortest = shrunk(calls, |day| check(day).is_some());
@@ -19,15 +20,20 @@ pub fn must_pass(name: &str, seed: u64, calls: &[Call], check: impl Fn(&[Call]) 
     );
 }
 
+/// How many calls are replayed at most in search of a shorter day.
+const EFFORT: usize = 1_000_000;
+
 /// Leaves out calls, many at once and then one by one, as long as the day still fails.
 fn shrunk(calls: &[Call], fails: impl Fn(&[Call]) -> bool) -> Vec<Call> {
     let mut day = calls.to_vec();
     let mut width = day.len().div_ceil(2);
+    let mut replayed = 0;
     while width > 0 {
         let mut start = 0;
-        while start < day.len() {
+        while start < day.len() && replayed < EFFORT {
             let mut shorter = day.clone();
             shorter.drain(start..(start + width).min(day.len()));
+            replayed += shorter.len();
             if fails(&shorter) {
                 day = shorter;
             } else {

@@ -159,13 +159,14 @@ fn the_log_is_full_after_4096_updates_of_all_revisions() {
     steps.extend([(0, 0), (1, 1), (2, 2)].map(|(c, r)| (update(c, r, TIME, 7, 1), 9, 0)));
     steps.extend([0, 1, 2].map(|client| (yields(client), 0, 0)));
     steps.push((update(3, 0, STRIKE, 7, 0), 9, 0));
+    steps.push((update(1, 0, STRIKE, 7, 0), 8, 0));
     steps.push((query(0, 0, 7), 0, 1_366));
     steps.push((yields(0), 0, 0));
     steps.push((join(0, 1), 0, 1_365));
     steps.push((update(3, 0, STRIKE, 7, 0), 9, 0));
     steps.push((join(0, 2), 0, 1_365));
     steps.push((query(0, 0, 7), 0, 4_096));
-    steps.push((list(0, 12 * 4_096), 7, 0));
+    steps.push((list(0, 0), 7, 0));
     steps.push((yields(0), 0, 0));
     steps.push((list(0, 12 * 4_096 - 1), 12, 0));
     steps.push((list(0, 12 * 4_096), 0, 4_096));
@@ -241,6 +242,8 @@ fn codes_come_in_ascending_order() {
         (join(0, 3), 0, 0),
         (update(1, 1, TIME, 1, 1), 0, 0),
         (update(2, 2, TIME, 1, 1), 0, 1),
+        (query(4, 0, 1), 0, 0),
+        (yields(4), 0, 0),
     ];
     let ask = |call, code| {
         let mut steps = start.to_vec();
@@ -255,12 +258,14 @@ fn codes_come_in_ascending_order() {
     ask(update(2, 1, TIME, 1000, 0), 5);
     ask(update(2, 1, TIME, 999, 0), 6);
     ask(update(3, 1, TIME, 999, 0), 7);
+    ask(update(4, 1, TIME, 999, 0), 7);
     ask(query(16, 64, 1000), 2);
     ask(query(2, 4, 1000), 3);
     ask(query(2, 3, 1000), 4);
     ask(query(2, 1, 1000), 5);
     ask(query(2, 1, 999), 6);
     ask(query(3, 1, 999), 7);
+    ask(query(4, 1, 999), 7);
 }
 
 /// Readings 2 and 3: a query ties its client as an update does, and a stale client gets 8.

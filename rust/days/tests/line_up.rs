@@ -2,8 +2,8 @@
 
 use calls::{Call, Code};
 use days::{
-    arbitration_order, broken_sentence, chain_of_joins, must_pass, random_day, Facts, Profile,
-    SENTENCES,
+    arbitration_order, broken_sentence, chain_of_joins, must_pass, random_day, seeds, Facts,
+    Profile, SENTENCES,
 };
 
 fn line_up(calls: &[Call]) -> Option<String> {
@@ -13,7 +13,7 @@ fn line_up(calls: &[Call]) -> Option<String> {
 
 #[test]
 fn small_days_have_a_line_up() {
-    for seed in 0..2_000 {
+    for seed in seeds(2_000) {
         must_pass("small", seed, &random_day(&Profile::SMALL, seed), line_up);
     }
 }
@@ -22,7 +22,7 @@ fn small_days_have_a_line_up() {
 fn days_with_many_revisions_have_a_line_up() {
     let few_calls = |profile: Profile| Profile { calls: 90, ..profile };
     for profile in [Profile::NESTED, Profile::STALE, Profile::QUERIES].map(few_calls) {
-        for seed in 0..300 {
+        for seed in seeds(300) {
             must_pass(profile.name, seed, &random_day(&profile, seed), line_up);
         }
     }
@@ -60,7 +60,12 @@ fn the_layout_puts_the_joinee_after_the_joiner() {
     assert_eq!(broken_sentence(&facts, &order), None);
 }
 
-/// Each sentence refuses a record in which it alone was made wrong.
+/// The visible updates of a revision that is out after so many calls.
+fn updates(facts: &mut Facts, calls: usize, revision: usize) -> &mut Vec<usize> {
+    &mut facts.views[calls][revision].as_mut().unwrap().updates
+}
+
+/// Each sentence holds of the day, and refuses the records that were made wrong for it.
 #[test]
 fn each_sentence_can_fail() {
     let (order, facts) = day();
@@ -79,9 +84,9 @@ fn each_sentence_can_fail() {
     spoil("queries answer by the order", &[0, 1, 2, 3], &|_| {});
     spoil("queries answer by the order", &order, &|facts| facts.steps[10].answer.value = 4);
     spoil("visible updates stand in listed order", &[0, 1, 2, 3], &|_| {});
-    spoil("lists grow at the end", &order, &|facts| {
-        facts.visible[9][0] = Some(vec![0, 1, 2, 3]);
-    });
+    spoil("visible updates are those seen", &order, &|facts| updates(facts, 9, 0).push(1));
+    spoil("visible updates are those seen", &order, &|facts| updates(facts, 5, 1).clear());
+    spoil("lists grow at the end", &order, &|facts| updates(facts, 9, 0).swap(2, 3));
     spoil("transactions are seen whole", &order, &|facts| {
         let event = facts.events(0).next().unwrap();
         facts.sees[4][event] = false;
