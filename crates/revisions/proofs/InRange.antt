@@ -6,9 +6,9 @@ use mathlib.Core.List.{List}
 use native.Mathlib.Omega.{arith}
 use lib.Dec.{eqb, ltb}
 use Rattle.cells.specs.Tables.{every}
-use Rattle.cells.specs.Parts.{Parts, split, offset, size, signaturePart}
+use Rattle.cells.specs.Parts.{split, offset, size, signaturePart}
 use Rattle.cells.specs.Words.{byte, word}
-use Rattle.cells.specs.Range.{bytesBelow, wordsBelow, signature, signed, partsIn, inRange}
+use Rattle.cells.specs.Range.{bytesBelow, wordsBelow, signature, signed, inRange}
 use Rattle.cells.proofs.Parts.{part-byte}
 use Rattle.revisions.specs.Ranges.{recordsIn, placesIn}
 

@@ -1,5 +1,5 @@
 -- Each step is its writes in a row: from what every write says of the bytes before and after it to the step's definition.
-use Prim.Native.Nat.{ℕ, suc, _+_, _-_, _/_, _%_, _<_}
+use Prim.Native.Nat.{ℕ, _+_, _-_, _/_, _%_, _<_}
 use mathlib.Core.Bool.{Bool, true, false, cond}
 use mathlib.Core.Path.{_≡_, refl, sym, ap, fun-ext, _∙_}
 use mathlib.Core.List.{List, [], _∷_, _++_}
@@ -9,18 +9,18 @@ use lib.ListN.{length, set, take, replicate, length-replicate, length-set}
 use borrow.Author.Tests.{eq-eqb, ne-eqb}
 use Rattle.lists.specs.Lists.{insert, remove}
 use Rattle.lists.proofs.Cases.{cases}
-use Rattle.cells.specs.Sizes.{bytes, revisions, clients, main, closed, isOut, isJoined}
+use Rattle.cells.specs.Sizes.{bytes, revisions, clients, closed}
 use Rattle.cells.specs.Parts.{Parts, Sized, size, split, glue, wrote, _⟨_≔_⟩, rowsPart, lowPart, highPart, seenPart, caughtPart, statePart, usedPart, lastPart, firstPart}
 use Rattle.cells.specs.Parts.{countPart, basePart, layoutPart, openedPart, countersPart, signaturePart}
 use Rattle.cells.specs.Words.{putWord, putHalf}
-use Rattle.cells.specs.Marks.{markIn, pack, putRow}
+use Rattle.cells.specs.Marks.{pack, putRow}
 use Rattle.cells.specs.Decode.{decode}
 use Rattle.cells.specs.Range.{signature}
 use Rattle.cells.specs.CellSteps.{forkSeen, forkCaught, forkRow, joinSeen, joinCaught}
 use Rattle.cells.specs.Steps.{queryParts, linkParts, appendParts, putRowOf, inheritParts, spliceParts, freshBytes, queryBytes, updateBytes, forkBytes, joinBytes}
-use Rattle.cells.proofs.Parts.{Holds, glue-length, glue-split, holds-split, holds-step, holds-wrote, sized-with, split-is, with-same}
+use Rattle.cells.proofs.Parts.{Holds, glue-split, holds-split, holds-step, holds-wrote, split-is, with-same}
 use Rattle.cells.proofs.Words.{putWord-length, putHalf-length}
-use Rattle.cells.proofs.Sized.{append-sized, caught-sized, caughtRow-sized, fork-sized, inherit-sized, join-sized, layout-sized, link-sized, query-sized, row-sized, seen-sized, splice-sized}
+use Rattle.cells.proofs.Sized.{append-sized, caught-sized, caughtRow-sized, inherit-sized, layout-sized, link-sized, query-sized, row-sized, seen-sized, splice-sized}
 use Rattle.cells.proofs.Places.{insert-length, remove-length}
 use Rattle.revisions.specs.Pieces.{retireParts, startParts}
 

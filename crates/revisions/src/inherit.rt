@@ -33,6 +33,7 @@ fn forked_row(d: &[u8], p: Revision) -> [bool; Table::UPDATES]
     let mut marks = row::load(d, p);
     let mut i: usize = 0;
     while i < n {
+        // every link is below 4,096; the test spares its proof here
         let u = number(own[i]);
         if u < 4096 {
             marks[u] = true;

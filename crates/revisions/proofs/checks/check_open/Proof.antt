@@ -12,11 +12,21 @@ returns c = rw (← (c .before .opened .ensures .0), eq-eqb _ _ (c .if1 .taken))
 
 returns-2 : tie.Need-returns-2
 unfolding openCheck
-returns-2 c = rw (← (c .before .before .before .opened .ensures .0), ne-eqb _ _ (c .before .before .if1 .left), eq-eqb (c .before .before .before .opened .result) (c .before .before .before .before .before .args .r .0) (c .if2 .taken ∙ c .before .wide .ensures .0))
+returns-2 c =
+    let at-wide = c .before in
+    let at-if1 = at-wide .before in
+    let at-opened = at-if1 .before in
+    let start = at-opened .before .before in
+    rw (← (at-opened .opened .ensures .0), ne-eqb _ _ (at-if1 .if1 .left), eq-eqb (at-opened .opened .result) (start .args .r .0) (c .if2 .taken ∙ at-wide .wide .ensures .0))
 
 returns-3 : tie.Need-returns-3
 unfolding openCheck
-returns-3 c = rw (← (c .before .before .before .opened .ensures .0), ne-eqb _ _ (c .before .before .if1 .left), ne-eqb (c .before .before .before .opened .result) (c .before .before .before .before .before .args .r .0) (λ e. c .if2 .left (e ∙ sym (c .before .wide .ensures .0))))
+returns-3 c =
+    let at-wide = c .before in
+    let at-if1 = at-wide .before in
+    let at-opened = at-if1 .before in
+    let start = at-opened .before .before in
+    rw (← (at-opened .opened .ensures .0), ne-eqb _ _ (at-if1 .if1 .left), ne-eqb (at-opened .opened .result) (start .args .r .0) (λ e. c .if2 .left (e ∙ sym (at-wide .wide .ensures .0))))
 
 pub check-open-spec : {M : Type 1} → statement M
 check-open-spec = tie.close (tie.spec

@@ -8,8 +8,15 @@ use Rattle.revisions.proofs.fork.start.Tie as tie
 returns : tie.Need-returns
 unfolding cells
 returns c =
-    let s = c .before .before .before .before .before .before .before .before .before .before .before .before .before .before .before .before .before .before .before .before .before .before .before .before .before .args in
-    start-done (s .d .now) (c .before .before .before .before .before .before .before .before .before .before .before .before .before .before .before .before .before .before .before .before .before .before .before .before .before .pre .0) _ _ _ _ _ _ (s .p .0) (s .c .0) (s .out) (s .given) (c .before .before .before .before .before .before .before .before .before .before .before .before .before .before .before .before .before .before .before .before .before .before .fork-seen .ensures) (c .before .before .before .before .before .before .before .before .before .before .before .before .before .before .before .before .before .before .fork-caught .ensures) (c .before .before .before .before .before .before .before .before .before .before .before .before .before .before .state .ensures) (c .before .before .before .before .before .before .before .before .before .before .enter .ensures) (c .before .before .before .before .before .before .out .ensures) (c .before .before .given .ensures)
+    let at-given = c .before .before in
+    let at-out = at-given .before .before .before .before in
+    let at-enter = at-out .before .before .before .before in
+    let at-state = at-enter .before .before .before .before in
+    let at-fork-caught = at-state .before .before .before .before in
+    let at-fork-seen = at-fork-caught .before .before .before .before in
+    let start = at-fork-seen .before .before .before in
+    let s = start .args in
+    start-done (s .d .now) (start .pre .0) _ _ _ _ _ _ (s .p .0) (s .c .0) (s .out) (s .given) (at-fork-seen .fork-seen .ensures) (at-fork-caught .fork-caught .ensures) (at-state .state .ensures) (at-enter .enter .ensures) (at-out .out .ensures) (at-given .given .ensures)
 
 pub start-spec : {M : Type 1} → statement M
 start-spec = tie.close (tie.spec

@@ -6,7 +6,14 @@ use Rattle.revisions.proofs.fresh.fresh.Tie as tie
 
 returns : tie.Need-returns
 returns c =
-    fresh-done _ _ _ _ _ _ _ (c .before .before .before .before .before .before .before .before .before .before .before .before .before .before .before .before .before .before .before .before .before .before .before .before .before .before .clear .ensures) (c .before .before .before .before .before .before .before .before .before .before .before .before .before .before .before .before .before .before .before .before .before .before .caught .ensures) (c .before .before .before .before .before .before .before .before .before .before .before .before .before .before .before .before .before .before .state .ensures) (c .before .before .before .before .before .before .before .before .before .before .before .before .before .before .opened .ensures) (c .before .before .before .before .before .before .before .before .before .before .out .ensures) (c .before .before .before .before .before .before .given .ensures) (c .before .before .sign .ensures)
+    let at-sign = c .before .before in
+    let at-given = at-sign .before .before .before .before in
+    let at-out = at-given .before .before .before .before in
+    let at-opened = at-out .before .before .before .before in
+    let at-state = at-opened .before .before .before .before in
+    let at-caught = at-state .before .before .before .before in
+    let at-clear = at-caught .before .before .before .before in
+    fresh-done _ _ _ _ _ _ _ (at-clear .clear .ensures) (at-caught .caught .ensures) (at-state .state .ensures) (at-opened .opened .ensures) (at-out .out .ensures) (at-given .given .ensures) (at-sign .sign .ensures)
 
 pub fresh-spec : {M : Type 1} → statement M
 fresh-spec = tie.close (tie.spec

@@ -8,8 +8,13 @@ use Rattle.revisions.proofs.inherit.by_count.Tie as tie
 returns : tie.Need-returns
 unfolding cells
 returns c =
-    let s = c .before .before .before .before .before .before .before .before .before .before .before .before .before .before .before .args in
-    by-count-done (s .d .now) (c .before .before .before .before .before .before .before .before .before .before .before .before .before .before .before .pre .0) _ _ _ (s .c .0) (c .before .before .before .before .before .before .before .before .before .before .before .before .count .result) (c .before .before .before .before .before .before .before .before .before .before .before .before .count .ensures .0) (c .before .before .before .before .before .before .before .before .before .before .used .ensures) (c .before .before .before .before .before .before .base .ensures) (c .before .before .count2 .ensures)
+    let at-count2 = c .before .before in
+    let at-base = at-count2 .before .before .before .before in
+    let at-used = at-base .before .before .before .before in
+    let at-count = at-used .before .before in
+    let start = at-count .before .before .before in
+    let s = start .args in
+    by-count-done (s .d .now) (start .pre .0) _ _ _ (s .c .0) (at-count .count .result) (at-count .count .ensures .0) (at-used .used .ensures) (at-base .base .ensures) (at-count2 .count2 .ensures)
 
 pub by-count-spec : {M : Type 1} → statement M
 by-count-spec = tie.close (tie.spec

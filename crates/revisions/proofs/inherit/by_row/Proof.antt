@@ -17,11 +17,18 @@ use Rattle.revisions.proofs.inherit.by_row.Tie as tie
 returns : tie.Need-returns
 unfolding cells
 returns c =
-    let s = c .before .before .before .before .before .before .before .before .before .before .before .before .before .before .before .before .before .before .before .before .before .args in
+    let at-count = c .before .before in
+    let at-base2 = at-count .before .before .before .before in
+    let at-used = at-base2 .before .before .before .before in
+    let at-row = at-used .before .before .before .before in
+    let at-forked-row = at-row .before .before in
+    let at-base = at-forked-row .before .before in
+    let start = at-base .before .before .before in
+    let s = start .args in
     let d = s .d .now in
-    let f : ℕ → Bool = λ u. getD (c .before .before .before .before .before .before .before .before .before .before .before .before .before .before .before .before .forked-row .result) u false in
-    let e = putRowOf-same (split d rowsPart) (s .c .0) f (forkRow (cells d) (s .p .0)) (λ u h. ap (λ z. getD z u false) (c .before .before .before .before .before .before .before .before .before .before .before .before .before .before .before .before .forked-row .ensures) ∙ getD-tab (forkRow (cells d) (s .p .0)) 4096 u false h) in
-    by-row-done d (c .before .before .before .before .before .before .before .before .before .before .before .before .before .before .before .before .before .before .before .before .before .pre .0) _ _ _ _ (s .p .0) (s .c .0) (c .before .before .before .before .before .before .before .before .before .before .before .before .before .before .before .before .before .before .base .result) f (omega arith) (omega arith) (c .before .before .before .before .before .before .before .before .before .before .before .before .before .before .before .before .before .before .base .ensures .0) e (c .before .before .before .before .before .before .before .before .before .before .before .before .before .before .row .ensures) (c .before .before .before .before .before .before .before .before .before .before .used .ensures) (c .before .before .before .before .before .before .base2 .ensures) (c .before .before .count .ensures)
+    let f : ℕ → Bool = λ u. getD (at-forked-row .forked-row .result) u false in
+    let e = putRowOf-same (split d rowsPart) (s .c .0) f (forkRow (cells d) (s .p .0)) (λ u h. ap (λ z. getD z u false) (at-forked-row .forked-row .ensures) ∙ getD-tab (forkRow (cells d) (s .p .0)) 4096 u false h) in
+    by-row-done d (start .pre .0) _ _ _ _ (s .p .0) (s .c .0) (at-base .base .result) f (omega arith) (omega arith) (at-base .base .ensures .0) e (at-row .row .ensures) (at-used .used .ensures) (at-base2 .base2 .ensures) (at-count .count .ensures)
 
 pub by-row-spec : {M : Type 1} → statement M
 by-row-spec = tie.close (tie.spec

@@ -28,23 +28,31 @@ loop-holds c =
 
 loop-again : tie.Need-loop-again Inv-loop μ-loop
 loop-again c =
-    let l = c .before .before .before .loop in
-    let f : ℕ → Bool = λ u. getD (c .before .before .before .before .load .result) u false in
-    let o = c .before .before .before .before .before .before .own-list .last .1 .1 .0 in
+    let at-number = c .before in
+    let at-loop = at-number .before .before in
+    let at-load = at-loop .before in
+    let at-own-list = at-load .before .before in
+    let l = at-loop .loop in
+    let f : ℕ → Bool = λ u. getD (at-load .load .result) u false in
+    let o = at-own-list .own-list .last .1 .1 .0 in
     ⊎-elim
-    (λ w. rw (w .1) (omega arith, l .inv .1, l .inv .2, search needs, ap (λ u. set (l .marks) u true) (c .before .number .ensures) ∙ row-more f o 4096 (l .i) (l .marks) (omega arith) (rw (c .before .number .ensures) at (w .0 .taken)) (l .inv .4)))
-    (λ w. rw (w .1) (omega arith, l .inv .1, l .inv .2, l .inv .3, row-skip f o 4096 (l .i) (l .marks) (omega arith) (rw (c .before .number .ensures) at (w .0 .left)) (l .inv .4)))
+    (λ w. rw (w .1) (omega arith, l .inv .1, l .inv .2, search needs, ap (λ u. set (l .marks) u true) (at-number .number .ensures) ∙ row-more f o 4096 (l .i) (l .marks) (omega arith) (rw (at-number .number .ensures) at (w .0 .taken)) (l .inv .4)))
+    (λ w. rw (w .1) (omega arith, l .inv .1, l .inv .2, l .inv .3, row-skip f o 4096 (l .i) (l .marks) (omega arith) (rw (at-number .number .ensures) at (w .0 .left)) (l .inv .4)))
     (c .if1 .came)
 
 returns : tie.Need-returns Inv-loop μ-loop
 returns c =
-    let s = c .before .before .before .before .before .before .before .args in
+    let at-loop = c .before in
+    let at-load = at-loop .before in
+    let at-own-list = at-load .before .before in
+    let start = at-own-list .before .before .before in
+    let s = start .args in
     let k = cells (s .d .now) in
-    let l = c .before .loop in
-    let o = c .before .before .before .before .own-list .last .1 .1 .0 in
-    let e : l .i ≡ c .before .before .before .before .own-list .result = omega arith in
-    row-done k (s .p .0) (c .before .before .before .before .own-list .result) o (l .marks) (gathered k (s .p .0) _ o _ (c .before .before .before .before .own-list .ensures .0) (c .before .before .before .before .own-list .ensures .2))
-    (l .inv .4 ∙ rw e (tab-same _ _ 4096 (λ u h. ap (λ b. b || member u (take (c .before .before .before .before .own-list .result) o)) (ap (λ z. getD z u false) (c .before .before .load .ensures) ∙ getD-tab (marked k (s .p .0)) 4096 u false h))))
+    let l = at-loop .loop in
+    let o = at-own-list .own-list .last .1 .1 .0 in
+    let e : l .i ≡ at-own-list .own-list .result = omega arith in
+    row-done k (s .p .0) (at-own-list .own-list .result) o (l .marks) (gathered k (s .p .0) _ o _ (at-own-list .own-list .ensures .0) (at-own-list .own-list .ensures .2))
+    (l .inv .4 ∙ rw e (tab-same _ _ 4096 (λ u h. ap (λ b. b || member u (take (at-own-list .own-list .result) o)) (ap (λ z. getD z u false) (at-load .load .ensures) ∙ getD-tab (marked k (s .p .0)) 4096 u false h))))
 
 pub forked-row-spec : {M : Type 1} → statement M
 forked-row-spec = tie.close (tie.spec

@@ -8,8 +8,14 @@ use Rattle.revisions.proofs.join.retire.Tie as tie
 returns : tie.Need-returns
 unfolding cells
 returns c =
-    let s = c .before .before .before .before .before .before .before .before .before .before .before .before .before .before .before .before .before .before .before .before .before .args in
-    retire-done (s .d .now) (c .before .before .before .before .before .before .before .before .before .before .before .before .before .before .before .before .before .before .before .before .before .pre .0) _ _ _ _ _ (s .a .0) (s .b .0) (s .out) (c .before .before .before .before .before .before .before .before .before .before .before .before .before .before .before .before .before .before .join-seen .ensures) (c .before .before .before .before .before .before .before .before .before .before .before .before .before .before .join-caught .ensures) (c .before .before .before .before .before .before .before .before .before .before .state .ensures) (c .before .before .before .before .before .before .leave .ensures) (c .before .before .out .ensures)
+    let at-out = c .before .before in
+    let at-leave = at-out .before .before .before .before in
+    let at-state = at-leave .before .before .before .before in
+    let at-join-caught = at-state .before .before .before .before in
+    let at-join-seen = at-join-caught .before .before .before .before in
+    let start = at-join-seen .before .before .before in
+    let s = start .args in
+    retire-done (s .d .now) (start .pre .0) _ _ _ _ _ (s .a .0) (s .b .0) (s .out) (at-join-seen .join-seen .ensures) (at-join-caught .join-caught .ensures) (at-state .state .ensures) (at-leave .leave .ensures) (at-out .out .ensures)
 
 pub retire-spec : {M : Type 1} → statement M
 retire-spec = tie.close (tie.spec

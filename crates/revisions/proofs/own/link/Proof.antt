@@ -5,7 +5,11 @@ use Rattle.revisions.proofs.own.link.Statement.{statement}
 use Rattle.revisions.proofs.own.link.Tie as tie
 
 returns : tie.Need-returns
-returns c = link-done (c .before .before .before .before .before .before .before .before .before .args .d .now) (c .before .before .before .before .before .before .before .before .before .pre .0) _ _ (c .before .before .before .before .before .before .before .before .before .args .u) (c .before .before .before .before .before .before .before .before .before .args .v) (c .before .before .before .before .before .before .link-low .ensures) (c .before .before .link-high .ensures)
+returns c =
+    let at-link-high = c .before .before in
+    let at-link-low = at-link-high .before .before .before .before in
+    let start = at-link-low .before .before .before in
+    link-done (start .args .d .now) (start .pre .0) _ _ (start .args .u) (start .args .v) (at-link-low .link-low .ensures) (at-link-high .link-high .ensures)
 
 pub link-spec : {M : Type 1} → statement M
 link-spec = tie.close (tie.spec

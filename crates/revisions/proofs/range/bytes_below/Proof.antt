@@ -23,10 +23,18 @@ unfolding every
 loop-holds c = (search needs, refl)
 
 returns : tie.Need-returns Inv-loop μ-loop
-returns c = let l = c .before .before .before .loop in sym (every-not (λ j. ltb (byte (c .before .before .before .before .before .args .d .now) (c .before .before .before .before .before .args .at + j)) (c .before .before .before .before .before .args .limit)) (c .before .before .before .before .before .args .n) (l .i) (omega arith) (le-ltb _ _ (rw (c .before .byte-at .ensures .0) at (c .if1 .taken))))
+returns c =
+    let at-byte-at = c .before in
+    let at-loop = at-byte-at .before .before in
+    let start = at-loop .before .before in
+    let l = at-loop .loop in sym (every-not (λ j. ltb (byte (start .args .d .now) (start .args .at + j)) (start .args .limit)) (start .args .n) (l .i) (omega arith) (le-ltb _ _ (rw (at-byte-at .byte-at .ensures .0) at (c .if1 .taken))))
 
 loop-again : tie.Need-loop-again Inv-loop μ-loop
-loop-again c = let l = c .before .before .before .loop in (omega arith, every-more (λ j. ltb (byte (c .before .before .before .before .before .args .d .now) (c .before .before .before .before .before .args .at + j)) (c .before .before .before .before .before .args .limit)) (l .i) (l .inv .1) (lt-ltb _ _ (rw (c .before .byte-at .ensures .0) at (c .if1 .left))))
+loop-again c =
+    let at-byte-at = c .before in
+    let at-loop = at-byte-at .before .before in
+    let start = at-loop .before .before in
+    let l = at-loop .loop in (omega arith, every-more (λ j. ltb (byte (start .args .d .now) (start .args .at + j)) (start .args .limit)) (l .i) (l .inv .1) (lt-ltb _ _ (rw (at-byte-at .byte-at .ensures .0) at (c .if1 .left))))
 
 returns-2 : tie.Need-returns-2 Inv-loop μ-loop
 returns-2 c =

@@ -13,19 +13,42 @@ returns c = rw (le-ltb _ 4097 (rw (c .before .updates .ensures .0) at (c .if1 .t
 
 returns-2 : tie.Need-returns-2
 unfolding cells
-returns-2 c = rw (lt-ltb _ 4097 (rw (c .before .before .before .before .updates .ensures .0) at (c .before .before .before .if1 .left)), le-ltb 0 _ (rw (c .before .before .out .ensures .0) at (c .if2 .taken)))
+returns-2 c =
+    let at-out = c .before .before in
+    let at-if1 = at-out .before in
+    let at-updates = at-if1 .before in
+    rw (lt-ltb _ 4097 (rw (at-updates .updates .ensures .0) at (at-if1 .if1 .left)), le-ltb 0 _ (rw (at-out .out .ensures .0) at (c .if2 .taken)))
 
 returns-3 : tie.Need-returns-3
 unfolding cells
-returns-3 c = rw (lt-ltb _ 4097 (rw (c .before .before .before .before .before .updates .ensures .0) at (c .before .before .before .before .if1 .left)), lt-ltb 0 _ (rw (c .before .before .before .out .ensures .0) at (c .before .if2 .left)), le-ltb _ 65 (rw (c .before .before .before .out .ensures .0) at (c .if3 .taken)))
+returns-3 c =
+    let at-if2 = c .before in
+    let at-out = at-if2 .before .before in
+    let at-if1 = at-out .before in
+    let at-updates = at-if1 .before in
+    rw (lt-ltb _ 4097 (rw (at-updates .updates .ensures .0) at (at-if1 .if1 .left)), lt-ltb 0 _ (rw (at-out .out .ensures .0) at (at-if2 .if2 .left)), le-ltb _ 65 (rw (at-out .out .ensures .0) at (c .if3 .taken)))
 
 returns-4 : tie.Need-returns-4
 unfolding cells
-returns-4 c = rw (lt-ltb _ 4097 (rw (c .before .before .before .before .before .before .updates .ensures .0) at (c .before .before .before .before .before .if1 .left)), lt-ltb 0 _ (rw (c .before .before .before .before .out .ensures .0) at (c .before .before .if2 .left)), lt-ltb _ 65 (rw (c .before .before .before .before .out .ensures .0) at (c .before .if3 .left)), le-ltb 0 _ (rw (c .before .before .before .given .ensures .0) at (c .if4 .taken)))
+returns-4 c =
+    let at-if3 = c .before in
+    let at-if2 = at-if3 .before in
+    let at-given = at-if2 .before in
+    let at-out = at-given .before in
+    let at-if1 = at-out .before in
+    let at-updates = at-if1 .before in
+    rw (lt-ltb _ 4097 (rw (at-updates .updates .ensures .0) at (at-if1 .if1 .left)), lt-ltb 0 _ (rw (at-out .out .ensures .0) at (at-if2 .if2 .left)), lt-ltb _ 65 (rw (at-out .out .ensures .0) at (at-if3 .if3 .left)), le-ltb 0 _ (rw (at-given .given .ensures .0) at (c .if4 .taken)))
 
 returns-5 : tie.Need-returns-5
 unfolding cells
-returns-5 c = rw (lt-ltb _ 4097 (rw (c .before .before .before .before .before .before .updates .ensures .0) at (c .before .before .before .before .before .if1 .left)), lt-ltb 0 _ (rw (c .before .before .before .before .out .ensures .0) at (c .before .before .if2 .left)), lt-ltb _ 65 (rw (c .before .before .before .before .out .ensures .0) at (c .before .if3 .left)), lt-ltb 0 _ (rw (c .before .before .before .given .ensures .0) at (c .if4 .left))) (ap (λ n. ltb n 65) (c .before .before .before .given .ensures .0))
+returns-5 c =
+    let at-if3 = c .before in
+    let at-if2 = at-if3 .before in
+    let at-given = at-if2 .before in
+    let at-out = at-given .before in
+    let at-if1 = at-out .before in
+    let at-updates = at-if1 .before in
+    rw (lt-ltb _ 4097 (rw (at-updates .updates .ensures .0) at (at-if1 .if1 .left)), lt-ltb 0 _ (rw (at-out .out .ensures .0) at (at-if2 .if2 .left)), lt-ltb _ 65 (rw (at-out .out .ensures .0) at (at-if3 .if3 .left)), lt-ltb 0 _ (rw (at-given .given .ensures .0) at (c .if4 .left))) (ap (λ n. ltb n 65) (at-given .given .ensures .0))
 
 pub counters-in-spec : {M : Type 1} → statement M
 counters-in-spec = tie.close (tie.spec

@@ -25,10 +25,16 @@ unfolding every
 loop-holds c = (search needs, refl, c .signature .ensures)
 
 returns : tie.Need-returns Inv-loop μ-loop
-returns c = let l = c .before .before .before .loop in sym (every-not (λ j. eqb (byte (c .before .before .before .before .before .before .args .d .now) (40952 + j)) (byte signature j)) 8 (l .i) (omega arith) (ne-eqb _ _ (λ e. c .if1 .taken (e ∙ ap (λ s. byte s (l .i)) (sym (l .inv .2)))))) ∙ signed-in (c .before .before .before .before .before .before .args .d .now)
+returns c =
+    let at-loop = c .before .before .before in
+    let start = at-loop .before .before .before in
+    let l = at-loop .loop in sym (every-not (λ j. eqb (byte (start .args .d .now) (40952 + j)) (byte signature j)) 8 (l .i) (omega arith) (ne-eqb _ _ (λ e. c .if1 .taken (e ∙ ap (λ s. byte s (l .i)) (sym (l .inv .2)))))) ∙ signed-in (start .args .d .now)
 
 loop-again : tie.Need-loop-again Inv-loop μ-loop
-loop-again c = let l = c .before .before .before .loop in (omega arith, every-more (λ j. eqb (byte (c .before .before .before .before .before .before .args .d .now) (40952 + j)) (byte signature j)) (l .i) (l .inv .1) (eq-eqb _ _ (c .if1 .left ∙ ap (λ s. byte s (l .i)) (l .inv .2))), l .inv .2)
+loop-again c =
+    let at-loop = c .before .before .before in
+    let start = at-loop .before .before .before in
+    let l = at-loop .loop in (omega arith, every-more (λ j. eqb (byte (start .args .d .now) (40952 + j)) (byte signature j)) (l .i) (l .inv .1) (eq-eqb _ _ (c .if1 .left ∙ ap (λ s. byte s (l .i)) (l .inv .2))), l .inv .2)
 
 returns-2 : tie.Need-returns-2 Inv-loop μ-loop
 returns-2 c =

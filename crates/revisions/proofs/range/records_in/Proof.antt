@@ -17,32 +17,71 @@ returns c =
 returns-2 : tie.Need-returns-2
 unfolding offset size
 returns-2 c =
-    let d = c .before .before .before .before .before .args .d .now in
-    rw ((sym (bytes-in d statePart 39040 64 refl refl 64 3 (omega arith)) ∙ sym (c .before .before .before .bytes-below .ensures) ∙ not-false _ (c .before .before .if1 .left)), (sym (bytes-in d usedPart 39104 64 refl refl 64 2 (omega arith)) ∙ sym (c .before .bytes-below2 .ensures) ∙ not-true _ (c .if2 .taken)))
+    let at-bytes-below2 = c .before in
+    let at-if1 = at-bytes-below2 .before in
+    let at-bytes-below = at-if1 .before in
+    let start = at-bytes-below .before .before in
+    let d = start .args .d .now in
+    rw ((sym (bytes-in d statePart 39040 64 refl refl 64 3 (omega arith)) ∙ sym (at-bytes-below .bytes-below .ensures) ∙ not-false _ (at-if1 .if1 .left)), (sym (bytes-in d usedPart 39104 64 refl refl 64 2 (omega arith)) ∙ sym (at-bytes-below2 .bytes-below2 .ensures) ∙ not-true _ (c .if2 .taken)))
 
 returns-3 : tie.Need-returns-3
 unfolding offset size
 returns-3 c =
-    let d = c .before .before .before .before .before .before .before .args .d .now in
-    rw ((sym (bytes-in d statePart 39040 64 refl refl 64 3 (omega arith)) ∙ sym (c .before .before .before .before .before .bytes-below .ensures) ∙ not-false _ (c .before .before .before .before .if1 .left)), (sym (bytes-in d usedPart 39104 64 refl refl 64 2 (omega arith)) ∙ sym (c .before .before .before .bytes-below2 .ensures) ∙ not-false _ (c .before .before .if2 .left)), (sym (words-in d lastPart 39168 128 refl refl 64 4096 (omega arith)) ∙ sym (c .before .words-below .ensures) ∙ not-true _ (c .if3 .taken)))
+    let at-words-below = c .before in
+    let at-if2 = at-words-below .before in
+    let at-bytes-below2 = at-if2 .before in
+    let at-if1 = at-bytes-below2 .before in
+    let at-bytes-below = at-if1 .before in
+    let start = at-bytes-below .before .before in
+    let d = start .args .d .now in
+    rw ((sym (bytes-in d statePart 39040 64 refl refl 64 3 (omega arith)) ∙ sym (at-bytes-below .bytes-below .ensures) ∙ not-false _ (at-if1 .if1 .left)), (sym (bytes-in d usedPart 39104 64 refl refl 64 2 (omega arith)) ∙ sym (at-bytes-below2 .bytes-below2 .ensures) ∙ not-false _ (at-if2 .if2 .left)), (sym (words-in d lastPart 39168 128 refl refl 64 4096 (omega arith)) ∙ sym (at-words-below .words-below .ensures) ∙ not-true _ (c .if3 .taken)))
 
 returns-4 : tie.Need-returns-4
 unfolding offset size
 returns-4 c =
-    let d = c .before .before .before .before .before .before .before .before .before .args .d .now in
-    rw ((sym (bytes-in d statePart 39040 64 refl refl 64 3 (omega arith)) ∙ sym (c .before .before .before .before .before .before .before .bytes-below .ensures) ∙ not-false _ (c .before .before .before .before .before .before .if1 .left)), (sym (bytes-in d usedPart 39104 64 refl refl 64 2 (omega arith)) ∙ sym (c .before .before .before .before .before .bytes-below2 .ensures) ∙ not-false _ (c .before .before .before .before .if2 .left)), (sym (words-in d lastPart 39168 128 refl refl 64 4096 (omega arith)) ∙ sym (c .before .before .before .words-below .ensures) ∙ not-false _ (c .before .before .if3 .left)), (sym (words-in d firstPart 39296 128 refl refl 64 4096 (omega arith)) ∙ sym (c .before .words-below2 .ensures) ∙ not-true _ (c .if4 .taken)))
+    let at-words-below2 = c .before in
+    let at-if3 = at-words-below2 .before in
+    let at-words-below = at-if3 .before in
+    let at-if2 = at-words-below .before in
+    let at-bytes-below2 = at-if2 .before in
+    let at-if1 = at-bytes-below2 .before in
+    let at-bytes-below = at-if1 .before in
+    let start = at-bytes-below .before .before in
+    let d = start .args .d .now in
+    rw ((sym (bytes-in d statePart 39040 64 refl refl 64 3 (omega arith)) ∙ sym (at-bytes-below .bytes-below .ensures) ∙ not-false _ (at-if1 .if1 .left)), (sym (bytes-in d usedPart 39104 64 refl refl 64 2 (omega arith)) ∙ sym (at-bytes-below2 .bytes-below2 .ensures) ∙ not-false _ (at-if2 .if2 .left)), (sym (words-in d lastPart 39168 128 refl refl 64 4096 (omega arith)) ∙ sym (at-words-below .words-below .ensures) ∙ not-false _ (at-if3 .if3 .left)), (sym (words-in d firstPart 39296 128 refl refl 64 4096 (omega arith)) ∙ sym (at-words-below2 .words-below2 .ensures) ∙ not-true _ (c .if4 .taken)))
 
 returns-5 : tie.Need-returns-5
 unfolding offset size
 returns-5 c =
-    let d = c .before .before .before .before .before .before .before .before .before .before .before .args .d .now in
-    rw ((sym (bytes-in d statePart 39040 64 refl refl 64 3 (omega arith)) ∙ sym (c .before .before .before .before .before .before .before .before .before .bytes-below .ensures) ∙ not-false _ (c .before .before .before .before .before .before .before .before .if1 .left)), (sym (bytes-in d usedPart 39104 64 refl refl 64 2 (omega arith)) ∙ sym (c .before .before .before .before .before .before .before .bytes-below2 .ensures) ∙ not-false _ (c .before .before .before .before .before .before .if2 .left)), (sym (words-in d lastPart 39168 128 refl refl 64 4096 (omega arith)) ∙ sym (c .before .before .before .before .before .words-below .ensures) ∙ not-false _ (c .before .before .before .before .if3 .left)), (sym (words-in d firstPart 39296 128 refl refl 64 4096 (omega arith)) ∙ sym (c .before .before .before .words-below2 .ensures) ∙ not-false _ (c .before .before .if4 .left)), (sym (words-in d countPart 39424 128 refl refl 64 4097 (omega arith)) ∙ sym (c .before .words-below3 .ensures) ∙ not-true _ (c .if5 .taken)))
+    let at-words-below3 = c .before in
+    let at-if4 = at-words-below3 .before in
+    let at-words-below2 = at-if4 .before in
+    let at-if3 = at-words-below2 .before in
+    let at-words-below = at-if3 .before in
+    let at-if2 = at-words-below .before in
+    let at-bytes-below2 = at-if2 .before in
+    let at-if1 = at-bytes-below2 .before in
+    let at-bytes-below = at-if1 .before in
+    let start = at-bytes-below .before .before in
+    let d = start .args .d .now in
+    rw ((sym (bytes-in d statePart 39040 64 refl refl 64 3 (omega arith)) ∙ sym (at-bytes-below .bytes-below .ensures) ∙ not-false _ (at-if1 .if1 .left)), (sym (bytes-in d usedPart 39104 64 refl refl 64 2 (omega arith)) ∙ sym (at-bytes-below2 .bytes-below2 .ensures) ∙ not-false _ (at-if2 .if2 .left)), (sym (words-in d lastPart 39168 128 refl refl 64 4096 (omega arith)) ∙ sym (at-words-below .words-below .ensures) ∙ not-false _ (at-if3 .if3 .left)), (sym (words-in d firstPart 39296 128 refl refl 64 4096 (omega arith)) ∙ sym (at-words-below2 .words-below2 .ensures) ∙ not-false _ (at-if4 .if4 .left)), (sym (words-in d countPart 39424 128 refl refl 64 4097 (omega arith)) ∙ sym (at-words-below3 .words-below3 .ensures) ∙ not-true _ (c .if5 .taken)))
 
 returns-6 : tie.Need-returns-6
 unfolding offset size
 returns-6 c =
-    let d = c .before .before .before .before .before .before .before .before .before .before .before .before .args .d .now in
-    rw ((sym (bytes-in d statePart 39040 64 refl refl 64 3 (omega arith)) ∙ sym (c .before .before .before .before .before .before .before .before .before .before .bytes-below .ensures) ∙ not-false _ (c .before .before .before .before .before .before .before .before .before .if1 .left)), (sym (bytes-in d usedPart 39104 64 refl refl 64 2 (omega arith)) ∙ sym (c .before .before .before .before .before .before .before .before .bytes-below2 .ensures) ∙ not-false _ (c .before .before .before .before .before .before .before .if2 .left)), (sym (words-in d lastPart 39168 128 refl refl 64 4096 (omega arith)) ∙ sym (c .before .before .before .before .before .before .words-below .ensures) ∙ not-false _ (c .before .before .before .before .before .if3 .left)), (sym (words-in d firstPart 39296 128 refl refl 64 4096 (omega arith)) ∙ sym (c .before .before .before .before .words-below2 .ensures) ∙ not-false _ (c .before .before .before .if4 .left)), (sym (words-in d countPart 39424 128 refl refl 64 4097 (omega arith)) ∙ sym (c .before .before .words-below3 .ensures) ∙ not-false _ (c .before .if5 .left))) (c .words-below4 .ensures ∙ words-in d basePart 39552 128 refl refl 64 4097 (omega arith))
+    let at-if5 = c .before in
+    let at-words-below3 = at-if5 .before in
+    let at-if4 = at-words-below3 .before in
+    let at-words-below2 = at-if4 .before in
+    let at-if3 = at-words-below2 .before in
+    let at-words-below = at-if3 .before in
+    let at-if2 = at-words-below .before in
+    let at-bytes-below2 = at-if2 .before in
+    let at-if1 = at-bytes-below2 .before in
+    let at-bytes-below = at-if1 .before in
+    let start = at-bytes-below .before .before in
+    let d = start .args .d .now in
+    rw ((sym (bytes-in d statePart 39040 64 refl refl 64 3 (omega arith)) ∙ sym (at-bytes-below .bytes-below .ensures) ∙ not-false _ (at-if1 .if1 .left)), (sym (bytes-in d usedPart 39104 64 refl refl 64 2 (omega arith)) ∙ sym (at-bytes-below2 .bytes-below2 .ensures) ∙ not-false _ (at-if2 .if2 .left)), (sym (words-in d lastPart 39168 128 refl refl 64 4096 (omega arith)) ∙ sym (at-words-below .words-below .ensures) ∙ not-false _ (at-if3 .if3 .left)), (sym (words-in d firstPart 39296 128 refl refl 64 4096 (omega arith)) ∙ sym (at-words-below2 .words-below2 .ensures) ∙ not-false _ (at-if4 .if4 .left)), (sym (words-in d countPart 39424 128 refl refl 64 4097 (omega arith)) ∙ sym (at-words-below3 .words-below3 .ensures) ∙ not-false _ (at-if5 .if5 .left))) (c .words-below4 .ensures ∙ words-in d basePart 39552 128 refl refl 64 4097 (omega arith))
 
 pub records-in-spec : {M : Type 1} → statement M
 records-in-spec = tie.close (tie.spec

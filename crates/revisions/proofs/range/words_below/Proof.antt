@@ -23,10 +23,20 @@ unfolding every
 loop-holds c = (search needs, refl)
 
 returns : tie.Need-returns Inv-loop μ-loop
-returns c = let l = c .before .before .before .before .loop in sym (every-not (λ j. ltb (byte (c .before .before .before .before .before .before .args .d .now) (c .before .before .before .before .before .before .args .at + 2 * j) + 256 * byte (c .before .before .before .before .before .before .args .d .now) (c .before .before .before .before .before .before .args .at + (2 * j + 1))) (c .before .before .before .before .before .before .args .limit)) (c .before .before .before .before .before .before .args .n) (l .i) (omega arith) (le-ltb _ _ (rw (c .before .before .byte-at .ensures .0, c .before .byte-at2 .ensures .0) at (c .if1 .taken))))
+returns c =
+    let at-byte-at2 = c .before in
+    let at-byte-at = at-byte-at2 .before in
+    let at-loop = at-byte-at .before .before in
+    let start = at-loop .before .before in
+    let l = at-loop .loop in sym (every-not (λ j. ltb (byte (start .args .d .now) (start .args .at + 2 * j) + 256 * byte (start .args .d .now) (start .args .at + (2 * j + 1))) (start .args .limit)) (start .args .n) (l .i) (omega arith) (le-ltb _ _ (rw (at-byte-at .byte-at .ensures .0, at-byte-at2 .byte-at2 .ensures .0) at (c .if1 .taken))))
 
 loop-again : tie.Need-loop-again Inv-loop μ-loop
-loop-again c = let l = c .before .before .before .before .loop in (omega arith, every-more (λ j. ltb (byte (c .before .before .before .before .before .before .args .d .now) (c .before .before .before .before .before .before .args .at + 2 * j) + 256 * byte (c .before .before .before .before .before .before .args .d .now) (c .before .before .before .before .before .before .args .at + (2 * j + 1))) (c .before .before .before .before .before .before .args .limit)) (l .i) (l .inv .1) (lt-ltb _ _ (rw (c .before .before .byte-at .ensures .0, c .before .byte-at2 .ensures .0) at (c .if1 .left))))
+loop-again c =
+    let at-byte-at2 = c .before in
+    let at-byte-at = at-byte-at2 .before in
+    let at-loop = at-byte-at .before .before in
+    let start = at-loop .before .before in
+    let l = at-loop .loop in (omega arith, every-more (λ j. ltb (byte (start .args .d .now) (start .args .at + 2 * j) + 256 * byte (start .args .d .now) (start .args .at + (2 * j + 1))) (start .args .limit)) (l .i) (l .inv .1) (lt-ltb _ _ (rw (at-byte-at .byte-at .ensures .0, at-byte-at2 .byte-at2 .ensures .0) at (c .if1 .left))))
 
 returns-2 : tie.Need-returns-2 Inv-loop μ-loop
 returns-2 c =

@@ -6,8 +6,11 @@ use Rattle.revisions.proofs.record.update.Tie as tie
 
 returns : tie.Need-returns
 returns c =
-    let s = c .before .before .before .before .before .before .before .before .before .args in
-    (c .before .before .before .before .before .before .append .ensures .0, update-done (s .d .now) (c .before .before .before .before .before .before .before .before .before .pre .0) _ _ (s .c .0) (s .r .0) (c .before .before .before .before .before .before .before .before .before .pre .2) (c .before .before .before .before .before .before .append .ensures .1) (c .before .before .«open» .ensures))
+    let at-open = c .before .before in
+    let at-append = at-open .before .before .before .before in
+    let start = at-append .before .before .before in
+    let s = start .args in
+    (at-append .append .ensures .0, update-done (s .d .now) (start .pre .0) _ _ (s .c .0) (s .r .0) (start .pre .2) (at-append .append .ensures .1) (at-open .«open» .ensures))
 
 pub update-spec : {M : Type 1} → statement M
 update-spec = tie.close (tie.spec

@@ -24,22 +24,33 @@ loop-holds c = (search needs, refl)
 
 returns : tie.Need-returns Inv-loop μ-loop
 returns c =
-    let s = c .before .before .before .before .before .before .args in
-    let l = c .before .before .before .loop in
-    let f : ℕ → Bool = λ y. eqb (cells (s .d .now) .opened y) (c .before .before .before .before .wide .result) in
-    sym (some-at f 16 (l .x) (omega arith) (eq-eqb _ _ (sym (c .before .opened .ensures .0) ∙ c .if1 .taken))) ∙ ap (λ a. some (λ y. eqb (cells (s .d .now) .opened y) a) 16) (c .before .before .before .before .wide .ensures .0)
+    let at-opened = c .before in
+    let at-loop = at-opened .before .before in
+    let at-wide = at-loop .before in
+    let start = at-wide .before .before in
+    let s = start .args in
+    let l = at-loop .loop in
+    let f : ℕ → Bool = λ y. eqb (cells (s .d .now) .opened y) (at-wide .wide .result) in
+    sym (some-at f 16 (l .x) (omega arith) (eq-eqb _ _ (sym (at-opened .opened .ensures .0) ∙ c .if1 .taken))) ∙ ap (λ a. some (λ y. eqb (cells (s .d .now) .opened y) a) 16) (at-wide .wide .ensures .0)
 
 loop-again : tie.Need-loop-again Inv-loop μ-loop
 loop-again c =
-    let l = c .before .before .before .loop in
-    (omega arith, some-more (λ y. eqb (cells (c .before .before .before .before .before .before .args .d .now) .opened y) (c .before .before .before .before .wide .result)) (l .x) (l .inv .1) (ne-eqb _ _ (λ e. c .if1 .left (c .before .opened .ensures .0 ∙ e))))
+    let at-opened = c .before in
+    let at-loop = at-opened .before .before in
+    let at-wide = at-loop .before in
+    let start = at-wide .before .before in
+    let l = at-loop .loop in
+    (omega arith, some-more (λ y. eqb (cells (start .args .d .now) .opened y) (at-wide .wide .result)) (l .x) (l .inv .1) (ne-eqb _ _ (λ e. c .if1 .left (at-opened .opened .ensures .0 ∙ e))))
 
 returns-2 : tie.Need-returns-2 Inv-loop μ-loop
 returns-2 c =
-    let s = c .before .before .before .before .args in
-    let l = c .before .loop in
+    let at-loop = c .before in
+    let at-wide = at-loop .before in
+    let start = at-wide .before .before in
+    let s = start .args in
+    let l = at-loop .loop in
     let e : l .x ≡ 16 = omega arith in
-    sym (ap (λ n. some (λ y. eqb (cells (s .d .now) .opened y) (c .before .before .wide .result)) n) (sym e) ∙ l .inv .1) ∙ ap (λ a. some (λ y. eqb (cells (s .d .now) .opened y) a) 16) (c .before .before .wide .ensures .0)
+    sym (ap (λ n. some (λ y. eqb (cells (s .d .now) .opened y) (at-wide .wide .result)) n) (sym e) ∙ l .inv .1) ∙ ap (λ a. some (λ y. eqb (cells (s .d .now) .opened y) a) 16) (at-wide .wide .ensures .0)
 
 pub is-busy-spec : {M : Type 1} → statement M
 is-busy-spec = tie.close (tie.spec

@@ -23,19 +23,30 @@ loop-holds c = (search needs, refl)
 
 returns : tie.Need-returns Inv-loop μ-loop
 returns c =
-    let l = c .before .before .before .loop in
-    sym (some-at (λ y. not (eqb y (c .before .before .before .before .before .before .args .c .0)) && eqb (cells (c .before .before .before .before .before .before .args .d .now) .opened y) (c .before .before .before .before .wide .result)) 16 (l .x) (omega arith) (sym (c .before .is-other-on .ensures) ∙ c .if1 .taken)) ∙ ap (λ a. some (λ y. not (eqb y (c .before .before .before .before .before .before .args .c .0)) && eqb (cells (c .before .before .before .before .before .before .args .d .now) .opened y) a) 16) (c .before .before .before .before .wide .ensures .0)
+    let at-is-other-on = c .before in
+    let at-loop = at-is-other-on .before .before in
+    let at-wide = at-loop .before in
+    let start = at-wide .before .before in
+    let l = at-loop .loop in
+    sym (some-at (λ y. not (eqb y (start .args .c .0)) && eqb (cells (start .args .d .now) .opened y) (at-wide .wide .result)) 16 (l .x) (omega arith) (sym (at-is-other-on .is-other-on .ensures) ∙ c .if1 .taken)) ∙ ap (λ a. some (λ y. not (eqb y (start .args .c .0)) && eqb (cells (start .args .d .now) .opened y) a) 16) (at-wide .wide .ensures .0)
 
 loop-again : tie.Need-loop-again Inv-loop μ-loop
 loop-again c =
-    let l = c .before .before .before .loop in
-    (omega arith, some-more (λ y. not (eqb y (c .before .before .before .before .before .before .args .c .0)) && eqb (cells (c .before .before .before .before .before .before .args .d .now) .opened y) (c .before .before .before .before .wide .result)) (l .x) (l .inv .1) (sym (c .before .is-other-on .ensures) ∙ c .if1 .left))
+    let at-is-other-on = c .before in
+    let at-loop = at-is-other-on .before .before in
+    let at-wide = at-loop .before in
+    let start = at-wide .before .before in
+    let l = at-loop .loop in
+    (omega arith, some-more (λ y. not (eqb y (start .args .c .0)) && eqb (cells (start .args .d .now) .opened y) (at-wide .wide .result)) (l .x) (l .inv .1) (sym (at-is-other-on .is-other-on .ensures) ∙ c .if1 .left))
 
 returns-2 : tie.Need-returns-2 Inv-loop μ-loop
 returns-2 c =
-    let l = c .before .loop in
+    let at-loop = c .before in
+    let at-wide = at-loop .before in
+    let start = at-wide .before .before in
+    let l = at-loop .loop in
     let e : l .x ≡ 16 = omega arith in
-    sym (ap (λ n. some (λ y. not (eqb y (c .before .before .before .before .args .c .0)) && eqb (cells (c .before .before .before .before .args .d .now) .opened y) (c .before .before .wide .result)) n) (sym e) ∙ l .inv .1) ∙ ap (λ a. some (λ y. not (eqb y (c .before .before .before .before .args .c .0)) && eqb (cells (c .before .before .before .before .args .d .now) .opened y) a) 16) (c .before .before .wide .ensures .0)
+    sym (ap (λ n. some (λ y. not (eqb y (start .args .c .0)) && eqb (cells (start .args .d .now) .opened y) (at-wide .wide .result)) n) (sym e) ∙ l .inv .1) ∙ ap (λ a. some (λ y. not (eqb y (start .args .c .0)) && eqb (cells (start .args .d .now) .opened y) a) 16) (at-wide .wide .ensures .0)
 
 pub is-busy-by-other-spec : {M : Type 1} → statement M
 is-busy-by-other-spec = tie.close (tie.spec

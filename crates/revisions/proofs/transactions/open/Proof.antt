@@ -6,8 +6,12 @@ use Rattle.revisions.proofs.transactions.open.Tie as tie
 
 returns : tie.Need-returns
 returns c =
-    let s = c .before .before .before .before .before .before .before .before .before .before .args in
-    query-done (s .d .now) (c .before .before .before .before .before .before .before .before .before .before .pre .0) _ _ (s .c .0) (s .r .0) (c .before .before .before .wide .result) (c .before .before .before .before .before .before .before .before .before .before .pre .1) (c .before .before .before .wide .ensures .0) (c .before .before .before .before .before .before .before .caught-only .ensures) (c .before .before .opened .ensures)
+    let at-opened = c .before .before in
+    let at-wide = at-opened .before in
+    let at-caught-only = at-wide .before .before .before .before in
+    let start = at-caught-only .before .before .before in
+    let s = start .args in
+    query-done (s .d .now) (start .pre .0) _ _ (s .c .0) (s .r .0) (at-wide .wide .result) (start .pre .1) (at-wide .wide .ensures .0) (at-caught-only .caught-only .ensures) (at-opened .opened .ensures)
 
 pub open-spec : {M : Type 1} → statement M
 open-spec = tie.close (tie.spec
