@@ -1,7 +1,7 @@
 -- A linked list read backwards: what a changed link leaves as it was, and two lists in a row.
 use Prim.Native.Nat.{ℕ, zero, suc, _+_}
 use mathlib.Core.Path.{_≡_, refl, sym, _∙_, ap}
-use mathlib.Core.List.{List, [], _∷_, _++_, append-nil, append-assoc, List·Memᴰ·head, List·Memᴰ·tail, Memᴰ·append-left, Memᴰ·append-right, List·Nodup, nodup-cons}
+use mathlib.Core.List.{[], _∷_, _++_, append-nil, append-assoc, List·Memᴰ·head, List·Memᴰ·tail, Memᴰ·append-left, Memᴰ·append-right, List·Nodup, nodup-cons}
 use native.Mathlib.Nat.{add-suc, add-zero}
 use native.Mathlib.Omega.{arith}
 use lib.ListN.{length, length-append}

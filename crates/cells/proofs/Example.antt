@@ -1,8 +1,7 @@
 -- A day on the cells, computed: forks of forks, updates on each, joins, and the checks after them.
-use Prim.Native.Nat.{ℕ}
 use mathlib.Core.Bool.{true, false}
 use mathlib.Core.Path.{_≡_, refl}
-use mathlib.Core.List.{List, [], _∷_}
+use mathlib.Core.List.{[], _∷_}
 use Rattle.lists.specs.Lists.{insert, remove, behind}
 use Rattle.cells.specs.Tables.{some}
 use Rattle.cells.specs.Cells.{Cells, chain, outs}

@@ -1,18 +1,18 @@
 -- The fresh parts are the fresh cells.
-use Prim.Native.Nat.{ℕ, zero, suc, _+_, _*_, _/_, _%_, _^_, _<_, _≤_}
+use Prim.Native.Nat.{ℕ, zero, suc, _+_, _*_, _/_, _%_}
 use mathlib.Core.Bool.{Bool, true, false, cond, _&&_}
-use mathlib.Core.Path.{_≡_, refl, sym, _∙_, ap, fun-ext}
-use mathlib.Core.List.{List, [], _∷_}
+use mathlib.Core.Path.{_≡_, refl, _∙_, ap, fun-ext}
+use mathlib.Core.List.{List}
 use native.Mathlib.Nat.{zero-div}
 use native.Mathlib.Omega.{arith}
 use lib.Dec.{eqb, ltb}
-use lib.ListN.{length, replicate, length-replicate, getD-replicate, List·getD-eq-default}
+use lib.ListN.{replicate, getD-replicate, List·getD-eq-default}
 use borrow.Author.Tests.{ltb-true, ltb-false}
 use Rattle.lists.proofs.Cases.{cases}
 use Rattle.cells.specs.Sizes.{revisions, clients, main, closed, isOut}
 use Rattle.cells.specs.Parts.{size, rowsPart, lowPart, highPart, seenPart, usedPart, lastPart, firstPart, countPart, basePart}
 use Rattle.cells.specs.Words.{byte, word, half, linkIn}
-use Rattle.cells.specs.Marks.{bit, markIn}
+use Rattle.cells.specs.Marks.{markIn}
 use Rattle.cells.specs.Decode.{decode, rowOf}
 use Rattle.cells.specs.CellSteps.{freshCells}
 use Rattle.cells.specs.Steps.{freshParts}

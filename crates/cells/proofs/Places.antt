@@ -1,14 +1,13 @@
 -- The layout's first places after a fork and a join: what the revisions out are then.
 use Prim.Native.Nat.{ℕ, zero, suc, _-_, _<_, _≤_}
-use mathlib.Core.Bool.{true, false, cond}
-use mathlib.Core.Path.{_≡_, refl, sym, _∙_, ap}
+use mathlib.Core.Path.{_≡_, sym, _∙_, ap}
 use mathlib.Core.List.{List, [], _∷_, _++_, List·Memᴰ·cases-cons, List·Memᴰ·not-nil}
 use native.Mathlib.Numerals.{sub-one}
 use native.Mathlib.Omega.{arith}
 use lib.Dec.{eqb}
-use lib.ListN.{length, take, length-append, length-take}
-use lib.Seq.{take-append-le, take-take, length-take-le}
-use borrow.Author.Tests.{eqb-true, eqb-false}
+use lib.ListN.{length, take, length-append}
+use lib.Seq.{take-append-le, take-take}
+use borrow.Author.Tests.{eqb-false}
 use Rattle.lists.specs.Lists.{_∈_, insert, remove}
 use Rattle.lists.proofs.Cases.{cases, either}
 use Rattle.cells.specs.Sizes.{revisions}

@@ -1,20 +1,21 @@
 -- What a content in range says of each cell; and that a fresh table is in range.
 use Prim.Native.Nat.{ℕ, _<_, _≤_}
-use mathlib.Core.Bool.{Bool, true, _&&_}
-use mathlib.Core.Path.{_≡_, refl, ap, sym, subst}
+use mathlib.Core.Bool.{true}
+use mathlib.Core.Path.{_≡_, refl}
 use mathlib.Core.List.{List}
-use lib.Dec.{ltb, eqb}
-use borrow.Author.Tests.{ltb-true}
+use lib.Dec.{eqb, ltb}
+use borrow.Author.Tests.{eq-eqb, lt-ltb, ltb-true}
 use native.Mathlib.Omega.{arith}
 use Rattle.lists.proofs.Cases.{and-true}
 use Rattle.cells.specs.Sizes.{revisions, clients, updates}
 use Rattle.cells.specs.Tables.{every}
-use Rattle.cells.specs.Parts.{Parts, split, statePart, usedPart, lastPart, firstPart, countPart, basePart, layoutPart, queuePart, openedPart, countersPart, signaturePart}
+use Rattle.cells.specs.Parts.{Parts, size, split, statePart, usedPart, lastPart, firstPart, countPart, basePart, layoutPart, queuePart, openedPart, countersPart, signaturePart}
 use Rattle.cells.specs.Words.{byte, word}
 use Rattle.cells.specs.Cells.{Cells}
 use Rattle.cells.specs.Decode.{decode, cells}
-use Rattle.cells.specs.Range.{bytesBelow, wordsBelow, countersIn, signed, partsIn, inRange}
-use Rattle.cells.proofs.Tables.{every-at}
+use Rattle.cells.specs.Range.{bytesBelow, wordsBelow, countersIn, signature, signed, partsIn, inRange}
+use Rattle.cells.specs.Steps.{freshParts}
+use Rattle.cells.proofs.Tables.{every-all, every-at}
 
 -- the ranges that the steps rely on
 pub record Ranges (k : Cells) : Type 0 where
@@ -72,3 +73,49 @@ parts-ranges p e =
 pub ranges : (d : List ℕ) → inRange d ≡ true → Ranges (cells d)
 unfolding inRange cells
 ranges d e = parts-ranges (split d) e
+
+-- the other way: cells in their ranges pass the check
+pub record Kept (p : Parts) : Type 0 where
+  pub state : (r : ℕ) → r < revisions → byte (p statePart) r < 3
+  pub used : (r : ℕ) → r < revisions → byte (p usedPart) r < 2
+  pub last : (r : ℕ) → r < revisions → word (p lastPart) r < 4096
+  pub first : (r : ℕ) → r < revisions → word (p firstPart) r < 4096
+  pub count : (r : ℕ) → r < revisions → word (p countPart) r < 4097
+  pub base : (r : ℕ) → r < revisions → word (p basePart) r < 4097
+  pub layout : (i : ℕ) → i < revisions → byte (p layoutPart) i < 64
+  pub queue : (i : ℕ) → i < revisions → byte (p queuePart) i < 64
+  pub opened : (c : ℕ) → c < clients → byte (p openedPart) c < 65
+  pub counters : (word (p countersPart) 0 < 4097) × (0 < byte (p countersPart) 2) × (byte (p countersPart) 2 < 65) × (0 < byte (p countersPart) 3) × (byte (p countersPart) 3 < 65)
+  pub signature : (i : ℕ) → i < 8 → byte (p signaturePart) i ≡ byte signature i
+
+pub kept-in : (p : Parts) → Kept p → partsIn p ≡ true
+kept-in p h =
+    rw (
+      bytes-below revisions 3 (p statePart) (h .state),
+      bytes-below revisions 2 (p usedPart) (h .used),
+      words-below revisions 4096 (p lastPart) (h .last),
+      words-below revisions 4096 (p firstPart) (h .first),
+      words-below revisions 4097 (p countPart) (h .count),
+      words-below revisions 4097 (p basePart) (h .base),
+      bytes-below revisions 64 (p layoutPart) (h .layout),
+      bytes-below revisions 64 (p queuePart) (h .queue),
+      bytes-below clients 65 (p openedPart) (h .opened),
+    )
+    (rw (
+      lt-ltb (word (p countersPart) 0) 4097 (h .counters .0),
+      lt-ltb 0 (byte (p countersPart) 2) (h .counters .1),
+      lt-ltb (byte (p countersPart) 2) 65 (h .counters .2),
+      lt-ltb 0 (byte (p countersPart) 3) (h .counters .3),
+      lt-ltb (byte (p countersPart) 3) 65 (h .counters .4),
+    )
+    (every-all (λ i. eqb (byte (p signaturePart) i) (byte signature i)) 8 (λ i l. eq-eqb _ _ (h .signature i l))))
+  where
+    bytes-below : (n limit : ℕ) (t : List ℕ) → ((i : ℕ) → i < n → byte t i < limit) → bytesBelow n limit t ≡ true
+    bytes-below n limit t f = every-all (λ j. ltb (byte t j) limit) n (λ i l. lt-ltb (byte t i) limit (f i l))
+
+    words-below : (n limit : ℕ) (t : List ℕ) → ((i : ℕ) → i < n → word t i < limit) → wordsBelow n limit t ≡ true
+    words-below n limit t f = every-all (λ j. ltb (word t j) limit) n (λ i l. lt-ltb (word t i) limit (f i l))
+
+pub fresh-in : partsIn freshParts ≡ true
+unfolding every word signature size
+fresh-in = refl

@@ -1,18 +1,18 @@
 -- Tables of a function's values: their entries, and what a loop that fills one from the front has done at i. Tests over numbers.
 use Prim.Native.Nat.{ℕ, zero, suc, _+_, _<_, _≤_}
-use mathlib.Core.Bool.{Bool, true, false, cond, _&&_, _||_}
+use mathlib.Core.Bool.{Bool, true, false, _&&_}
 use mathlib.Core.Path.{_≡_, refl, sym, ap, _∙_}
 use mathlib.Core.Logic.{_⊎_, inl, inr}
 use mathlib.Core.List.{List, [], _∷_, _++_, append-assoc, map}
 use native.Mathlib.Nat.{add-zero, not-suc-le-zero}
 use native.Mathlib.Numerals.{add-one}
 use native.Mathlib.Omega.{arith}
-use lib.Dec.{eqb, ltb}
-use lib.ListN.{length, set, take, drop, getD, length-append, length-drop, length-set, take-append-drop, length-map, List·getD-append, List·getD-eq-default, List·getD-map}
+use lib.Dec.{eqb}
+use lib.ListN.{length, set, take, drop, getD, length-append, length-drop, length-set, take-append-drop, List·getD-append, List·getD-eq-default}
 use lib.Seq.{drop-cons, length-take-le, set-at, take-suc-set, take-all, getD-at, ext-getD, getD-set-same, getD-set-other}
-use borrow.Author.Tests.{eqb-true, eqb-false, eq-eqb, ltb-true, ltb-false}
+use borrow.Author.Tests.{eqb-true, eqb-false}
 use Rattle.lists.specs.Lists.{changed}
-use Rattle.lists.proofs.Cases.{cases, and-true, or-cases, or-left, or-right, either}
+use Rattle.lists.proofs.Cases.{cases, and-true, or-left, or-right, either}
 use Rattle.cells.specs.Tables.{tab, every, some}
 
 pub tab-none : {A : Type 0} (f : ℕ → A) → [] ≡ tab f 0
@@ -119,6 +119,11 @@ every-at f (suc n) i e h =
 pub every-more : (f : ℕ → Bool) (i : ℕ) → every f i ≡ true → f i ≡ true → every f (i + 1) ≡ true
 unfolding every
 every-more f i e g = rw (add-one, e, g)
+
+pub every-all : (f : ℕ → Bool) (n : ℕ) → ((i : ℕ) → i < n → f i ≡ true) → every f n ≡ true
+unfolding every
+every-all f zero h = refl
+every-all f (suc n) h = rw (every-all f n (λ i l. h i (omega arith)), h n (omega arith))
 
 and-false : (b : Bool) → (b && false) ≡ false
 and-false true = refl

@@ -1,7 +1,7 @@
 -- What each accepted step does to the cells: docs/CELLS.md, "What each step writes".
 use Prim.Native.Nat.{ℕ, suc, _+_, _-_}
 use mathlib.Core.Bool.{Bool, true, false, cond, _||_, _&&_}
-use mathlib.Core.List.{List, [], _∷_, _++_}
+use mathlib.Core.List.{[], _∷_, _++_}
 use lib.Dec.{eqb, ltb}
 use lib.ListN.{take, replicate}
 use Rattle.lists.specs.Lists.{changed, member, insert, remove}

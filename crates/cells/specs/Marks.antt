@@ -1,7 +1,7 @@
 -- Marks in bytes: eight to a byte, the first of them lowest; rows of w bytes, so of 8 * w marks.
 use Prim.Native.Nat.{ℕ, _+_, _*_, _/_, _%_, _^_}
 use mathlib.Core.Bool.{Bool, true, false, _&&_}
-use mathlib.Core.List.{List, [], _∷_, _++_}
+use mathlib.Core.List.{List, [], _++_}
 use lib.Dec.{eqb, ltb}
 use lib.ListN.{getD, take, drop}
 use Rattle.cells.specs.Tables.{tab}

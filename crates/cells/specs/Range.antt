@@ -2,9 +2,8 @@
 use Prim.Native.Nat.{ℕ}
 use mathlib.Core.Bool.{Bool, _&&_}
 use mathlib.Core.List.{List, [], _∷_}
-use lib.Dec.{eqb, ltb, leb}
-use lib.ListN.{getD}
-use Rattle.cells.specs.Sizes.{revisions, clients, updates}
+use lib.Dec.{eqb, ltb}
+use Rattle.cells.specs.Sizes.{revisions, clients}
 use Rattle.cells.specs.Tables.{every}
 use Rattle.cells.specs.Parts.{Parts, split, statePart, usedPart, lastPart, firstPart, countPart, basePart, layoutPart}
 use Rattle.cells.specs.Parts.{queuePart, openedPart, countersPart, signaturePart}

@@ -10,7 +10,6 @@ use Rattle.cells.specs.Parts.{Parts, split, glue, size, _⟨_≔_⟩, ro
 use Rattle.cells.specs.Parts.{countPart, basePart, layoutPart, openedPart, countersPart, signaturePart}
 use Rattle.cells.specs.Words.{putWord, putHalf}
 use Rattle.cells.specs.Marks.{pack, putRow}
-use Rattle.cells.specs.Cells.{Cells}
 use Rattle.cells.specs.Decode.{decode}
 use Rattle.cells.specs.Range.{signature}
 use Rattle.cells.specs.CellSteps.{forkSeen, forkCaught, forkRow, spliced, joinSeen, joinCaught}

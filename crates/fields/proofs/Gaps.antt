@@ -1,15 +1,13 @@
 -- The loops over the layout: a firstPlace sought, a gap closed, a gap opened.
-use Prim.Native.Nat.{ℕ, zero, suc, _+_, _-_, _<_, _≤_}
-use mathlib.Core.Bool.{true, false, cond}
+use Prim.Native.Nat.{ℕ, suc, _+_, _-_, _<_, _≤_}
 use mathlib.Core.Path.{_≡_, refl, sym, ap, _∙_}
 use mathlib.Core.List.{List, [], _∷_, _++_, append-assoc, append-nil}
-use native.Mathlib.Nat.{add-zero}
-use native.Mathlib.Numerals.{add-one, sub-one}
+use native.Mathlib.Numerals.{add-one}
 use native.Mathlib.Omega.{arith}
 use lib.Dec.{eqb}
-use lib.ListN.{length, set, getD, take, drop, length-append, length-take, length-drop, length-set, drop-of-length-le, List·getD-append}
+use lib.ListN.{length, set, getD, take, drop, length-append, length-drop, drop-of-length-le, List·getD-append}
 use lib.Seq.{take-suc, take-suc-set, drop-set-lt, drop-cons, drop-drop, getD-drop, getD-append-add, take-at, take-all, take-append-le, take-append-add, set-split, set-at, length-take-le, getD-take}
-use borrow.Author.Tests.{eqb-true, eqb-false, eq-eqb, ne-eqb}
+use borrow.Author.Tests.{eq-eqb, ne-eqb}
 use Rattle.lists.specs.Lists.{insert, remove}
 use Rattle.lists.proofs.Cases.{cases}
 use Rattle.fields.specs.Place.{firstPlace}

@@ -1,14 +1,14 @@
 -- A mark read in the whole.
-use Prim.Native.Nat.{ℕ, zero, suc, _+_, _*_, _-_, _/_, _%_, _<_, _≤_}
+use Prim.Native.Nat.{ℕ, zero, suc, _+_, _*_, _-_, _/_, _%_, _<_}
 use mathlib.Core.Bool.{Bool, true, false, _&&_}
-use mathlib.Core.Path.{_≡_, refl, sym, ap, _∙_}
+use mathlib.Core.Path.{_≡_, refl, ap, _∙_}
 use mathlib.Core.List.{List}
 use native.Mathlib.Numerals.{sub-one}
 use native.Mathlib.Omega.{arith}
 use lib.ListN.{getD}
 use borrow.Author.Tests.{lt-ltb}
-use Rattle.cells.specs.Sizes.{bytes, revisions, clients, updates}
-use Rattle.cells.specs.Parts.{split, offset, size, rowsPart, seenPart, caughtPart}
+use Rattle.cells.specs.Sizes.{revisions, clients, updates}
+use Rattle.cells.specs.Parts.{offset, size, rowsPart, seenPart, caughtPart}
 use Rattle.cells.specs.Marks.{bit, putRow}
 use Rattle.cells.specs.Cells.{marked}
 use Rattle.cells.specs.Decode.{cells}

@@ -1,9 +1,9 @@
 -- Bytes that are all 0, as parts; marks that are all set.
-use Prim.Native.Nat.{ℕ, zero, suc, _+_, _<_, _≤_}
+use Prim.Native.Nat.{ℕ, zero, suc, _≤_}
 use mathlib.Core.Bool.{Bool, true, false}
 use mathlib.Core.Path.{_≡_, refl, sym, ap, _∙_}
 use mathlib.Core.List.{List, [], _++_, append-nil}
-use lib.ListN.{length, replicate, drop, getD, drop-of-length-le, getD-replicate, replicate-append-replicate}
+use lib.ListN.{length, replicate, drop, drop-of-length-le, getD-replicate, replicate-append-replicate}
 use Rattle.cells.specs.Sizes.{bytes}
 use Rattle.cells.specs.Parts.{parts, size, offset, inRow, glue}
 use Rattle.cells.specs.Marks.{pack, markOf}

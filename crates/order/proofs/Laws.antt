@@ -7,7 +7,7 @@ use native.Mathlib.Numerals.{add-one, sub-one}
 use native.Mathlib.Omega.{arith}
 use lib.Dec.{ltb}
 use lib.ListN.{length, set, getD, take, drop, length-append, length-take, length-drop, length-set, take-append-drop, drop-of-length-le}
-use lib.Seq.{take-suc, take-all, take-append-le, take-append-add, take-take, length-take-le, set-split, take-at, drop-at, drop-cons, drop-drop, getD-set-same, drop-set-lt}
+use lib.Seq.{take-suc, take-all, take-append-le, take-take, length-take-le, set-split, take-at, drop-at, drop-cons, drop-drop, getD-set-same, drop-set-lt}
 use borrow.Author.Tests.{ltb-true, ltb-false, lt-ltb, le-ltb}
 use Rattle.lists.specs.Lists.{keep}
 use Rattle.lists.proofs.Cases.{cases}

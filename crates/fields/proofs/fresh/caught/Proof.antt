@@ -11,8 +11,11 @@ use Rattle.fields.proofs.fresh.caught.Tie as tie
 returns : tie.Need-returns
 unfolding offset size
 returns c =
-    let d = c .before .before .before .before .before .before .args .d .now in
-    part-wrote d caughtPart 38912 128 _ (omega arith) (omega arith) refl refl ∙ ap (wrote d caughtPart) (c .before .before .store16 .ensures ∙ all-marked 16 (c .before .before .before .fresh-caught .result) (c .before .before .before .fresh-caught .ensures))
+    let at-store16 = c .before .before in
+    let at-fresh-caught = at-store16 .before in
+    let start = at-fresh-caught .before .before .before in
+    let d = start .args .d .now in
+    part-wrote d caughtPart 38912 128 _ (omega arith) (omega arith) refl refl ∙ ap (wrote d caughtPart) (at-store16 .store16 .ensures ∙ all-marked 16 (at-fresh-caught .fresh-caught .result) (at-fresh-caught .fresh-caught .ensures))
 
 pub caught-spec : {M : Type 1} → statement M
 caught-spec = tie.close (tie.spec

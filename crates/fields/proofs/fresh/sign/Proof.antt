@@ -10,8 +10,11 @@ use Rattle.fields.proofs.fresh.sign.Tie as tie
 returns : tie.Need-returns
 unfolding offset size
 returns c =
-    let d = c .before .before .before .before .before .before .args .d .now in
-    part-wrote d signaturePart 40952 8 _ (omega arith) (omega arith) refl refl ∙ ap (wrote d signaturePart) (c .before .before .copy8 .ensures ∙ c .before .before .before .signature .ensures)
+    let at-copy8 = c .before .before in
+    let at-signature = at-copy8 .before in
+    let start = at-signature .before .before .before in
+    let d = start .args .d .now in
+    part-wrote d signaturePart 40952 8 _ (omega arith) (omega arith) refl refl ∙ ap (wrote d signaturePart) (at-copy8 .copy8 .ensures ∙ at-signature .signature .ensures)
 
 pub sign-spec : {M : Type 1} → statement M
 sign-spec = tie.close (tie.spec

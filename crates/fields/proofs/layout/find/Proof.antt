@@ -19,10 +19,16 @@ loop-holds : tie.Need-loop-holds Inv-loop μ-loop
 loop-holds c = (search needs, sought-start _ _)
 
 returns : tie.Need-returns Inv-loop μ-loop
-returns c = let l = c .before .before .before .loop in sought-found (c .before .before .before .before .args .r) (l .i) (c .before .before .before .before .args .t .now) (omega arith) (c .if1 .taken) (l .inv .1)
+returns c =
+    let at-loop = c .before .before .before in
+    let start = at-loop .before in
+    let l = at-loop .loop in sought-found (start .args .r) (l .i) (start .args .t .now) (omega arith) (c .if1 .taken) (l .inv .1)
 
 loop-again : tie.Need-loop-again Inv-loop μ-loop
-loop-again c = let l = c .before .before .before .loop in (omega arith, sought-more (c .before .before .before .before .args .r) (l .i) (c .before .before .before .before .args .t .now) (omega arith) (c .if1 .left) (l .inv .1))
+loop-again c =
+    let at-loop = c .before .before .before in
+    let start = at-loop .before in
+    let l = at-loop .loop in (omega arith, sought-more (start .args .r) (l .i) (start .args .t .now) (omega arith) (c .if1 .left) (l .inv .1))
 
 returns-2 : tie.Need-returns-2 Inv-loop μ-loop
 returns-2 c = let l = c .before .loop in sought-end (c .before .before .args .r) (l .i) (c .before .before .args .t .now) (omega arith) (l .inv .1)

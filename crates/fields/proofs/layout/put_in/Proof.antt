@@ -7,10 +7,18 @@ use Rattle.fields.proofs.layout.put_in.Statement.{statement}
 use Rattle.fields.proofs.layout.put_in.Tie as tie
 
 returns : tie.Need-returns
-returns c = c .before .before .open-gap .ensures ∙ put-in (c .before .before .before .before .before .before .before .before .args .p) (c .before .before .before .before .before .before .before .before .args .c) (c .before .before .before .before .before .find .result) (c .before .before .before .before .before .before .before .before .args .t .now) (omega arith) (c .before .before .before .before .before .find .ensures) (c .before .before .before .before .if1 .taken)
+returns c =
+    let at-open-gap = c .before .before in
+    let at-if1 = at-open-gap .before .before in
+    let at-find = at-if1 .before in
+    let start = at-find .before .before .before in
+    at-open-gap .open-gap .ensures ∙ put-in (start .args .p) (start .args .c) (at-find .find .result) (start .args .t .now) (omega arith) (at-find .find .ensures) (at-if1 .if1 .taken)
 
 returns-2 : tie.Need-returns-2
-returns-2 c = none-in (c .before .before .before .before .args .p) (c .before .before .before .before .args .c) (c .before .find .result) (c .before .before .before .before .args .t .now) (omega arith) (c .before .find .ensures) (c .if1 .left)
+returns-2 c =
+    let at-find = c .before in
+    let start = at-find .before .before .before in
+    none-in (start .args .p) (start .args .c) (at-find .find .result) (start .args .t .now) (omega arith) (at-find .find .ensures) (c .if1 .left)
 
 pub put-in-spec : {M : Type 1} → statement M
 put-in-spec = tie.close (tie.spec

@@ -7,10 +7,18 @@ use Rattle.fields.proofs.layout.take_out.Statement.{statement}
 use Rattle.fields.proofs.layout.take_out.Tie as tie
 
 returns : tie.Need-returns
-returns c = c .before .before .close-gap .ensures ∙ taken-out (c .before .before .before .before .before .before .before .before .args .b) (c .before .before .before .before .before .find .result) (c .before .before .before .before .before .before .before .before .args .t .now) (omega arith) (c .before .before .before .before .before .find .ensures) (c .before .before .before .before .if1 .taken)
+returns c =
+    let at-close-gap = c .before .before in
+    let at-if1 = at-close-gap .before .before in
+    let at-find = at-if1 .before in
+    let start = at-find .before .before .before in
+    at-close-gap .close-gap .ensures ∙ taken-out (start .args .b) (at-find .find .result) (start .args .t .now) (omega arith) (at-find .find .ensures) (at-if1 .if1 .taken)
 
 returns-2 : tie.Need-returns-2
-returns-2 c = none-out (c .before .before .before .before .args .b) (c .before .find .result) (c .before .before .before .before .args .t .now) (omega arith) (c .before .find .ensures) (c .if1 .left)
+returns-2 c =
+    let at-find = c .before in
+    let start = at-find .before .before .before in
+    none-out (start .args .b) (at-find .find .result) (start .args .t .now) (omega arith) (at-find .find .ensures) (c .if1 .left)
 
 pub take-out-spec : {M : Type 1} → statement M
 take-out-spec = tie.close (tie.spec

@@ -11,9 +11,12 @@ use Rattle.fields.proofs.read.caught.Tie as tie
 
 returns : tie.Need-returns
 returns c =
-    let s = c .before .before .before .before .before .args in
-    c .mark .ensures ∙ ap (λ x. bit (getD (s .d .now) (38912 + (8 * x + c .before .before .wide2 .result / 8)) 0) (c .before .before .wide2 .result % 8)) (c .before .before .before .wide .ensures .0)
-    ∙ ap (λ y. bit (getD (s .d .now) (38912 + (8 * s .c .0 + y / 8)) 0) (y % 8)) (c .before .before .wide2 .ensures .0)
+    let at-wide2 = c .before .before in
+    let at-wide = at-wide2 .before in
+    let start = at-wide .before .before in
+    let s = start .args in
+    c .mark .ensures ∙ ap (λ x. bit (getD (s .d .now) (38912 + (8 * x + at-wide2 .wide2 .result / 8)) 0) (at-wide2 .wide2 .result % 8)) (at-wide .wide .ensures .0)
+    ∙ ap (λ y. bit (getD (s .d .now) (38912 + (8 * s .c .0 + y / 8)) 0) (y % 8)) (at-wide2 .wide2 .ensures .0)
     ∙ caught-at (s .d .now) (s .c .0) (s .r .0) (omega arith) (omega arith)
 
 pub caught-spec : {M : Type 1} → statement M

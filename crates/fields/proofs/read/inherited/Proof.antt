@@ -10,17 +10,28 @@ use Rattle.fields.proofs.read.inherited.Statement.{statement}
 use Rattle.fields.proofs.read.inherited.Tie as tie
 
 returns : tie.Need-returns
-returns c = main-unmarked (c .before .before .before .args .d .now) (c .before .before .before .args .r .0) (c .before .before .before .args .u) (sym (c .before .wide .ensures .0) ∙ c .if1 .taken)
+returns c =
+    let at-wide = c .before in
+    let start = at-wide .before .before in
+    main-unmarked (start .args .d .now) (start .args .r .0) (start .args .u) (sym (at-wide .wide .ensures .0) ∙ c .if1 .taken)
 
 returns-2 : tie.Need-returns-2
 returns-2 c =
-    let s = c .before .before .before .before .before .before .before .args in
-    let w = c .before .before .before .before .before .wide in
+    let at-if2 = c .before .before in
+    let at-used = at-if2 .before in
+    let at-if1 = at-used .before in
+    let at-wide = at-if1 .before in
+    let start = at-wide .before .before in
+    let s = start .args in
+    let w = at-wide .wide in
     c .mark .ensures ∙ ap (λ x. bit (getD (s .d .now) (512 * (x - 1) + s .u / 8) 0) (s .u % 8)) (w .ensures .0)
-    ∙ marked-at (s .d .now) (s .r .0) (s .u) (omega arith) (λ e. c .before .before .before .before .if1 .left (w .ensures .0 ∙ e)) (omega arith) (sym (c .before .before .before .used .ensures) ∙ c .before .before .if2 .taken)
+    ∙ marked-at (s .d .now) (s .r .0) (s .u) (omega arith) (λ e. at-if1 .if1 .left (w .ensures .0 ∙ e)) (omega arith) (sym (at-used .used .ensures) ∙ at-if2 .if2 .taken)
 
 returns-3 : tie.Need-returns-3
-returns-3 c = unused-unmarked (c .before .before .before .before .before .args .d .now) (c .before .before .before .before .before .args .r .0) (c .before .before .before .before .before .args .u) (sym (c .before .used .ensures) ∙ c .if2 .left)
+returns-3 c =
+    let at-used = c .before in
+    let start = at-used .before .before .before .before in
+    unused-unmarked (start .args .d .now) (start .args .r .0) (start .args .u) (sym (at-used .used .ensures) ∙ c .if2 .left)
 
 pub inherited-spec : {M : Type 1} → statement M
 inherited-spec = tie.close (tie.spec

@@ -12,8 +12,10 @@ use Rattle.fields.proofs.read.last.Tie as tie
 returns : tie.Need-returns
 unfolding cells offset size
 returns c =
-    let d = c .before .before .before .before .args .d .now in
-    (c .word-at .ensures .0 ∙ ap (λ r. word (midOf 39168 128 d) r) (c .before .wide .ensures .0) ∙ ap (λ t. word t (c .before .before .before .before .args .r .0)) (part-read d lastPart 39168 128 refl refl), c .word-at .ensures .1)
+    let at-wide = c .before in
+    let start = at-wide .before .before .before in
+    let d = start .args .d .now in
+    (c .word-at .ensures .0 ∙ ap (λ r. word (midOf 39168 128 d) r) (at-wide .wide .ensures .0) ∙ ap (λ t. word t (start .args .r .0)) (part-read d lastPart 39168 128 refl refl), c .word-at .ensures .1)
 
 pub last-spec : {M : Type 1} → statement M
 last-spec = tie.close (tie.spec

@@ -22,11 +22,13 @@ add-result c = let h = c .half-at .ensures .1 in let l = c .before .before .byte
 returns : tie.Need-returns
 unfolding cells offset size
 returns c =
-    let d = c .before .before .before .before .before .args .d .now in
-    let u = c .before .before .before .before .before .args .u in
-    let low = c .before .before .byte-at .ensures .0 ∙ ap (λ t. byte t u) (part-read d lowPart 32256 4096 refl refl) in
+    let at-byte-at = c .before .before in
+    let start = at-byte-at .before .before .before in
+    let d = start .args .d .now in
+    let u = start .args .u in
+    let low = at-byte-at .byte-at .ensures .0 ∙ ap (λ t. byte t u) (part-read d lowPart 32256 4096 refl refl) in
     let high = c .half-at .ensures .0 ∙ ap (λ t. half t u) (part-read d highPart 36352 2048 refl refl) in
-    let l = c .before .before .byte-at .ensures .1 in
+    let l = at-byte-at .byte-at .ensures .1 in
     let h = c .half-at .ensures .1 in
     (rw (low, high), omega arith)
 

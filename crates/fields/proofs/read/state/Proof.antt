@@ -12,8 +12,10 @@ use Rattle.fields.proofs.read.state.Tie as tie
 returns : tie.Need-returns
 unfolding cells offset size
 returns c =
-    let d = c .before .before .before .before .args .d .now in
-    (c .byte-at .ensures .0 ∙ ap (λ r. byte (midOf 39040 64 d) r) (c .before .wide .ensures .0) ∙ ap (λ t. byte t (c .before .before .before .before .args .r .0)) (part-read d statePart 39040 64 refl refl), c .byte-at .ensures .1)
+    let at-wide = c .before in
+    let start = at-wide .before .before .before in
+    let d = start .args .d .now in
+    (c .byte-at .ensures .0 ∙ ap (λ r. byte (midOf 39040 64 d) r) (at-wide .wide .ensures .0) ∙ ap (λ t. byte t (start .args .r .0)) (part-read d statePart 39040 64 refl refl), c .byte-at .ensures .1)
 
 pub state-spec : {M : Type 1} → statement M
 state-spec = tie.close (tie.spec

@@ -13,8 +13,10 @@ use Rattle.fields.proofs.read.used.Tie as tie
 returns : tie.Need-returns
 unfolding cells offset size
 returns c =
-    let d = c .before .before .before .before .args .d .now in
-    ap (λ v. eqb v 1) (c .byte-at .ensures .0 ∙ ap (λ r. byte (midOf 39104 64 d) r) (c .before .wide .ensures .0) ∙ ap (λ t. byte t (c .before .before .before .before .args .r .0)) (part-read d usedPart 39104 64 refl refl))
+    let at-wide = c .before in
+    let start = at-wide .before .before .before in
+    let d = start .args .d .now in
+    ap (λ v. eqb v 1) (c .byte-at .ensures .0 ∙ ap (λ r. byte (midOf 39104 64 d) r) (at-wide .wide .ensures .0) ∙ ap (λ t. byte t (start .args .r .0)) (part-read d usedPart 39104 64 refl refl))
 
 pub used-spec : {M : Type 1} → statement M
 used-spec = tie.close (tie.spec

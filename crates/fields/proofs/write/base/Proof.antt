@@ -11,10 +11,13 @@ use Rattle.fields.proofs.write.base.Tie as tie
 returns : tie.Need-returns
 unfolding offset size
 returns c =
-    let s = c .before .before .before .before .before .before .args in
+    let at-put-word = c .before .before in
+    let at-wide = at-put-word .before in
+    let start = at-wide .before .before .before in
+    let s = start .args in
     let d = s .d .now in
-    part-lent d basePart 39552 128 (λ t. putWord t (c .before .before .before .wide .result) (s .v)) _ (omega arith) (omega arith) refl refl (c .before .before .put-word .ensures)
-    ∙ ap (λ r. wrote d basePart (putWord (split d basePart) r (s .v))) (c .before .before .before .wide .ensures .0)
+    part-lent d basePart 39552 128 (λ t. putWord t (at-wide .wide .result) (s .v)) _ (omega arith) (omega arith) refl refl (at-put-word .put-word .ensures)
+    ∙ ap (λ r. wrote d basePart (putWord (split d basePart) r (s .v))) (at-wide .wide .ensures .0)
 
 pub base-spec : {M : Type 1} → statement M
 base-spec = tie.close (tie.spec

@@ -12,11 +12,15 @@ use Rattle.fields.proofs.write.caught_only.Tie as tie
 returns : tie.Need-returns
 unfolding offset size
 returns c =
-    let s = c .before .before .before .before .before .before .before .args in
+    let at-set-only = c .before .before in
+    let at-wide2 = at-set-only .before in
+    let at-wide = at-wide2 .before in
+    let start = at-wide .before .before .before in
+    let s = start .args in
     let d = s .d .now in
-    part-lent d caughtPart 38912 128 (λ t. putRow 8 t (c .before .before .before .before .wide .result) (λ z. eqb z (c .before .before .before .wide2 .result))) _ (omega arith) (omega arith) refl refl (c .before .before .set-only .ensures)
-    ∙ ap (λ x. wrote d caughtPart (putRow 8 (split d caughtPart) x (λ z. eqb z (c .before .before .before .wide2 .result)))) (c .before .before .before .before .wide .ensures .0)
-    ∙ ap (λ y. wrote d caughtPart (putRow 8 (split d caughtPart) (s .c .0) (λ z. eqb z y))) (c .before .before .before .wide2 .ensures .0)
+    part-lent d caughtPart 38912 128 (λ t. putRow 8 t (at-wide .wide .result) (λ z. eqb z (at-wide2 .wide2 .result))) _ (omega arith) (omega arith) refl refl (at-set-only .set-only .ensures)
+    ∙ ap (λ x. wrote d caughtPart (putRow 8 (split d caughtPart) x (λ z. eqb z (at-wide2 .wide2 .result)))) (at-wide .wide .ensures .0)
+    ∙ ap (λ y. wrote d caughtPart (putRow 8 (split d caughtPart) (s .c .0) (λ z. eqb z y))) (at-wide2 .wide2 .ensures .0)
 
 pub caught-only-spec : {M : Type 1} → statement M
 caught-only-spec = tie.close (tie.spec

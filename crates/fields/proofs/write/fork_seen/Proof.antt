@@ -14,11 +14,15 @@ use Rattle.fields.proofs.write.fork_seen.Tie as tie
 returns : tie.Need-returns
 unfolding cells offset size
 returns c =
-    let s = c .before .before .before .before .before .before .before .args in
+    let at-fork-seen = c .before .before in
+    let at-wide2 = at-fork-seen .before in
+    let at-wide = at-wide2 .before in
+    let start = at-wide .before .before .before in
+    let s = start .args in
     let d = s .d .now in
-    part-lent d seenPart 38400 512 (λ t. pack revisions (forkSeen (markIn 8 revisions t) (c .before .before .before .before .wide .result) (c .before .before .before .wide2 .result))) _ (omega arith) (omega arith) refl refl (c .before .before .fork-seen .ensures)
-    ∙ ap (λ x. wrote d seenPart (pack revisions (forkSeen (markIn 8 revisions (split d seenPart)) x (c .before .before .before .wide2 .result)))) (c .before .before .before .before .wide .ensures .0)
-    ∙ ap (λ y. wrote d seenPart (pack revisions (forkSeen (markIn 8 revisions (split d seenPart)) (s .p .0) y))) (c .before .before .before .wide2 .ensures .0)
+    part-lent d seenPart 38400 512 (λ t. pack revisions (forkSeen (markIn 8 revisions t) (at-wide .wide .result) (at-wide2 .wide2 .result))) _ (omega arith) (omega arith) refl refl (at-fork-seen .fork-seen .ensures)
+    ∙ ap (λ x. wrote d seenPart (pack revisions (forkSeen (markIn 8 revisions (split d seenPart)) x (at-wide2 .wide2 .result)))) (at-wide .wide .ensures .0)
+    ∙ ap (λ y. wrote d seenPart (pack revisions (forkSeen (markIn 8 revisions (split d seenPart)) (s .p .0) y))) (at-wide2 .wide2 .ensures .0)
 
 pub fork-seen-spec : {M : Type 1} → statement M
 fork-seen-spec = tie.close (tie.spec

@@ -14,11 +14,15 @@ use Rattle.fields.proofs.write.join_caught.Tie as tie
 returns : tie.Need-returns
 unfolding cells offset size
 returns c =
-    let s = c .before .before .before .before .before .before .before .args in
+    let at-join-caught = c .before .before in
+    let at-wide2 = at-join-caught .before in
+    let at-wide = at-wide2 .before in
+    let start = at-wide .before .before .before in
+    let s = start .args in
     let d = s .d .now in
-    part-lent d caughtPart 38912 128 (λ t. pack clients (joinCaught (markIn 8 clients t) (c .before .before .before .before .wide .result) (c .before .before .before .wide2 .result))) _ (omega arith) (omega arith) refl refl (c .before .before .join-caught .ensures)
-    ∙ ap (λ x. wrote d caughtPart (pack clients (joinCaught (markIn 8 clients (split d caughtPart)) x (c .before .before .before .wide2 .result)))) (c .before .before .before .before .wide .ensures .0)
-    ∙ ap (λ y. wrote d caughtPart (pack clients (joinCaught (markIn 8 clients (split d caughtPart)) (s .a .0) y))) (c .before .before .before .wide2 .ensures .0)
+    part-lent d caughtPart 38912 128 (λ t. pack clients (joinCaught (markIn 8 clients t) (at-wide .wide .result) (at-wide2 .wide2 .result))) _ (omega arith) (omega arith) refl refl (at-join-caught .join-caught .ensures)
+    ∙ ap (λ x. wrote d caughtPart (pack clients (joinCaught (markIn 8 clients (split d caughtPart)) x (at-wide2 .wide2 .result)))) (at-wide .wide .ensures .0)
+    ∙ ap (λ y. wrote d caughtPart (pack clients (joinCaught (markIn 8 clients (split d caughtPart)) (s .a .0) y))) (at-wide2 .wide2 .ensures .0)
 
 pub join-caught-spec : {M : Type 1} → statement M
 join-caught-spec = tie.close (tie.spec

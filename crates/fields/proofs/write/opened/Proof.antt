@@ -11,10 +11,13 @@ use Rattle.fields.proofs.write.opened.Tie as tie
 returns : tie.Need-returns
 unfolding offset size
 returns c =
-    let s = c .before .before .before .before .before .before .args in
+    let at-put-byte = c .before .before in
+    let at-wide = at-put-byte .before in
+    let start = at-wide .before .before .before in
+    let s = start .args in
     let d = s .d .now in
-    part-lent d openedPart 39808 16 (λ t. set t (c .before .before .before .wide .result) (s .v)) _ (omega arith) (omega arith) refl refl (c .before .before .put-byte .ensures)
-    ∙ ap (λ r. wrote d openedPart (set (split d openedPart) r (s .v))) (c .before .before .before .wide .ensures .0)
+    part-lent d openedPart 39808 16 (λ t. set t (at-wide .wide .result) (s .v)) _ (omega arith) (omega arith) refl refl (at-put-byte .put-byte .ensures)
+    ∙ ap (λ r. wrote d openedPart (set (split d openedPart) r (s .v))) (at-wide .wide .ensures .0)
 
 pub opened-spec : {M : Type 1} → statement M
 opened-spec = tie.close (tie.spec

@@ -15,11 +15,14 @@ use Rattle.fields.proofs.write.row.Tie as tie
 returns : tie.Need-returns
 unfolding offset size
 returns c =
-    let s = c .before .before .before .before .before .before .args in
+    let at-put = c .before .before in
+    let at-wide = at-put .before .before in
+    let start = at-wide .before .before in
+    let s = start .args in
     let d = s .d .now in
     let f : ℕ → Bool = λ u. getD (s .row) u false in
-    part-lent d rowsPart 0 32256 (λ t. putRow 512 t (c .before .before .before .before .wide .result - 1) f) _ (omega arith) (omega arith) refl refl (c .before .before .put .ensures)
-    ∙ ap (wrote d rowsPart) (row-of (split d rowsPart) (s .c .0) (c .before .before .before .before .wide .result) f (omega arith) (c .before .before .before .before .wide .ensures .0))
+    part-lent d rowsPart 0 32256 (λ t. putRow 512 t (at-wide .wide .result - 1) f) _ (omega arith) (omega arith) refl refl (at-put .put .ensures)
+    ∙ ap (wrote d rowsPart) (row-of (split d rowsPart) (s .c .0) (at-wide .wide .result) f (omega arith) (at-wide .wide .ensures .0))
 
 pub row-spec : {M : Type 1} → statement M
 row-spec = tie.close (tie.spec

@@ -8,7 +8,11 @@ use Rattle.marks.proofs.packed.fork_caught.Tie as tie
 
 returns : tie.Need-returns
 returns c =
-    c .before .before .store16 .ensures ∙ fork-caught-stored (c .before .before .before .before .before .before .before .before .args .t .now) (c .before .before .before .before .before .load16 .result) (c .before .before .before .before .fork-caught .result) (c .before .before .before .before .before .before .before .before .args .p) (c .before .before .before .before .before .before .before .before .args .c) (omega arith) (omega arith) (c .before .before .before .before .before .load16 .ensures) (c .before .before .before .before .fork-caught .ensures)
+    let at-store16 = c .before .before in
+    let at-fork-caught = at-store16 .before .before in
+    let at-load16 = at-fork-caught .before in
+    let start = at-load16 .before .before .before in
+    at-store16 .store16 .ensures ∙ fork-caught-stored (start .args .t .now) (at-load16 .load16 .result) (at-fork-caught .fork-caught .result) (start .args .p) (start .args .c) (omega arith) (omega arith) (at-load16 .load16 .ensures) (at-fork-caught .fork-caught .ensures)
 
 pub fork-caught-spec : {M : Type 1} → statement M
 fork-caught-spec = tie.close (tie.spec

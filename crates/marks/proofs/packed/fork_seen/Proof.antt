@@ -8,7 +8,11 @@ use Rattle.marks.proofs.packed.fork_seen.Tie as tie
 
 returns : tie.Need-returns
 returns c =
-    c .before .before .store64 .ensures ∙ fork-seen-stored (c .before .before .before .before .before .before .before .before .args .t .now) (c .before .before .before .before .before .load64 .result) (c .before .before .before .before .fork-seen .result) (c .before .before .before .before .before .before .before .before .args .p) (c .before .before .before .before .before .before .before .before .args .c) (omega arith) (omega arith) (c .before .before .before .before .before .load64 .ensures) (c .before .before .before .before .fork-seen .ensures)
+    let at-store64 = c .before .before in
+    let at-fork-seen = at-store64 .before .before in
+    let at-load64 = at-fork-seen .before in
+    let start = at-load64 .before .before .before in
+    at-store64 .store64 .ensures ∙ fork-seen-stored (start .args .t .now) (at-load64 .load64 .result) (at-fork-seen .fork-seen .result) (start .args .p) (start .args .c) (omega arith) (omega arith) (at-load64 .load64 .ensures) (at-fork-seen .fork-seen .ensures)
 
 pub fork-seen-spec : {M : Type 1} → statement M
 fork-seen-spec = tie.close (tie.spec

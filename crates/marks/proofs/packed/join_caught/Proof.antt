@@ -8,7 +8,11 @@ use Rattle.marks.proofs.packed.join_caught.Tie as tie
 
 returns : tie.Need-returns
 returns c =
-    c .before .before .store16 .ensures ∙ join-caught-stored (c .before .before .before .before .before .before .before .before .args .t .now) (c .before .before .before .before .before .load16 .result) (c .before .before .before .before .join-caught .result) (c .before .before .before .before .before .before .before .before .args .a) (c .before .before .before .before .before .before .before .before .args .b) (omega arith) (omega arith) (c .before .before .before .before .before .load16 .ensures) (c .before .before .before .before .join-caught .ensures)
+    let at-store16 = c .before .before in
+    let at-join-caught = at-store16 .before .before in
+    let at-load16 = at-join-caught .before in
+    let start = at-load16 .before .before .before in
+    at-store16 .store16 .ensures ∙ join-caught-stored (start .args .t .now) (at-load16 .load16 .result) (at-join-caught .join-caught .result) (start .args .a) (start .args .b) (omega arith) (omega arith) (at-load16 .load16 .ensures) (at-join-caught .join-caught .ensures)
 
 pub join-caught-spec : {M : Type 1} → statement M
 join-caught-spec = tie.close (tie.spec

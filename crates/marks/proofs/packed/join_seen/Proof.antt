@@ -8,7 +8,11 @@ use Rattle.marks.proofs.packed.join_seen.Tie as tie
 
 returns : tie.Need-returns
 returns c =
-    c .before .before .store64 .ensures ∙ join-seen-stored (c .before .before .before .before .before .before .before .before .args .t .now) (c .before .before .before .before .before .load64 .result) (c .before .before .before .before .join-seen .result) (c .before .before .before .before .before .before .before .before .args .a) (c .before .before .before .before .before .before .before .before .args .b) (omega arith) (omega arith) (c .before .before .before .before .before .load64 .ensures) (c .before .before .before .before .join-seen .ensures)
+    let at-store64 = c .before .before in
+    let at-join-seen = at-store64 .before .before in
+    let at-load64 = at-join-seen .before in
+    let start = at-load64 .before .before .before in
+    at-store64 .store64 .ensures ∙ join-seen-stored (start .args .t .now) (at-load64 .load64 .result) (at-join-seen .join-seen .result) (start .args .a) (start .args .b) (omega arith) (omega arith) (at-load64 .load64 .ensures) (at-join-seen .join-seen .ensures)
 
 pub join-seen-spec : {M : Type 1} → statement M
 join-seen-spec = tie.close (tie.spec

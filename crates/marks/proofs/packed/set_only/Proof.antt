@@ -11,9 +11,12 @@ use Rattle.marks.proofs.packed.set_only.Tie as tie
 
 returns : tie.Need-returns
 returns c =
-    let s = c .before .before .before .before .before .before .args in
-    let only = c .before .before .before .before .only in
-    c .before .before .store-row .ensures
+    let at-store-row = c .before .before in
+    let at-only = at-store-row .before .before in
+    let start = at-only .before .before in
+    let s = start .args in
+    let only = at-only .only in
+    at-store-row .store-row .ensures
     ∙ putRow-same 8 (s .t .now) (s .c) (λ y. getD (only .result) y false) (λ y. eqb y (s .r)) (λ y h. ap (λ row. getD row y false) (only .ensures) ∙ getD-tab (λ z. eqb z (s .r)) 64 y false h)
 
 pub set-only-spec : {M : Type 1} → statement M

@@ -12,16 +12,23 @@ use Rattle.order.proofs.links.own_list.Tie as tie
 
 gather-requires : tie.Need-gather-requires
 gather-requires c κs =
-    let s = c .before .before .before .before .before .args in
-    let r = ranges (s .d .now) (c .before .before .before .before .before .pre .1) in
-    (search needs, rw (c .before .last .ensures .0) (r .last (s .r .0) (omega arith)), (let n = r .count (s .r .0) (omega arith) in let e = c .before .before .count .ensures .0 in omega arith))
+    let at-last = c .before in
+    let at-count = at-last .before in
+    let start = at-count .before .before .before in
+    let s = start .args in
+    let r = ranges (s .d .now) (start .pre .1) in
+    (search needs, rw (at-last .last .ensures .0) (r .last (s .r .0) (omega arith)), (let n = r .count (s .r .0) (omega arith) in let e = at-count .count .ensures .0 in omega arith))
 
 returns : tie.Need-returns
 returns c =
-    let s = c .before .before .before .before .before .before .before .before .args in
+    let at-gather = c .before .before in
+    let at-last = at-gather .before .before in
+    let at-count = at-last .before in
+    let start = at-count .before .before .before in
+    let s = start .args in
     let k = cells (s .d .now) in
-    let r = ranges (s .d .now) (c .before .before .before .before .before .before .before .before .pre .1) in
-    (c .before .before .before .before .before .count .ensures .0, rw (c .before .before .before .before .before .count .ensures .0) (r .count (s .r .0) (omega arith)), c .before .before .gather .ensures ∙ ap (λ at. chain (k .link) at (c .before .before .before .before .before .count .result) ++ drop (c .before .before .before .before .before .count .result) (s .out .now)) (c .before .before .before .before .last .ensures .0) ∙ ap (λ n. chain (k .link) (k .last (s .r .0)) n ++ drop (c .before .before .before .before .before .count .result) (s .out .now)) (c .before .before .before .before .before .count .ensures .0))
+    let r = ranges (s .d .now) (start .pre .1) in
+    (at-count .count .ensures .0, rw (at-count .count .ensures .0) (r .count (s .r .0) (omega arith)), at-gather .gather .ensures ∙ ap (λ at. chain (k .link) at (at-count .count .result) ++ drop (at-count .count .result) (s .out .now)) (at-last .last .ensures .0) ∙ ap (λ n. chain (k .link) (k .last (s .r .0)) n ++ drop (at-count .count .result) (s .out .now)) (at-count .count .ensures .0))
 
 pub own-list-spec : {M : Type 1} → statement M
 own-list-spec = tie.close (tie.spec

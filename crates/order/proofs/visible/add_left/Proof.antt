@@ -26,43 +26,56 @@ abbrev μ-loop : tie.MeasureT-loop
 
 loop-holds : tie.Need-loop-holds Inv-loop μ-loop
 loop-holds c =
-    let s = c .before .before .before .args in
+    let start = c .before .before .before in
+    let s = start .args in
     let k = cells (s .d .now) in
     let o = c .out .ensures .0 in
-    let n = outs-length (s .d .now) (c .before .before .before .pre .0) (ranges (s .d .now) (c .before .before .before .pre .1) .most-out) in
-    (omega arith, inl o, search needs, c .before .before .before .pre .4, added-as (no-block (inherited k (s .r .0)) (outs k) (c .out .result) (omega arith)) (added-none (s .out .now) (c .before .before .before .pre .4) 0 (omega arith)))
+    let n = outs-length (s .d .now) (start .pre .0) (ranges (s .d .now) (start .pre .1) .most-out) in
+    (omega arith, inl o, search needs, start .pre .4, added-as (no-block (inherited k (s .r .0)) (outs k) (c .out .result) (omega arith)) (added-none (s .out .now) (start .pre .4) 0 (omega arith)))
 
 at-place-requires : tie.Need-at-place-requires Inv-loop μ-loop
-at-place-requires c κs = let r = ranges (c .before .before .before .before .before .args .d .now) (c .before .before .before .before .before .pre .1) .most-out in (c .before .before .before .before .before .pre .0, omega arith)
+at-place-requires c κs =
+    let start = c .before .before .before .before .before in
+    let r = ranges (start .args .d .now) (start .pre .1) .most-out in (start .pre .0, omega arith)
 
 add-some-requires : tie.Need-add-some-requires Inv-loop μ-loop
 add-some-requires c κs =
-    let s = c .before .before .before .before .before .before .before .before .args in
-    let l = c .before .before .before .before .loop in
-    let r = ranges (s .d .now) (c .before .before .before .before .before .before .before .before .pre .1) in
+    let at-at-place = c .before .before in
+    let at-loop = at-at-place .before .before in
+    let start = at-loop .before .before .before .before in
+    let s = start .args in
+    let l = at-loop .loop in
+    let r = ranges (s .d .now) (start .pre .1) in
     let o = r .most-out in
-    (c .before .before .before .before .before .before .before .before .pre .0, c .before .before .before .before .before .before .before .before .pre .1, c .before .before .before .before .before .before .before .before .pre .2, rw (c .before .before .at-place .ensures) (r .layout (l .i - 1) (omega arith)), l .inv .3, l .inv .2)
+    (start .pre .0, start .pre .1, start .pre .2, rw (at-at-place .at-place .ensures) (r .layout (l .i - 1) (omega arith)), l .inv .3, l .inv .2)
 
 loop-again : tie.Need-loop-again Inv-loop μ-loop
 loop-again c =
-    let s = c .before .before .before .before .before .before .before .before .before .before .before .args in
+    let at-add-some = c .before .before in
+    let at-base-in = at-add-some .before .before in
+    let at-at-place = at-base-in .before in
+    let at-loop = at-at-place .before .before in
+    let start = at-loop .before .before .before .before in
+    let s = start .args in
     let k = cells (s .d .now) in
-    let l = c .before .before .before .before .before .before .before .loop in
-    let o = ranges (s .d .now) (c .before .before .before .before .before .before .before .before .before .before .before .pre .1) .most-out in
-    let n = outs-length (s .d .now) (c .before .before .before .before .before .before .before .before .before .before .before .pre .0) o in
-    let e : picks (c .before .before .before .before .base-in .result) (marked k (s .r .0)) (own k (c .before .before .before .before .before .at-place .result .0)) ≡ inherited k (s .r .0) (c .before .before .before .before .before .at-place .result .0) = ap (λ b. picks b (marked k (s .r .0)) (own k (c .before .before .before .before .before .at-place .result .0))) (c .before .before .before .before .base-in .ensures) in
-    let a = added-as e (c .before .before .add-some .ensures) in
+    let l = at-loop .loop in
+    let o = ranges (s .d .now) (start .pre .1) .most-out in
+    let n = outs-length (s .d .now) (start .pre .0) o in
+    let e : picks (at-base-in .base-in .result) (marked k (s .r .0)) (own k (at-at-place .at-place .result .0)) ≡ inherited k (s .r .0) (at-at-place .at-place .result .0) = ap (λ b. picks b (marked k (s .r .0)) (own k (at-at-place .at-place .result .0))) (at-base-in .base-in .ensures) in
+    let a = added-as e (at-add-some .add-some .ensures) in
     let w = added-bounds (l .out) (l .inv .3) (l .m) _ _ _ (l .inv .2) a in
-    let x = c .before .before .before .before .before .at-place .ensures ∙ sym (outs-at k (l .i - 1) (omega arith)) in
-    (omega arith, inr (omega arith), w .1, w .2, added-as (block-more (inherited k (s .r .0)) (outs k) (l .i) (c .before .before .before .before .before .at-place .result .0) (omega arith) (omega arith) x) (added-then (s .out .now) (c .before .before .before .before .before .before .before .before .before .before .before .pre .4) 0 _ (l .out) (l .m) _ _ _ (omega arith) (l .inv .4) a))
+    let x = at-at-place .at-place .ensures ∙ sym (outs-at k (l .i - 1) (omega arith)) in
+    (omega arith, inr (omega arith), w .1, w .2, added-as (block-more (inherited k (s .r .0)) (outs k) (l .i) (at-at-place .at-place .result .0) (omega arith) (omega arith) x) (added-then (s .out .now) (start .pre .4) 0 _ (l .out) (l .m) _ _ _ (omega arith) (l .inv .4) a))
 
 returns : tie.Need-returns Inv-loop μ-loop
 returns c =
-    let s = c .before .before .before .before .before .args in
+    let at-loop = c .before in
+    let start = at-loop .before .before .before .before in
+    let s = start .args in
     let k = cells (s .d .now) in
-    let l = c .before .loop in
-    let o = ranges (s .d .now) (c .before .before .before .before .before .pre .1) .most-out in
-    let n = outs-length (s .d .now) (c .before .before .before .before .before .pre .0) o in
+    let l = at-loop .loop in
+    let o = ranges (s .d .now) (start .pre .1) .most-out in
+    let n = outs-length (s .d .now) (start .pre .0) o in
     let f = inherited k (s .r .0) in
     ⊎-elim
     (λ e. added-as (sym (no-block f (outs k) (l .i) (omega arith)) ∙ no-block f (outs k) (s .j + 1) (omega arith)) (l .inv .4))

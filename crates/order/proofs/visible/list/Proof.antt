@@ -12,19 +12,26 @@ use Rattle.order.proofs.visible.list.Tie as tie
 
 add-some-requires : tie.Need-add-some-requires
 add-some-requires c κs =
-    let s = c .before .before .before .before .before .before .before .before .before .args in
-    let w = added-bounds (s .out .now) (c .before .before .before .before .before .before .before .before .before .pre .3) 0 _ _ _ (omega arith) (c .before .before .before .before .add-left .ensures) in
-    (c .before .before .before .before .before .before .before .before .before .pre .0, c .before .before .before .before .before .before .before .before .before .pre .1, c .before .before .before .before .before .before .before .before .before .pre .2, c .before .before .before .before .before .before .before .before .before .pre .2, w .2, w .1)
+    let at-add-left = c .before .before .before .before in
+    let start = at-add-left .before .before .before .before .before in
+    let s = start .args in
+    let w = added-bounds (s .out .now) (start .pre .3) 0 _ _ _ (omega arith) (at-add-left .add-left .ensures) in
+    (start .pre .0, start .pre .1, start .pre .2, start .pre .2, w .2, w .1)
 
 returns : tie.Need-returns
 unfolding order
 returns c =
-    let s = c .before .before .before .before .before .before .before .before .before .before .before .before .args in
+    let at-add-some = c .before .before in
+    let at-count = at-add-some .before .before in
+    let at-add-left = at-count .before .before .before in
+    let at-place-of = at-add-left .before .before in
+    let start = at-place-of .before .before .before in
+    let s = start .args in
     let k = cells (s .d .now) in
     let f = inherited k (s .r .0) in
-    let left = added-as (ap (flatBack f) (sym (c .before .before .before .before .before .before .before .before .before .place-of .ensures .1))) (c .before .before .before .before .before .before .before .add-left .ensures) in
-    let own-list = added-as (picks-all k (s .r .0) (c .before .before .before .before .count .result) (marked k (s .r .0)) (c .before .before .before .before .count .ensures .0)) (c .before .before .add-some .ensures) in
-    let a = added-then (s .out .now) (c .before .before .before .before .before .before .before .before .before .before .before .before .pre .3) 0 _ _ _ _ _ _ (omega arith) left own-list in
+    let left = added-as (ap (flatBack f) (sym (at-place-of .place-of .ensures .1))) (at-add-left .add-left .ensures) in
+    let own-list = added-as (picks-all k (s .r .0) (at-count .count .result) (marked k (s .r .0)) (at-count .count .ensures .0)) (at-add-some .add-some .ensures) in
+    let a = added-then (s .out .now) (start .pre .3) 0 _ _ _ _ _ _ (omega arith) left own-list in
     (a .many, a .eq)
 
 pub list-spec : {M : Type 1} → statement M

@@ -6,10 +6,17 @@ use Rattle.order.proofs.visible.offer.Statement.{statement}
 use Rattle.order.proofs.visible.offer.Tie as tie
 
 returns : tie.Need-returns
-returns c = rw (sym (c .before .before .before .before .before .wanted .ensures) ∙ c .before .before .before .before .if1 .taken) (c .before .before .push .ensures)
+returns c =
+    let at-push = c .before .before in
+    let at-if1 = at-push .before .before in
+    let at-wanted = at-if1 .before in
+    rw (sym (at-wanted .wanted .ensures) ∙ at-if1 .if1 .taken) (at-push .push .ensures)
 
 returns-2 : tie.Need-returns-2
-returns-2 c = rw (sym (c .before .wanted .ensures) ∙ c .if1 .left) (added-none (c .before .before .before .before .args .out .now) (c .before .before .before .before .pre .2) (c .before .before .before .before .args .n) (c .before .before .before .before .pre .3))
+returns-2 c =
+    let at-wanted = c .before in
+    let start = at-wanted .before .before .before in
+    rw (sym (at-wanted .wanted .ensures) ∙ c .if1 .left) (added-none (start .args .out .now) (start .pre .2) (start .args .n) (start .pre .3))
 
 pub offer-spec : {M : Type 1} → statement M
 offer-spec = tie.close (tie.spec

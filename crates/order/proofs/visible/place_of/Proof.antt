@@ -26,26 +26,34 @@ loop-holds c =
 
 returns : tie.Need-returns Inv-loop μ-loop
 returns c =
-    let s = c .before .before .before .before .before .before .before .before .args in
+    let at-at-place = c .before .before .before in
+    let at-loop = at-at-place .before .before in
+    let start = at-loop .before .before .before in
+    let s = start .args in
     let k = cells (s .d .now) in
-    let l = c .before .before .before .before .before .loop in
-    let n = outs-length (s .d .now) (c .before .before .before .before .before .before .before .before .pre .0) (ranges (s .d .now) (c .before .before .before .before .before .before .before .before .pre .1) .most-out) in
-    (omega arith, sought-found (s .r .0) (outs k) (l .j) (omega arith) (outs-at k (l .j) (omega arith) ∙ sym (c .before .before .before .at-place .ensures) ∙ c .if1 .taken) (l .inv .3))
+    let l = at-loop .loop in
+    let n = outs-length (s .d .now) (start .pre .0) (ranges (s .d .now) (start .pre .1) .most-out) in
+    (omega arith, sought-found (s .r .0) (outs k) (l .j) (omega arith) (outs-at k (l .j) (omega arith) ∙ sym (at-at-place .at-place .ensures) ∙ c .if1 .taken) (l .inv .3))
 
 loop-again : tie.Need-loop-again Inv-loop μ-loop
 loop-again c =
-    let s = c .before .before .before .before .before .before .before .before .args in
+    let at-at-place = c .before .before .before in
+    let at-loop = at-at-place .before .before in
+    let start = at-loop .before .before .before in
+    let s = start .args in
     let k = cells (s .d .now) in
-    let l = c .before .before .before .before .before .loop in
-    let n = outs-length (s .d .now) (c .before .before .before .before .before .before .before .before .pre .0) (ranges (s .d .now) (c .before .before .before .before .before .before .before .before .pre .1) .most-out) in
-    (omega arith, l .inv .1, l .inv .2, sought-more (s .r .0) (outs k) (l .j) (omega arith) (λ e. c .if1 .left (c .before .before .before .at-place .ensures ∙ sym (outs-at k (l .j) (omega arith)) ∙ e)) (l .inv .3))
+    let l = at-loop .loop in
+    let n = outs-length (s .d .now) (start .pre .0) (ranges (s .d .now) (start .pre .1) .most-out) in
+    (omega arith, l .inv .1, l .inv .2, sought-more (s .r .0) (outs k) (l .j) (omega arith) (λ e. c .if1 .left (at-at-place .at-place .ensures ∙ sym (outs-at k (l .j) (omega arith)) ∙ e)) (l .inv .3))
 
 returns-2 : tie.Need-returns-2 Inv-loop μ-loop
 returns-2 c =
-    let s = c .before .before .before .before .args in
+    let at-loop = c .before in
+    let start = at-loop .before .before .before in
+    let s = start .args in
     let k = cells (s .d .now) in
-    let l = c .before .loop in
-    let n = outs-length (s .d .now) (c .before .before .before .before .pre .0) (ranges (s .d .now) (c .before .before .before .before .pre .1) .most-out) in
+    let l = at-loop .loop in
+    let n = outs-length (s .d .now) (start .pre .0) (ranges (s .d .now) (start .pre .1) .most-out) in
     (omega arith, sought-end (s .r .0) (outs k) (l .j) (omega arith) (l .inv .3))
 
 pub place-of-spec : {M : Type 1} → statement M

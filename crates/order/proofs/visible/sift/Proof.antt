@@ -21,21 +21,27 @@ abbrev μ-loop : tie.MeasureT-loop
 
 loop-holds : tie.Need-loop-holds Inv-loop μ-loop
 loop-holds c =
-    let s = c .before .before .before .args in
-    (search needs, search needs, search needs, sift-start (s .out .now) (c .before .before .before .pre .2) (s .n) (c .before .before .before .pre .3) (s .base) (marked (cells (s .d .now)) (s .r .0)) (s .list .now))
+    let start = c .before .before .before in
+    let s = start .args in
+    (search needs, search needs, search needs, sift-start (s .out .now) (start .pre .2) (s .n) (start .pre .3) (s .base) (marked (cells (s .d .now)) (s .r .0)) (s .list .now))
 
 loop-again : tie.Need-loop-again Inv-loop μ-loop
 loop-again c =
-    let s = c .before .before .before .before .before .before .before .before .before .before .args in
-    let l = c .before .before .before .before .before .before .loop in
-    let b = added-bounds (l .out) (l .inv .2) (l .m) _ _ _ (l .inv .1) (c .before .before .offer .ensures) in
-    (omega arith, b .1, b .2, sift-more (s .out .now) (c .before .before .before .before .before .before .before .before .before .before .pre .2) (s .n) (c .before .before .before .before .before .before .before .before .before .before .pre .3) (s .base) (marked (cells (s .d .now)) (s .r .0)) (s .list .now) (l .i) (l .out) (l .m) _ _ (omega arith) (l .inv .3) (c .before .before .offer .ensures))
+    let at-offer = c .before .before in
+    let at-loop = at-offer .before .before .before .before in
+    let start = at-loop .before .before .before .before in
+    let s = start .args in
+    let l = at-loop .loop in
+    let b = added-bounds (l .out) (l .inv .2) (l .m) _ _ _ (l .inv .1) (at-offer .offer .ensures) in
+    (omega arith, b .1, b .2, sift-more (s .out .now) (start .pre .2) (s .n) (start .pre .3) (s .base) (marked (cells (s .d .now)) (s .r .0)) (s .list .now) (l .i) (l .out) (l .m) _ _ (omega arith) (l .inv .3) (at-offer .offer .ensures))
 
 returns : tie.Need-returns Inv-loop μ-loop
 returns c =
-    let s = c .before .before .before .before .before .args in
-    let l = c .before .loop in
-    sift-end (s .out .now) (c .before .before .before .before .before .pre .2) (s .n) (c .before .before .before .before .before .pre .3) (s .base) (marked (cells (s .d .now)) (s .r .0)) (s .list .now) (l .i) (l .out) (l .m) (omega arith) (l .inv .3)
+    let at-loop = c .before in
+    let start = at-loop .before .before .before .before in
+    let s = start .args in
+    let l = at-loop .loop in
+    sift-end (s .out .now) (start .pre .2) (s .n) (start .pre .3) (s .base) (marked (cells (s .d .now)) (s .r .0)) (s .list .now) (l .i) (l .out) (l .m) (omega arith) (l .inv .3)
 
 pub sift-spec : {M : Type 1} → statement M
 sift-spec = tie.close (tie.spec

@@ -9,7 +9,10 @@ returns : tie.Need-returns
 returns c = rw (lt-ltb _ _ (c .if1 .taken))
 
 returns-2 : tie.Need-returns-2
-returns-2 c = rw (le-ltb _ _ (c .before .if1 .left)) (past-marks (c .before .before .before .args .d .now) (c .before .before .before .args .r .0) (c .before .before .before .args .u) (c .if2 .taken))
+returns-2 c =
+    let at-if1 = c .before in
+    let start = at-if1 .before .before in
+    rw (le-ltb _ _ (at-if1 .if1 .left)) (past-marks (start .args .d .now) (start .args .r .0) (start .args .u) (c .if2 .taken))
 
 returns-3 : tie.Need-returns-3
 returns-3 c = rw (le-ltb _ _ (c .before .before .if1 .left)) (c .inherited .ensures)

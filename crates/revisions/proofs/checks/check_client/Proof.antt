@@ -1,0 +1,18 @@
+-- `revisions::checks::check_client` meets its contract: the test decides. Assumes nothing.
+use borrow.Author.Tests.{le-ltb, lt-ltb}
+use Rattle.revisions.specs.Checks.{clientCheck}
+use Rattle.revisions.proofs.checks.check_client.Statement.{statement}
+use Rattle.revisions.proofs.checks.check_client.Tie as tie
+
+returns : tie.Need-returns
+unfolding clientCheck
+returns c = simp (lt-ltb _ _ (c .if1 .taken))
+
+returns-2 : tie.Need-returns-2
+unfolding clientCheck
+returns-2 c = simp (le-ltb _ _ (c .if1 .left))
+
+pub check-client-spec : {M : Type 1} → statement M
+check-client-spec = tie.close (tie.spec
+    returns
+    returns-2)

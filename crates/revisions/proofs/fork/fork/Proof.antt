@@ -1,0 +1,43 @@
+-- `revisions::fork::fork` meets its contract: the pieces in a row. Assumes nothing.
+use native.Mathlib.Omega.{arith}
+use borrow.Author.Needs.{needs}
+use Rattle.cells.specs.Decode.{cells}
+use Rattle.cells.proofs.Range.{ranges}
+use Rattle.revisions.proofs.Writes.{fork-done}
+use Rattle.revisions.proofs.fork.fork.Statement.{statement}
+use Rattle.revisions.proofs.fork.fork.Tie as tie
+
+start-requires : tie.Need-start-requires
+start-requires c κs =
+    let at-given = c .before .before .before .before .before in
+    let at-out = at-given .before .before in
+    let start = at-out .before .before .before in
+    let s = start .args in
+    let r = ranges (s .d .now) (start .pre .1) in
+    let o = r .most-out in
+    let g = r .most-given in
+    let eo = at-out .out .ensures .0 in
+    let eg = at-given .given .ensures .0 in
+    (search needs, start .pre .2, start .pre .4, omega arith, omega arith)
+
+returns : tie.Need-returns
+unfolding cells
+returns c =
+    let at-start = c .before .before in
+    let at-inherit = at-start .before .before .before .before in
+    let at-given = at-inherit .before .before in
+    let at-out = at-given .before .before in
+    let start = at-out .before .before .before in
+    let s = start .args in
+    fork-done (s .d .now) (start .pre .0) _ _ (s .p .0) (s .c .0) (at-out .out .result) (at-given .given .result) (start .pre .4) (at-out .out .ensures .0) (at-given .given .ensures .0) (at-inherit .inherit .ensures) (at-start .start .ensures)
+
+pub fork-spec : {M : Type 1} → statement M
+fork-spec = tie.close (tie.spec
+    (λ c κs. search needs)
+    (λ c. search needs)
+    (λ c κs. search needs)
+    (λ c. search needs)
+    (λ c κs. search needs)
+    start-requires
+    (λ c. search needs)
+    returns)

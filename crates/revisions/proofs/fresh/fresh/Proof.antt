@@ -1,0 +1,28 @@
+-- `revisions::fresh::fresh` meets its contract: the writes in a row. Assumes nothing.
+use borrow.Author.Needs.{needs}
+use Rattle.revisions.proofs.Writes.{fresh-done}
+use Rattle.revisions.proofs.fresh.fresh.Statement.{statement}
+use Rattle.revisions.proofs.fresh.fresh.Tie as tie
+
+returns : tie.Need-returns
+returns c =
+    let at-sign = c .before .before in
+    let at-given = at-sign .before .before .before .before in
+    let at-out = at-given .before .before .before .before in
+    let at-opened = at-out .before .before .before .before in
+    let at-state = at-opened .before .before .before .before in
+    let at-caught = at-state .before .before .before .before in
+    let at-clear = at-caught .before .before .before .before in
+    fresh-done _ _ _ _ _ _ _ (at-clear .clear .ensures) (at-caught .caught .ensures) (at-state .state .ensures) (at-opened .opened .ensures) (at-out .out .ensures) (at-given .given .ensures) (at-sign .sign .ensures)
+
+pub fresh-spec : {M : Type 1} → statement M
+fresh-spec = tie.close (tie.spec
+    (λ c κs. search needs)
+    (λ c κs. search needs)
+    (λ c κs. search needs)
+    (λ c κs. search needs)
+    (λ c κs. search needs)
+    (λ c κs. search needs)
+    (λ c κs. search needs)
+    (λ c. search needs)
+    returns)

@@ -1,0 +1,26 @@
+-- `revisions::inherit::by_count` meets its contract: the writes in a row. Assumes nothing.
+use borrow.Author.Needs.{needs}
+use Rattle.cells.specs.Decode.{cells}
+use Rattle.revisions.proofs.Writes.{by-count-done}
+use Rattle.revisions.proofs.inherit.by_count.Statement.{statement}
+use Rattle.revisions.proofs.inherit.by_count.Tie as tie
+
+returns : tie.Need-returns
+unfolding cells
+returns c =
+    let at-count2 = c .before .before in
+    let at-base = at-count2 .before .before .before .before in
+    let at-used = at-base .before .before .before .before in
+    let at-count = at-used .before .before in
+    let start = at-count .before .before .before in
+    let s = start .args in
+    by-count-done (s .d .now) (start .pre .0) _ _ _ (s .c .0) (at-count .count .result) (at-count .count .ensures .0) (at-used .used .ensures) (at-base .base .ensures) (at-count2 .count2 .ensures)
+
+pub by-count-spec : {M : Type 1} → statement M
+by-count-spec = tie.close (tie.spec
+    (λ c κs. search needs)
+    (λ c κs. search needs)
+    (λ c κs. search needs)
+    (λ c κs. search needs)
+    (λ c. search needs)
+    returns)

@@ -1,0 +1,66 @@
+-- `revisions::transactions::is_busy` meets its contract: no client below `x` has r open. Assumes nothing.
+use Prim.Native.Nat.{_-_, _≤_, ℕ}
+use mathlib.Core.Bool.{Bool, false}
+use mathlib.Core.Path.{_∙_, _≡_, ap, refl, sym}
+use native.Mathlib.Omega.{arith}
+use lib.Dec.{eqb}
+use borrow.Author.Needs.{needs}
+use borrow.Author.Tests.{eq-eqb, ne-eqb}
+use Rattle.cells.specs.Decode.{cells}
+use Rattle.cells.specs.Tables.{some}
+use Rattle.cells.proofs.Tables.{some-at, some-more}
+use Rattle.revisions.proofs.transactions.is_busy.Statement.{statement}
+use Rattle.revisions.proofs.transactions.is_busy.Tie as tie
+
+abbrev Inv-loop : tie.InvT-loop
+Inv-loop d at x₀ x = (x ≤ 16) × (some (λ y. eqb (cells d .opened y) at) x ≡ false)
+
+abbrev μ-loop : tie.MeasureT-loop
+μ-loop d at x₀ x = 16 - x
+
+loop-holds : tie.Need-loop-holds Inv-loop μ-loop
+unfolding some
+loop-holds c = (search needs, refl)
+
+returns : tie.Need-returns Inv-loop μ-loop
+returns c =
+    let at-opened = c .before in
+    let at-loop = at-opened .before .before in
+    let at-wide = at-loop .before in
+    let start = at-wide .before .before in
+    let s = start .args in
+    let l = at-loop .loop in
+    let f : ℕ → Bool = λ y. eqb (cells (s .d .now) .opened y) (at-wide .wide .result) in
+    sym (some-at f 16 (l .x) (omega arith) (eq-eqb _ _ (sym (at-opened .opened .ensures .0) ∙ c .if1 .taken))) ∙ ap (λ a. some (λ y. eqb (cells (s .d .now) .opened y) a) 16) (at-wide .wide .ensures .0)
+
+loop-again : tie.Need-loop-again Inv-loop μ-loop
+loop-again c =
+    let at-opened = c .before in
+    let at-loop = at-opened .before .before in
+    let at-wide = at-loop .before in
+    let start = at-wide .before .before in
+    let l = at-loop .loop in
+    (omega arith, some-more (λ y. eqb (cells (start .args .d .now) .opened y) (at-wide .wide .result)) (l .x) (l .inv .1) (ne-eqb _ _ (λ e. c .if1 .left (at-opened .opened .ensures .0 ∙ e))))
+
+returns-2 : tie.Need-returns-2 Inv-loop μ-loop
+returns-2 c =
+    let at-loop = c .before in
+    let at-wide = at-loop .before in
+    let start = at-wide .before .before in
+    let s = start .args in
+    let l = at-loop .loop in
+    let e : l .x ≡ 16 = omega arith in
+    sym (ap (λ n. some (λ y. eqb (cells (s .d .now) .opened y) (at-wide .wide .result)) n) (sym e) ∙ l .inv .1) ∙ ap (λ a. some (λ y. eqb (cells (s .d .now) .opened y) a) 16) (at-wide .wide .ensures .0)
+
+pub is-busy-spec : {M : Type 1} → statement M
+is-busy-spec = tie.close (tie.spec
+    Inv-loop
+    μ-loop
+    (λ c κs. search needs)
+    loop-holds
+    (λ c κs. search needs)
+    returns
+    (λ c. search needs)
+    (λ c. search needs)
+    loop-again
+    returns-2)

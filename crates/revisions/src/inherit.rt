@@ -1,0 +1,77 @@
+// What a forked revision inherits: from the main revision by count alone; from any other its count, its row and its own list.
+ghost use mathlib.Core.Path.{_≡_};
+ghost use mathlib.Core.Bool.{true};
+ghost use Prim.Native.Nat.{_<_};
+ghost use lib.ListN.{length};
+ghost use Rattle.cells.specs.Sizes.{bytes, revisions};
+ghost use Rattle.cells.specs.Tables.{tab};
+ghost use Rattle.cells.specs.Parts.{glue, split};
+ghost use Rattle.cells.specs.Decode.{cells};
+ghost use Rattle.cells.specs.Range.{inRange};
+ghost use Rattle.cells.specs.CellSteps.{forkRow};
+ghost use Rattle.cells.specs.Steps.{inheritParts};
+use fields::read;
+use fields::row;
+use fields::table::Revision;
+use fields::table::Table;
+use fields::write;
+use order::links;
+
+fn number(x: u16) -> usize
+    ensures { λ r. ⌜ r ≡ x ⌝ }
+{
+    x as usize
+}
+
+// p's row with the updates of its own list.
+fn forked_row(d: &[u8], p: Revision) -> [bool; Table::UPDATES]
+    requires { ⌜ (length (now d) ≡ bytes) × (inRange (now d) ≡ true) × (p .0 < revisions) ⌝ }
+    ensures { λ row. ⌜ row ≡ tab (forkRow (cells (now (d .entry))) (p .0)) 4096 ⌝ }
+{
+    let mut own = [0u16; Table::UPDATES];
+    let n = links::own_list(d, p, &mut own);
+    let mut marks = row::load(d, p);
+    let mut i: usize = 0;
+    while i < n {
+        // every link is below 4,096; the test spares its proof here
+        let u = number(own[i]);
+        if u < 4096 {
+            marks[u] = true;
+        }
+        i += 1;
+    }
+    marks
+}
+
+fn by_count(d: &mut [u8], c: Revision)
+    requires { ⌜ (length (now d) ≡ bytes) × (c .0 < revisions) ⌝ }
+    ensures { λ _. ⌜ now (d .exit) ≡ glue (inheritParts (split (now (d .entry))) 0 (c .0)) ⌝ }
+{
+    let base = read::count(d, Revision(0));
+    write::used(d, c, 0);
+    write::base(d, c, base);
+    write::count(d, c, 0);
+}
+
+fn by_row(d: &mut [u8], p: Revision, c: Revision)
+    requires { ⌜ (length (now d) ≡ bytes) × (inRange (now d) ≡ true) × (0 < p .0) × (p .0 < revisions) × (0 < c .0) × (c .0 < revisions) ⌝ }
+    ensures { λ _. ⌜ now (d .exit) ≡ glue (inheritParts (split (now (d .entry))) (p .0) (c .0)) ⌝ }
+{
+    let base = read::base(d, p);
+    let marks = forked_row(d, p);
+    write::row(d, c, marks);
+    write::used(d, c, 1);
+    write::base(d, c, base);
+    write::count(d, c, 0);
+}
+
+pub fn inherit(d: &mut [u8], p: Revision, c: Revision)
+    requires { ⌜ (length (now d) ≡ bytes) × (inRange (now d) ≡ true) × (p .0 < revisions) × (0 < c .0) × (c .0 < revisions) ⌝ }
+    ensures { λ _. ⌜ now (d .exit) ≡ glue (inheritParts (split (now (d .entry))) (p .0) (c .0)) ⌝ }
+{
+    if p.0 == 0 {
+        by_count(d, c);
+        return;
+    }
+    by_row(d, p, c);
+}

@@ -1,0 +1,41 @@
+// A revision joins another: it gets the joinee's own list, what the joinee has seen, and who has caught up with it.
+ghost use mathlib.Core.Path.{_≡_};
+ghost use mathlib.Core.Bool.{true};
+ghost use Prim.Native.Nat.{_<_};
+ghost use lib.ListN.{length};
+ghost use Rattle.cells.specs.Sizes.{bytes, revisions};
+ghost use Rattle.cells.specs.Parts.{glue, split};
+ghost use Rattle.cells.specs.Decode.{cells};
+ghost use Rattle.cells.specs.Range.{inRange};
+ghost use Rattle.cells.specs.Steps.{joinBytes};
+ghost use Rattle.revisions.specs.Pieces.{retireParts};
+use crate::own;
+use fields::read;
+use fields::table::Revision;
+use fields::write;
+
+// The marks, b's state and place, and the count of those out.
+fn retire(d: &mut [u8], a: Revision, b: Revision, out: usize)
+    requires { ⌜ (length (now d) ≡ bytes) × (a .0 < revisions) × (b .0 < revisions) × (out < 256) ⌝ }
+    ensures { λ _. ⌜ now (d .exit) ≡ glue (retireParts (split (now (d .entry))) (a .0) (b .0) out) ⌝ }
+{
+    write::join_seen(d, a, b);
+    write::join_caught(d, a, b);
+    write::state(d, b, 2);
+    write::leave(d, b);
+    write::out(d, out);
+}
+
+// How many updates a gained is the answer.
+pub fn join(d: &mut [u8], a: Revision, b: Revision) -> usize
+    requires { ⌜ (length (now d) ≡ bytes) × (inRange (now d) ≡ true) × (a .0 < revisions) × (b .0 < revisions) ⌝ }
+    ensures { λ n. ⌜ (n ≡ cells (now (d .entry)) .count (b .0)) × (now (d .exit) ≡ joinBytes (now (d .entry)) (a .0) (b .0)) ⌝ }
+{
+    let gain = read::count(d, b);
+    let total = read::count(d, a) + gain;
+    let out = read::out(d) - 1;
+    own::splice(d, a, b);
+    write::count(d, a, total);
+    retire(d, a, b, out);
+    gain
+}
