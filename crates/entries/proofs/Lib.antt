@@ -1,0 +1,3 @@
+-- Laws that belong to no one function: an entry read after a write.
+pub mod Stored
+pub mod Entries
