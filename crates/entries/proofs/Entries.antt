@@ -6,14 +6,15 @@ use mathlib.Core.Logic.{_≢_}
 use mathlib.Core.List.{List, _++_, append-assoc}
 use native.Mathlib.Omega.{arith}
 use lib.Dec.{eqb, ltb}
-use lib.ListN.{length, take, drop, length-append, length-drop, take-append-drop}
+use lib.ListN.{length, take, drop, length-append, length-drop, take-append-drop, drop-of-length-le}
 use lib.Seq.{take-at, drop-at, drop-drop, take-append-le, drop-append-le, length-take-le}
 use borrow.Author.Tests.{eqb-true, eqb-false, ltb-true, ltb-false}
 use Rattle.lists.specs.Lists.{changed}
 use Rattle.lists.proofs.Cases.{cases}
+use Rattle.updates.specs.declared.kind.Kind.the-variants.{Time}
 use Rattle.entries.specs.declared.entry.Entry.{Entry}
 use Rattle.entries.specs.Sizes.{updates, bytes, bibs}
-use Rattle.entries.specs.Stored.{stored, decoded}
+use Rattle.entries.specs.Stored.{entry, stored, kindAfter, decoded}
 use Rattle.entries.specs.Entries.{entryAt, wrote}
 use Rattle.entries.proofs.Stored.{stored-length, decoded-stored}
 
@@ -77,6 +78,11 @@ entry-other t n e m h l o =
     (λ q. let g = ltb-true m n q in ap decoded (put-left t (stored e) (6 * n) 6 (room t n h l) (stored-length e) (6 * m) 6 (omega arith)))
     (λ q. let g = ltb-false m n q in let g2 : n < m = omega (arith, o) in ap (λ z. decoded (take 6 z)) (put-right t (stored e) (6 * n) 6 (room t n h l) (stored-length e) (6 * m) (omega arith)))
 
+-- past the last byte there is the entry of a fresh day
+pub entry-past : (t : List ℕ) (n : ℕ) → length t ≡ bytes → updates ≤ n → entryAt t n ≡ entry Time 0 0 0
+unfolding entryAt decoded kindAfter
+entry-past t n h l = rw (drop-of-length-le t {i = 6 * n} (omega arith))
+
 -- the two as one: the entries are the old ones changed at n
 pub entry-wrote : (t : List ℕ) (n : ℕ) (e : Entry) (m : ℕ) → length t ≡ bytes → n < updates → e .bib < bibs
     → entryAt (wrote t n e) m ≡ changed (entryAt t) n e m
@@ -84,3 +90,18 @@ entry-wrote t n e m h l b =
     cases (eqb m n)
     (λ q. rw (q, eqb-true m n q) (entry-same t n e h l b))
     (λ q. rw q (entry-other t n e m h l (eqb-false m n q)))
+
+-- for code: the six bytes of entry n, lent as `&t[at..end]`, are decoded, or come back as q
+lent-size : (n : ℕ) → 6 * n + 6 - 6 * n ≡ 6
+lent-size n = omega arith
+
+pub lent-read : (t : List ℕ) (n : ℕ) → decoded (take (6 * n + 6 - 6 * n) (drop (6 * n) t)) ≡ entryAt t n
+unfolding entryAt
+lent-read t n = ap (λ k. decoded (take k (drop (6 * n) t))) (lent-size n)
+
+pub lent-wrote : (t q : List ℕ) (n : ℕ) (e : Entry) → q ≡ stored e
+    → take (6 * n) t ++ (q ++ drop (6 * n + 6 - 6 * n) (drop (6 * n) t)) ≡ wrote t n e
+unfolding wrote
+lent-wrote t q n e h =
+    let rest : drop (6 * n + 6 - 6 * n) (drop (6 * n) t) ≡ drop (6 * n + 6) t = ap (λ k. drop k (drop (6 * n) t)) (lent-size n) ∙ drop-drop 6 (6 * n) t in
+    rw (h, rest)

@@ -2,3 +2,4 @@
 pub mod Sizes
 pub mod Stored
 pub mod Entries
+pub mod Folded
