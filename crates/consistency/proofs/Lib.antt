@@ -2,4 +2,5 @@
 pub mod Cells
 pub mod Bytes
 pub mod Follow
+pub mod Table
 mod Examples

@@ -3,3 +3,4 @@
 pub mod Reached
 pub mod Follow
 pub mod Numbers
+pub mod Table

@@ -36,7 +36,7 @@ use Rattle.updates.specs.Kinds.{kindCheck}
 use Rattle.updates.specs.declared.kind.Kind.{Kind}
 
 -- numbers shown at a vertex are those of updates taken
-view-low : (ss : List Step) → Accepted ss → (x n : ℕ) → x < length (run ss .diagram) → n ∈ view (run ss .diagram) x → n < run ss .updates
+pub view-low : (ss : List Step) → Accepted ss → (x n : ℕ) → x < length (run ss .diagram) → n ∈ view (run ss .diagram) x → n < run ss .updates
 view-low ss P x n h i =
     let A = arbitration ss P in
     let s = A .ever ss [] (sym (append-nil ss)) x h in
@@ -44,11 +44,11 @@ view-low ss P x n h i =
     A .numbered .low (e .0) n (entry-is (number (run ss .diagram) (e .0)) n (e .2))
 
 -- what some entries give does not depend on the others
-ofBib-same : (f g : ℕ → Entry) (bib : ℕ) (ns : List ℕ) → ((n : ℕ) → n ∈ ns → f n ≡ g n) → ofBib f bib ns ≡ ofBib g bib ns
+pub ofBib-same : (f g : ℕ → Entry) (bib : ℕ) (ns : List ℕ) → ((n : ℕ) → n ∈ ns → f n ≡ g n) → ofBib f bib ns ≡ ofBib g bib ns
 ofBib-same f g bib [] h = refl
 ofBib-same f g bib (n ∷ ns) h = rw (h n (List·Memᴰ·head refl), ofBib-same f g bib ns (λ m i. h m (List·Memᴰ·tail i)))
 
-linesOf-same : (f g : ℕ → Entry) (ns : List ℕ) → ((n : ℕ) → n ∈ ns → f n ≡ g n) → linesOf f ns ≡ linesOf g ns
+pub linesOf-same : (f g : ℕ → Entry) (ns : List ℕ) → ((n : ℕ) → n ∈ ns → f n ≡ g n) → linesOf f ns ≡ linesOf g ns
 linesOf-same f g [] h = refl
 linesOf-same f g (n ∷ ns) h = rw (h n (List·Memᴰ·head refl), linesOf-same f g ns (λ m i. h m (List·Memᴰ·tail i)))
 

@@ -19,14 +19,14 @@ then a true p q e h = rw e
 then a false p q e h = rw (e, h refl)
 
 module _ (y : Day) (k : Cells) (F : CellsFollow y k) where
-  known : (c : ℕ) → unknownClient c ≡ false → c < clients
+  pub known : (c : ℕ) → unknownClient c ≡ false → c < clients
   unfolding unknownClient clientLimit
   known c e = ltb-true c clients (not-false (ltb c clients) e)
 
   given : (r : ℕ) → notGiven y r ≡ false → r < y .revisions
   given r e = ltb-true r (y .revisions) (not-false (ltb r (y .revisions)) e)
 
-  client-is : (c : ℕ) → not (Asked.isClient c) ≡ unknownClient c
+  pub client-is : (c : ℕ) → not (Asked.isClient c) ≡ unknownClient c
   client-is c = ap not (F .same-client c) ∙ Bool·not-not (unknownClient c)
 
   given-is : (r : ℕ) → not (Asked.givenOut k r) ≡ notGiven y r

@@ -1,0 +1,4 @@
+-- The table of calls follows the plain day.
+pub mod Stands
+pub mod Values
+pub mod Calls

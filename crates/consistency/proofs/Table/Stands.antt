@@ -1,0 +1,81 @@
+-- A table that stands for a plain day: its lower half by the steps taken, its upper half by the entries noted.
+use Prim.Native.Nat.{ℕ, _<_, _+_}
+use mathlib.Core.Bool.{Bool, true, false, not, _&&_}
+use mathlib.Core.Path.{_≡_, refl, sym, _∙_, ap, subst}
+use mathlib.Core.List.{List, [], _∷_, _++_}
+use native.Mathlib.Omega.{arith}
+use lib.Dec.{eqb}
+use lib.ListN.{length, length-append, length-drop, replicate}
+use borrow.Author.Tests.{eq-eqb}
+use Rattle.diagram.specs.Day.{fresh}
+use Rattle.diagram.specs.Steps.{Step, Accepted, accepted, after, run, runFrom}
+use Rattle.diagram.proofs.Order.Runs.{accepted-both, run-step}
+use Rattle.cells.specs.Sizes as Lower
+use Rattle.entries.specs.Sizes as Upper
+use Rattle.entries.specs.Entries.{entryAt}
+use Rattle.plain.specs.Record.{PlainDay, freshDay}
+use Rattle.table.specs.Halves.{bytes, low, high, cellsOf, isTable}
+use Rattle.table.proofs.Halves.{low-of, high-of}
+use Rattle.consistency.specs.Reached.{bytesAfter, bytesFrom, stepBytes}
+use Rattle.consistency.specs.Follow.{BytesFollow}
+use Rattle.consistency.specs.Numbers.{NumbersFollow}
+use Rattle.consistency.specs.Table.{asEntered}
+use Rattle.consistency.proofs.Cells.Numbers.{numbers-follow}
+use Rattle.consistency.proofs.Follow.{bytes-follow}
+
+pub record Stands (p : PlainDay) (t : List ℕ) : Type 0 where
+  pub steps : List Step
+  pub ok : Accepted steps
+  pub day-is : p .day ≡ run steps
+  pub low-is : low t ≡ bytesAfter steps
+  pub size : length t ≡ bytes
+  pub entries-are : (n : ℕ) → n < p .day .updates → asEntered (entryAt (high t) n) ≡ p .entries n
+
+bytes-both : (ss : List Step) (s : Step) (d : List ℕ) → bytesFrom d (ss ++ (s ∷ [])) ≡ stepBytes (bytesFrom d ss) s
+unfolding bytesFrom
+bytes-both [] s d = refl
+bytes-both (a ∷ ss) s d = bytes-both ss s (stepBytes d a)
+
+bytes-step : (ss : List Step) (s : Step) → bytesAfter (ss ++ (s ∷ [])) ≡ stepBytes (bytesAfter ss) s
+unfolding bytesAfter
+bytes-step ss s = bytes-both ss s _
+
+accepted-one : (ss : List Step) (s : Step) → Accepted ss → accepted (run ss) s ≡ true → Accepted (ss ++ (s ∷ []))
+unfolding run
+accepted-one ss s A e = accepted-both ss (s ∷ []) fresh A (e, tt)
+
+module _ (p : PlainDay) (t : List ℕ) (S : Stands p t) where
+  pub bytes-are : BytesFollow (p .day) (low t)
+  bytes-are = rw (S .day-is, S .low-is) (bytes-follow (S .steps) (S .ok))
+
+  pub numbers-are : NumbersFollow (p .day) (cellsOf t)
+  numbers-are = numbers-follow (p .day) (cellsOf t) (bytes-are .follow)
+
+  pub is-table : isTable t ≡ true
+  unfolding isTable
+  is-table = rw (eq-eqb (length t) bytes (S .size), bytes-are .ranged)
+
+  pub high-size : length (high t) ≡ Upper.bytes
+  unfolding high
+  high-size = length-drop Lower.bytes t ∙ omega (arith, S .size)
+
+  -- a step taken, with any upper half that has the entries
+  pub stands-next : (s : Step) → accepted (p .day) s ≡ true → (q : PlainDay) → q .day ≡ after (p .day) s → (h : List ℕ) → length h ≡ Upper.bytes
+      → ((n : ℕ) → n < q .day .updates → asEntered (entryAt h n) ≡ q .entries n) → Stands q (stepBytes (low t) s ++ h)
+  stands-next s e q d h l f = record {
+    steps = S .steps ++ (s ∷ []);
+    ok = ok′;
+    day-is = d ∙ ap (λ z. after z s) (S .day-is) ∙ sym (run-step (S .steps) s);
+    low-is = low-of (stepBytes (low t) s) h size′ ∙ is;
+    size = length-append (stepBytes (low t) s) h ∙ omega (arith, size′, l);
+    entries-are = λ n k. ap (λ z. asEntered (entryAt z n)) (high-of (stepBytes (low t) s) h size′) ∙ f n k;
+  }
+    where
+      ok′ : Accepted (S .steps ++ (s ∷ []))
+      ok′ = accepted-one (S .steps) s (S .ok) (ap (λ z. accepted z s) (sym (S .day-is)) ∙ e)
+
+      is : stepBytes (low t) s ≡ bytesAfter (S .steps ++ (s ∷ []))
+      is = ap (λ z. stepBytes z s) (S .low-is) ∙ sym (bytes-step (S .steps) s)
+
+      size′ : length (stepBytes (low t) s) ≡ Lower.bytes
+      size′ = ap length is ∙ bytes-follow (S .steps ++ (s ∷ [])) ok′ .size

@@ -1,0 +1,4 @@
+-- Laws that belong to no one function: an entry read after a write, a value one number further.
+pub mod Stored
+pub mod Entries
+pub mod Folded

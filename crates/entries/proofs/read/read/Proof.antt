@@ -1,0 +1,25 @@
+-- `entries::read::read` meets its contract: the entry's six bytes are lent, or there are none. Assumes nothing.
+use mathlib.Core.Path.{_∙_, sym}
+use borrow.Author.Needs.{needs}
+use Rattle.entries.proofs.Entries.{entry-past, lent-read}
+use Rattle.entries.proofs.read.read.Statement.{statement}
+use Rattle.entries.proofs.read.read.Tie as tie
+
+returns : tie.Need-returns
+returns c = c .load .ensures ∙ lent-read _ (c .before .before .before .before .args .n)
+
+returns-2 : tie.Need-returns-2
+returns-2 c = sym (entry-past (c .before .before .args .t .now) (c .before .before .args .n) (c .before .before .pre) (c .if1 .left))
+
+pub read-spec : {M : Type 1} → statement M
+read-spec =
+    tie.close
+    (tie.spec
+    (λ c. search needs)
+    (λ c. search needs)
+    (λ c. search needs)
+    (λ c. search needs)
+    (λ c. search needs)
+    (λ c κs. search needs)
+    returns
+    returns-2)

@@ -1,0 +1,46 @@
+-- `entries::store::store` meets its contract: six bytes written one by one. Assumes nothing.
+use mathlib.Core.Path.{_∙_, ap}
+use native.Mathlib.Omega.{arith}
+use lib.ListN.{length-set}
+use borrow.Author.Needs.{needs}
+use Rattle.entries.specs.Stored.{stored}
+use Rattle.entries.proofs.Stored.{six-set}
+use Rattle.entries.proofs.store.store.Statement.{statement}
+use Rattle.entries.proofs.store.store.Tie as tie
+
+slice-write-p-5 : tie.Need-slice-write-p-5
+slice-write-p-5 c = simp length-set (omega arith)
+
+slice-write-p-6 : tie.Need-slice-write-p-6
+slice-write-p-6 c = simp length-set (omega arith)
+
+same-length : tie.Need-same-length
+same-length c = simp length-set
+
+returns : tie.Need-returns
+unfolding stored
+returns c = rw (c .two-bits .ensures .0) (six-set (c .before .before .args .p .now) _ _ _ _ _ _ (c .before .before .pre .0))
+
+pub store-spec : {M : Type 1} → statement M
+store-spec =
+    tie.close
+    (tie.spec
+    (λ c. search needs)
+    (λ c. search needs)
+    (λ c. search needs)
+    (λ c κs. search needs)
+    (λ c. search needs)
+    (λ c. search needs)
+    (λ c. search needs)
+    (λ c. search needs)
+    (λ c. search needs)
+    (λ c. search needs)
+    (λ c. search needs)
+    (λ c. search needs)
+    (λ c. search needs)
+    (λ c. search needs)
+    slice-write-p-5
+    (λ c. search needs)
+    slice-write-p-6
+    same-length
+    returns)

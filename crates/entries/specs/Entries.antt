@@ -1,0 +1,13 @@
+-- The entries in a row, six bytes each: entry n read, and entry n replaced.
+use Prim.Native.Nat.{ℕ, _+_, _*_}
+use mathlib.Core.List.{List, _++_}
+use lib.ListN.{take, drop}
+use Rattle.entries.specs.declared.entry.Entry.{Entry}
+use Rattle.entries.specs.Stored.{stored, decoded}
+
+-- past the last byte there is nothing but zeros to decode: the entry of a fresh day
+unfoldable pub entryAt : List ℕ → ℕ → Entry
+entryAt t n = decoded (take 6 (drop (6 * n) t))
+
+unfoldable pub wrote : List ℕ → ℕ → Entry → List ℕ
+wrote t n e = take (6 * n) t ++ (stored e ++ drop (6 * n + 6) t)

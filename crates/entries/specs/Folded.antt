@@ -1,0 +1,16 @@
+-- The value of one bib: 01, "A query's answer". The updates of the bib among some numbers, applied in their order.
+use Prim.Native.Nat.{ℕ}
+use mathlib.Core.Bool.{cond}
+use mathlib.Core.List.{List, [], _∷_}
+use lib.Dec.{eqb}
+use Rattle.updates.specs.Applied.{Update, applied, freshValue}
+use Rattle.entries.specs.declared.entry.Entry.{Entry}
+
+-- the updates of one bib among some numbers, in their order
+abbrev pub ofBib : (ℕ → Entry) → ℕ → List ℕ → List Update
+ofBib entries bib [] = []
+ofBib entries bib (n ∷ ns) =
+    cond (eqb (entries n .bib) bib) (record { kind = entries n .kind; v = entries n .v } ∷ ofBib entries bib ns) (ofBib entries bib ns)
+
+abbrev pub valueOf : (ℕ → Entry) → ℕ → List ℕ → ℕ
+valueOf entries bib ns = applied (ofBib entries bib ns) freshValue

@@ -1,0 +1,26 @@
+// An entry by its number.
+ghost use mathlib.Core.Path.{_≡_};
+ghost use lib.ListN.{length};
+ghost use Rattle.entries.specs.Sizes.{bytes};
+ghost use Rattle.entries.specs.Entries.{entryAt};
+use crate::entry::Entry;
+use crate::load::load;
+use updates::kind::Kind;
+
+// A number past the last has no bytes, and the entry of a fresh day.
+pub fn read(t: &[u8], n: u16) -> Entry
+    requires { ⌜ length (now t) ≡ bytes ⌝ }
+    ensures { λ e. ⌜ e ≡ entryAt (now (t .entry)) n ⌝ }
+{
+    if n < 4096 {
+        let at = 6 * (n as usize);
+        let end = at + 6;
+        return load(&t[at..end]);
+    }
+    Entry {
+        kind: Kind::Time,
+        client: 0,
+        bib: 0,
+        v: 0,
+    }
+}

@@ -1,0 +1,27 @@
+// An entry put into six bytes.
+ghost use mathlib.Core.Path.{_≡_};
+ghost use Prim.Native.Nat.{_-_, _<_};
+ghost use lib.ListN.{length};
+ghost use Rattle.updates.specs.Kinds.{kindNumber};
+ghost use Rattle.entries.specs.Sizes.{clients, bibs};
+ghost use Rattle.entries.specs.Stored.{entry, stored};
+use updates::kind::Kind;
+
+// The kind in two bits: one less than its number.
+fn two_bits(kind: Kind) -> u8
+    ensures { λ r. ⌜ (r ≡ kindNumber kind - 1) × (r < 4) ⌝ }
+{
+    updates::kind::number(kind) - 1
+}
+
+pub fn store(p: &mut [u8], kind: Kind, client: u8, bib: u16, v: u32)
+    requires { ⌜ (length (now p) ≡ 6) × (client < clients) × (bib < bibs) ⌝ }
+    ensures { λ _. ⌜ now (p .exit) ≡ stored (entry kind client bib v) ⌝ }
+{
+    p[0] = (bib % 256) as u8;
+    p[1] = client * 16 + two_bits(kind) * 4 + (bib / 256) as u8;
+    p[2] = (v % 256) as u8;
+    p[3] = (v / 256 % 256) as u8;
+    p[4] = (v / 65536 % 256) as u8;
+    p[5] = (v / 16777216) as u8;
+}

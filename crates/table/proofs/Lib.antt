@@ -1,0 +1,2 @@
+-- Laws of the two halves of the table.
+pub mod Halves

@@ -1,0 +1,100 @@
+-- Each call, check by check in 01's order: 01, "Codes of the desk". `list` is here as far as its code and value go.
+use Prim.Native.Nat.{ℕ, _*_}
+use mathlib.Core.Bool.{Bool, true, not, cond, _||_}
+use mathlib.Core.List.{List, [], _∷_, _++_}
+use lib.Dec.{eqb, ltb}
+use lib.ListN.{length, replicate}
+use Rattle.updates.specs.Kinds.{kindCheck}
+use Rattle.updates.specs.Applied.{Update, applied, freshValue}
+use Rattle.cells.specs.Order.{order}
+use Rattle.cells.specs.Checks.{isClient, givenOut, joined, openElsewhere, busy, busyByOther, stale, logFull, noneLeft, joinable}
+use Rattle.cells.specs.Steps.{freshBytes, updateBytes, queryBytes, closeBytes, forkBytes, joinBytes}
+use Rattle.entries.specs.Sizes as Upper
+use Rattle.entries.specs.Stored.{entry}
+use Rattle.entries.specs.Entries.{entryAt, wrote}
+use Rattle.table.specs.Halves.{bytes, low, high, cellsOf, isTable}
+use Rattle.table.specs.Answers.{Out, refused, taken, check, named}
+
+-- 5: "bib above 999"
+abbrev pub badBib : ℕ → Bool
+badBib bib = not (ltb bib 1000)
+
+-- the updates of one bib among some numbers, in their order
+abbrev pub ofBib : List ℕ → ℕ → List ℕ → List Update
+ofBib t bib [] = []
+ofBib t bib (n ∷ ns) =
+    cond (eqb (entryAt t n .bib) bib) (record { kind = entryAt t n .kind; v = entryAt t n .v } ∷ ofBib t bib ns) (ofBib t bib ns)
+
+-- the value of a bib after the updates visible at revision n
+unfoldable pub valueAt : List ℕ → ℕ → ℕ → ℕ
+valueAt t n bib = applied (ofBib (high t) bib (order (cellsOf t) n)) freshValue
+
+-- "Fresh: 1 (length only)"
+unfoldable pub freshOut : List ℕ → Out
+freshOut t = check (not (eqb (length t) bytes)) 1 t (taken (freshBytes ++ replicate Upper.bytes 0) 0)
+
+-- "Update: 1 to 9"
+unfoldable pub updateOut : List ℕ → ℕ → ℕ → ℕ → ℕ → ℕ → Out
+updateOut t c n k bib v =
+    check (not (isTable t)) 1 t (
+    check (not (isClient c)) 2 t (
+    check (not (givenOut (cellsOf t) n)) 3 t (
+    check (joined (cellsOf t) n) 4 t (
+    check (badBib bib) 5 t (
+    named (kindCheck k) t (λ kind.
+    check (openElsewhere (cellsOf t) c n) 6 t (
+    check (busyByOther (cellsOf t) c n) 7 t (
+    check (stale (cellsOf t) c n) 8 t (
+    check (logFull (cellsOf t)) 9 t (
+    taken (updateBytes (low t) c n ++ wrote (high t) (cellsOf t .updates) (entry kind c bib v)) (cellsOf t .updates)))))))))))
+
+-- "Query: 1 to 8 (of 5, the bib only)"
+unfoldable pub queryOut : List ℕ → ℕ → ℕ → ℕ → Out
+queryOut t c n bib =
+    check (not (isTable t)) 1 t (
+    check (not (isClient c)) 2 t (
+    check (not (givenOut (cellsOf t) n)) 3 t (
+    check (joined (cellsOf t) n) 4 t (
+    check (badBib bib) 5 t (
+    check (openElsewhere (cellsOf t) c n) 6 t (
+    check (busyByOther (cellsOf t) c n) 7 t (
+    check (stale (cellsOf t) c n) 8 t (
+    taken (queryBytes (low t) c n ++ high t) (valueAt t n bib)))))))))
+
+-- "Yield: 1, 2"
+unfoldable pub yieldOut : List ℕ → ℕ → Out
+yieldOut t c =
+    check (not (isTable t)) 1 t (
+    check (not (isClient c)) 2 t (
+    taken (closeBytes (low t) c ++ high t) 0))
+
+-- "Fork: 1, 3, 4, 7, 10"
+unfoldable pub forkOut : List ℕ → ℕ → Out
+forkOut t n =
+    check (not (isTable t)) 1 t (
+    check (not (givenOut (cellsOf t) n)) 3 t (
+    check (joined (cellsOf t) n) 4 t (
+    check (busy (cellsOf t) n) 7 t (
+    check (noneLeft (cellsOf t)) 10 t (
+    taken (forkBytes (low t) n (cellsOf t .given) ++ high t) (cellsOf t .given))))))
+
+-- "Join: 1, 3, 4, 7, 11"
+unfoldable pub joinOut : List ℕ → ℕ → ℕ → Out
+joinOut t n m =
+    check (not (isTable t)) 1 t (
+    check (not (givenOut (cellsOf t) n)) 3 t (
+    check (not (givenOut (cellsOf t) m)) 3 t (
+    check (joined (cellsOf t) n || joined (cellsOf t) m) 4 t (
+    check (busy (cellsOf t) n || busy (cellsOf t) m) 7 t (
+    check (not (joinable (cellsOf t) n m)) 11 t (
+    taken (joinBytes (low t) n m ++ high t) (cellsOf t .count m)))))))
+
+-- "List: 1, 3, 4, 7, 12"
+unfoldable pub listOut : List ℕ → ℕ → ℕ → Out
+listOut t n room =
+    check (not (isTable t)) 1 t (
+    check (not (givenOut (cellsOf t) n)) 3 t (
+    check (joined (cellsOf t) n) 4 t (
+    check (busy (cellsOf t) n) 7 t (
+    check (ltb room (12 * length (order (cellsOf t) n))) 12 t (
+    record { code = 0; value = length (order (cellsOf t) n); table = t; shown = order (cellsOf t) n })))))

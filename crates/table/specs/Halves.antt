@@ -1,0 +1,27 @@
+-- The lent buffer "of exactly 65,536 bytes": the revisions' 40,960, then the entries' 24,576.
+use Prim.Native.Nat.{ℕ}
+use mathlib.Core.Bool.{Bool, _&&_}
+use mathlib.Core.List.{List}
+use lib.Dec.{eqb}
+use lib.ListN.{length, take, drop}
+use Rattle.cells.specs.Sizes as Lower
+use Rattle.cells.specs.Cells.{Cells}
+use Rattle.cells.specs.Decode.{cells}
+use Rattle.cells.specs.Range.{inRange}
+
+abbrev pub bytes : ℕ
+bytes = 65536
+
+unfoldable pub low : List ℕ → List ℕ
+low t = take Lower.bytes t
+
+unfoldable pub high : List ℕ → List ℕ
+high t = drop Lower.bytes t
+
+-- the cells that the checks look at
+abbrev pub cellsOf : List ℕ → Cells
+cellsOf t = cells (low t)
+
+-- code 1: "length isn't 65,536 or a cell is out of its range"; the entries have every byte in range
+unfoldable pub isTable : List ℕ → Bool
+isTable t = eqb (length t) bytes && inRange (low t)
