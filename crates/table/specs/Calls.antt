@@ -1,33 +1,27 @@
 -- Each call, check by check in 01's order: 01, "Codes of the desk". `list` is here as far as its code and value go.
 use Prim.Native.Nat.{ℕ, _*_}
-use mathlib.Core.Bool.{Bool, true, not, cond, _||_}
-use mathlib.Core.List.{List, [], _∷_, _++_}
+use mathlib.Core.Bool.{Bool, not, _||_}
+use mathlib.Core.List.{List, _++_}
 use lib.Dec.{eqb, ltb}
 use lib.ListN.{length, replicate}
 use Rattle.updates.specs.Kinds.{kindCheck}
-use Rattle.updates.specs.Applied.{Update, applied, freshValue}
 use Rattle.cells.specs.Order.{order}
 use Rattle.cells.specs.Checks.{isClient, givenOut, joined, openElsewhere, busy, busyByOther, stale, logFull, noneLeft, joinable}
 use Rattle.cells.specs.Steps.{freshBytes, updateBytes, queryBytes, closeBytes, forkBytes, joinBytes}
 use Rattle.entries.specs.Sizes as Upper
 use Rattle.entries.specs.Stored.{entry}
 use Rattle.entries.specs.Entries.{entryAt, wrote}
+use Rattle.entries.specs.Folded.{valueOf}
 use Rattle.table.specs.Halves.{bytes, low, high, cellsOf, isTable}
-use Rattle.table.specs.Answers.{Out, refused, taken, check, named}
+use Rattle.table.specs.Answers.{Out, taken, check, named}
 
 -- 5: "bib above 999"
 abbrev pub badBib : ℕ → Bool
 badBib bib = not (ltb bib 1000)
 
--- the updates of one bib among some numbers, in their order
-abbrev pub ofBib : List ℕ → ℕ → List ℕ → List Update
-ofBib t bib [] = []
-ofBib t bib (n ∷ ns) =
-    cond (eqb (entryAt t n .bib) bib) (record { kind = entryAt t n .kind; v = entryAt t n .v } ∷ ofBib t bib ns) (ofBib t bib ns)
-
 -- the value of a bib after the updates visible at revision n
 unfoldable pub valueAt : List ℕ → ℕ → ℕ → ℕ
-valueAt t n bib = applied (ofBib (high t) bib (order (cellsOf t) n)) freshValue
+valueAt t n bib = valueOf (entryAt (high t)) bib (order (cellsOf t) n)
 
 -- "Fresh: 1 (length only)"
 unfoldable pub freshOut : List ℕ → Out

@@ -1,19 +1,18 @@
 -- A table that stands for a plain day: its lower half by the steps taken, its upper half by the entries noted.
-use Prim.Native.Nat.{ℕ, _<_, _+_}
-use mathlib.Core.Bool.{Bool, true, false, not, _&&_}
-use mathlib.Core.Path.{_≡_, refl, sym, _∙_, ap, subst}
+use Prim.Native.Nat.{ℕ, _<_}
+use mathlib.Core.Bool.{true}
+use mathlib.Core.Path.{_≡_, refl, sym, _∙_, ap}
 use mathlib.Core.List.{List, [], _∷_, _++_}
 use native.Mathlib.Omega.{arith}
-use lib.Dec.{eqb}
-use lib.ListN.{length, length-append, length-drop, replicate}
+use lib.ListN.{length, length-append, length-drop}
 use borrow.Author.Tests.{eq-eqb}
 use Rattle.diagram.specs.Day.{fresh}
-use Rattle.diagram.specs.Steps.{Step, Accepted, accepted, after, run, runFrom}
+use Rattle.diagram.specs.Steps.{Step, Accepted, accepted, after, run}
 use Rattle.diagram.proofs.Order.Runs.{accepted-both, run-step}
 use Rattle.cells.specs.Sizes as Lower
 use Rattle.entries.specs.Sizes as Upper
 use Rattle.entries.specs.Entries.{entryAt}
-use Rattle.plain.specs.Record.{PlainDay, freshDay}
+use Rattle.plain.specs.Record.{PlainDay}
 use Rattle.table.specs.Halves.{bytes, low, high, cellsOf, isTable}
 use Rattle.table.proofs.Halves.{low-of, high-of}
 use Rattle.consistency.specs.Reached.{bytesAfter, bytesFrom, stepBytes}

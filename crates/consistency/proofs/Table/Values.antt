@@ -1,9 +1,9 @@
 -- A revision that a number means, on the table and on the day: what it shows, and the value of a bib on it.
 use Prim.Native.Nat.{ℕ, _<_}
 use mathlib.Core.Bool.{false}
-use mathlib.Core.Path.{_≡_, refl, sym, _∙_, ap, subst}
+use mathlib.Core.Path.{_≡_, refl, sym, _∙_, ap}
 use mathlib.Core.Option.{none, some}
-use mathlib.Core.List.{List, [], _∷_, _++_, append-nil, List·Memᴰ·head, List·Memᴰ·tail}
+use mathlib.Core.List.{List, [], _∷_, append-nil}
 use lib.ListN.{length}
 use Rattle.lists.specs.Lists.{_∈_}
 use Rattle.updates.specs.Applied.{applied, freshValue}
@@ -14,7 +14,9 @@ use Rattle.diagram.specs.Steps.{Event, after}
 use Rattle.diagram.proofs.Graph.Tables.{tabulate-newest}
 use Rattle.diagram.proofs.Order.Runs.{fine-run}
 use Rattle.cells.specs.Order.{order}
+use Rattle.entries.specs.declared.entry.Entry as Stored
 use Rattle.entries.specs.Entries.{entryAt}
+use Rattle.entries.specs.Folded as Folded
 use Rattle.plain.specs.Calls.{Entry}
 use Rattle.plain.specs.Record as Plain
 use Rattle.plain.specs.Record.{PlainDay, linesOf, pathResult}
@@ -25,10 +27,10 @@ use Rattle.table.specs.Calls as Table
 use Rattle.consistency.specs.Table.{asEntered}
 use Rattle.consistency.proofs.Table.Stands.{Stands, numbers-are}
 
--- the updates of a bib, from the bytes and from what was entered
-ofBib-is : (t : List ℕ) (bib : ℕ) (ns : List ℕ) → Table.ofBib t bib ns ≡ Plain.ofBib (λ n. asEntered (entryAt t n)) bib ns
-ofBib-is t bib [] = refl
-ofBib-is t bib (n ∷ ns) = rw (ofBib-is t bib ns)
+-- the updates of a bib, among the entries as they are stored and as they were entered
+ofBib-is : (f : ℕ → Stored.Entry) (bib : ℕ) (ns : List ℕ) → Folded.ofBib f bib ns ≡ Plain.ofBib (λ n. asEntered (f n)) bib ns
+ofBib-is f bib [] = refl
+ofBib-is f bib (n ∷ ns) = rw (ofBib-is f bib ns)
 
 module _ (p : PlainDay) (t : List ℕ) (S : Stands p t) (n r : ℕ) (m : meant (p .day) n ≡ some r) (o : p .day .joined r ≡ false) where
   pub same-order : order (cellsOf t) n ≡ view (p .day .diagram) (p .day .terminal r)
@@ -46,7 +48,7 @@ module _ (p : PlainDay) (t : List ℕ) (S : Stands p t) (n r : ℕ) (m : meant (
   same-value c bib =
       let seen : view (event (p .day .terminal r) c none ∷ p .day .diagram) (length (p .day .diagram)) ≡ view (p .day .diagram) (p .day .terminal r)
       = tabulate-newest viewStep [] (event (p .day .terminal r) c none) (p .day .diagram) ∙ append-nil _ in
-      ap (λ us. applied us freshValue) (ap (Table.ofBib (high t) bib) same-order ∙ ofBib-is (high t) bib (view (p .day .diagram) (p .day .terminal r)) ∙ ofBib-same _ (p .entries) bib (view (p .day .diagram) (p .day .terminal r)) entries-same ∙ ap (Plain.ofBib (p .entries) bib) (sym seen))
+      ap (λ us. applied us freshValue) (ap (Folded.ofBib (entryAt (high t)) bib) same-order ∙ ofBib-is (entryAt (high t)) bib (view (p .day .diagram) (p .day .terminal r)) ∙ ofBib-same _ (p .entries) bib (view (p .day .diagram) (p .day .terminal r)) entries-same ∙ ap (Plain.ofBib (p .entries) bib) (sym seen))
 
   pub same-lines : linesOf (λ k. asEntered (entryAt (high t) k)) (order (cellsOf t) n) ≡ linesOf (p .entries) (view (p .day .diagram) (p .day .terminal r))
   same-lines = ap (linesOf (λ k. asEntered (entryAt (high t) k))) same-order ∙ linesOf-same _ (p .entries) (view (p .day .diagram) (p .day .terminal r)) entries-same
