@@ -1,4 +1,4 @@
--- A day on the cells, computed: forks of forks, updates on each, joins, and the checks after them.
+-- Steps on the cells without their checks, computed: forks of forks, updates on each, joins, and what the checks say after them.
 use mathlib.Core.Bool.{true, false}
 use mathlib.Core.Path.{_≡_, refl}
 use mathlib.Core.List.{[], _∷_}

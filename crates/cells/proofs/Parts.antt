@@ -147,9 +147,6 @@ holds-split d h = record { eq = sym (glue-split d h); sized = split-sized d h }
 pub split-is : {d : List ℕ} {p : Parts} → Holds d p → split d ≡ p
 split-is {d} {p} h = ap split (h .eq) ∙ split-glue p (h .sized)
 
-pub holds-length : {d : List ℕ} {p : Parts} → Holds d p → length d ≡ bytes
-holds-length {d} {p} h = ap length (h .eq) ∙ glue-length p (h .sized)
-
 -- a step g on the parts
 pub holds-step : {d d′ : List ℕ} {p : Parts} (g : Parts → Parts) → Holds d p → d′ ≡ glue (g (split d)) → Sized (g p) → Holds d′ (g p)
 holds-step g h e s = record { eq = e ∙ ap (λ q. glue (g q)) (split-is h); sized = s }

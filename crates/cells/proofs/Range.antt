@@ -115,7 +115,3 @@ kept-in p h =
 
     words-below : (n limit : ℕ) (t : List ℕ) → ((i : ℕ) → i < n → word t i < limit) → wordsBelow n limit t ≡ true
     words-below n limit t f = every-all (λ j. ltb (word t j) limit) n (λ i l. lt-ltb (word t i) limit (f i l))
-
-pub fresh-in : partsIn freshParts ≡ true
-unfolding every word signature size
-fresh-in = refl

@@ -42,9 +42,6 @@ getD-tab f (suc n) i d h =
     (λ l. List·getD-append (tab f n) (f n ∷ []) d i (rw length-tab l) ∙ getD-tab f n i d l)
     (λ e. rw e (getD-at (tab f n) (f n) [] d n (length-tab f n)))
 
-pub tab-out : {A : Type 0} (f : ℕ → A) (n i : ℕ) (d : A) → n ≤ i → getD (tab f n) i d ≡ d
-tab-out f n i d h = let l = length-tab f n in List·getD-eq-default (tab f n) d {n = i} (omega arith)
-
 pub tab-same : {A : Type 0} (f g : ℕ → A) (n : ℕ) → ((i : ℕ) → i < n → f i ≡ g i) → tab f n ≡ tab g n
 unfolding tab
 tab-same f g zero h = refl
@@ -66,15 +63,6 @@ set-tab f n a v h =
     (λ e. rw (e, eqb-true i a e) (getD-set-same (tab f n) a v v (omega arith)))
     (λ e. rw e (getD-set-other (tab f n) a i v v (eqb-false i a e) ∙ getD-tab f n i v (omega arith))))))
 
-pub map-tab : {A B : Type 0} (g : A → B) (f : ℕ → A) (n : ℕ) → map g (tab f n) ≡ tab (λ i. g (f i)) n
-unfolding tab
-map-tab g f zero = refl
-map-tab g f (suc n) = map-append g (tab f n) (f n ∷ []) ∙ ap (λ z. z ++ (g (f n) ∷ [])) (map-tab g f n)
-  where
-    map-append : {A B : Type 0} (g : A → B) (a b : List A) → map g (a ++ b) ≡ map g a ++ map g b
-    map-append g [] b = refl
-    map-append g (x ∷ a) b = ap (λ z. g x ∷ z) (map-append g a b)
-
 -- a window of t filled from its front: k values stored from a on
 abbrev pub filled : {A : Type 0} → List A → ℕ → (ℕ → A) → ℕ → List A
 filled t a f k = take a t ++ (tab f k ++ drop (a + k) t)
@@ -94,12 +82,6 @@ filled-more t a f k v h e =
     ap (λ z. set z (a + k) v) (sym (append-assoc (take a t) (tab f k) (drop (a + k) t)) ∙ ap (λ z. front ++ z) (drop-cons t (a + k) v h))
     ∙ set-at front (getD t (a + k) v) (drop (suc (a + k)) t) v (a + k) n
     ∙ rw (next, add-one, e) (simp append-assoc)
-
-pub filled-length : {A : Type 0} (t : List A) (a : ℕ) (f : ℕ → A) (k : ℕ) → a + k ≤ length t → length (filled t a f k) ≡ length t
-filled-length t a f k h =
-    let l = length-take-le a t (omega arith) in
-    let m = length-tab f k in
-    rw (length-append, length-append, l, m, length-drop) (omega arith)
 
 -- one element changed
 pub getD-changed : {A : Type 0} (l : List A) (i : ℕ) (v d : A) (x : ℕ) → i < length l → getD (set l i v) x d ≡ changed (λ y. getD l y d) i v x

@@ -1,5 +1,5 @@
 -- The order of a revision: the updates visible at its terminal, as 01 lists them: "in the order in which the effects apply on
--- the way from the root". Total on every content: at most 4,096 entries of at most 64 lists of at most 4,096.
+-- the way from the root". Total on every content; in range, at most 4,096 entries of at most 64 lists of at most 4,096.
 use Prim.Native.Nat.{ℕ}
 use mathlib.Core.Bool.{Bool, cond}
 use mathlib.Core.List.{List, _++_}

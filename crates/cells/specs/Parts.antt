@@ -1,4 +1,4 @@
--- The bytes as parts in a row: docs/CELLS.md, "The parts". Nothing else knows where a part lies.
+-- The bytes as parts in a row: docs/CELLS.md, "The parts". No other definition says where a part lies.
 use Prim.Native.Nat.{ℕ, zero, suc, _+_}
 use mathlib.Core.Path.{_≡_}
 use mathlib.Core.List.{List, [], _∷_, _++_}

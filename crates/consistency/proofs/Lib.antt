@@ -1,4 +1,4 @@
--- From a fresh table, through every run of accepted steps, cells and bytes agree with the day.
+-- From a fresh table, through every run of accepted steps, cells and bytes agree with the day; and through every list of calls.
 pub mod Cells
 pub mod Bytes
 pub mod Follow

@@ -1,5 +1,5 @@
 -- What is claimed of whole days.
--- A table that is made fresh and then used by accepted steps alone agrees with the plain day of revisions.
+-- A table that is made fresh agrees with the plain day: of revisions, through accepted steps; and of calls, whatever is called.
 pub mod Reached
 pub mod Follow
 pub mod Numbers

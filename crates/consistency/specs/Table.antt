@@ -1,4 +1,4 @@
--- The table agrees with the plain day: from any buffer made fresh, through every list of calls with any arguments, refused
+-- The table agrees with the plain day: any buffer of the right length is made fresh, and from then on, through every list of calls with any arguments, refused
 -- ones included, every code, every value and what every list shows is the plain day's.
 use Prim.Native.Nat.{ℕ}
 use mathlib.Core.Path.{_≡_}
@@ -33,4 +33,4 @@ answersOn t [] = []
 answersOn t (c ∷ cs) = answerOf (outOf t c) ∷ answersOn (outOf t c .table) cs
 
 abbrev pub TableFollowsDays : Type 0
-TableFollowsDays = (t : List ℕ) → length t ≡ bytes → (cs : List Call) → answersOn (freshOut t .table) cs ≡ answers cs
+TableFollowsDays = (t : List ℕ) → length t ≡ bytes → (freshOut t .code ≡ 0) × (freshOut t .value ≡ 0) × ((cs : List Call) → answersOn (freshOut t .table) cs ≡ answers cs)

@@ -1,4 +1,4 @@
--- The loops over the layout: a firstPlace sought, a gap closed, a gap opened.
+-- The loops over the layout: a place sought, a gap closed, a gap opened.
 use Prim.Native.Nat.{ℕ, suc, _+_, _-_, _<_, _≤_}
 use mathlib.Core.Path.{_≡_, refl, sym, ap, _∙_}
 use mathlib.Core.List.{List, [], _∷_, _++_, append-assoc, append-nil}
@@ -104,12 +104,6 @@ pub moved-start : (n : ℕ) (t : List ℕ) → length t ≡ n + 1 → t ≡ move
 moved-start n t h =
     let z : n - n ≡ 0 = omega arith in
     sym (rw (take-all (n + 1) t (omega arith), z) (append-nil t))
-
-pub moved-length : (n j : ℕ) (t : List ℕ) → length t ≡ n + 1 → j ≤ n → length (moved n j t) ≡ n + 1
-moved-length n j t h l =
-    let a = length-take-le (j + 1) t (omega arith) in
-    let b : length (take (n - j) (drop j t)) ≡ n - j = length-take-le (n - j) (drop j t) (rw length-drop (omega arith)) in
-    rw (length-append, a, b) (omega arith)
 
 pub moved-more : (n j : ℕ) (t : List ℕ) (v : ℕ) → length t ≡ n + 1 → j < n → v ≡ getD (moved n (j + 1) t) j 0 → set (moved n (j + 1) t) (j + 1) v ≡ moved n j t
 moved-more n j t v h l e =

@@ -5,7 +5,7 @@ ghost use lib.ListN.{replicate};
 ghost use Rattle.cells.specs.Sizes.{revisions, clients, closed};
 ghost use Rattle.cells.specs.Range.{signature};
 
-// The table: its sizes, and the parts of a fresh day that are not 0.
+// The table: its sizes, and the parts of a fresh day that are rows or lists and not 0.
 pub struct Table;
 
 // A revision number: 0 to 63.

@@ -1,4 +1,4 @@
--- Each call, check by check in 01's order: 01, "Codes of the desk". `list` is here as far as its code and value go.
+-- Each call, check by check in 01's order: 01, "Codes of the desk". Of a list: its code, value and the numbers shown.
 use Prim.Native.Nat.{ℕ, _*_}
 use mathlib.Core.Bool.{Bool, not, _||_}
 use mathlib.Core.List.{List, _++_}
@@ -23,7 +23,7 @@ badBib bib = not (ltb bib 1000)
 unfoldable pub valueAt : List ℕ → ℕ → ℕ → ℕ
 valueAt t n bib = valueOf (entryAt (high t)) bib (order (cellsOf t) n)
 
--- "Fresh: 1 (length only)"
+-- fresh: of 1, the length only
 unfoldable pub freshOut : List ℕ → Out
 freshOut t = check (not (eqb (length t) bytes)) 1 t (taken (freshBytes ++ replicate Upper.bytes 0) 0)
 

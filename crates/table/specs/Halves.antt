@@ -22,6 +22,6 @@ high t = drop Lower.bytes t
 abbrev pub cellsOf : List ℕ → Cells
 cellsOf t = cells (low t)
 
--- code 1: "length isn't 65,536 or a cell is out of its range"; the entries have every byte in range
+-- code 1: "buffer length isn't 65,536, or a cell is out of its range"; the entries have every byte in range
 unfoldable pub isTable : List ℕ → Bool
 isTable t = eqb (length t) bytes && inRange (low t)

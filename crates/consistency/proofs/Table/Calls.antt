@@ -231,5 +231,6 @@ answers-from (c ∷ cs) p t S =
     λ i. first i ∷ rest i
 
 pub table-follows : TableFollowsDays
-unfolding answers
-table-follows t h cs = answers-from cs freshDay (freshOut t .table) (fresh-stands t h)
+unfolding answers freshOut
+table-follows t h =
+    (rw (eq-eqb (length t) bytes h), rw (eq-eqb (length t) bytes h), λ cs. answers-from cs freshDay (freshOut t .table) (fresh-stands t h))
