@@ -90,10 +90,10 @@ fn base_in(d: &[u8], r: Revision, x: Revision) -> usize
     0
 }
 
-// The revision at a place of the layout.
+// The revision at a place of the layout: a number in range, as the range check found.
 fn at_place(d: &[u8], i: usize) -> Revision
-    requires { ⌜ (length (now d) ≡ bytes) × (i < revisions) ⌝ }
-    ensures { λ x. ⌜ x .0 ≡ byte (cells (now (d .entry)) .layout) i ⌝ }
+    requires { ⌜ (length (now d) ≡ bytes) × (inRange (now d) ≡ true) × (i < revisions) ⌝ }
+    ensures { λ x. ⌜ (x .0 ≡ byte (cells (now (d .entry)) .layout) i) × (x .0 < revisions) ⌝ }
 {
     Revision(read::place(d, i) as u8)
 }

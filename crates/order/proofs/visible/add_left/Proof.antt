@@ -36,7 +36,7 @@ loop-holds c =
 at-place-requires : tie.Need-at-place-requires Inv-loop μ-loop
 at-place-requires c κs =
     let start = c .before .before .before .before .before in
-    let r = ranges (start .args .d .now) (start .pre .1) .most-out in (start .pre .0, omega arith)
+    let r = ranges (start .args .d .now) (start .pre .1) .most-out in (start .pre .0, start .pre .1, omega arith)
 
 add-some-requires : tie.Need-add-some-requires Inv-loop μ-loop
 add-some-requires c κs =
@@ -47,7 +47,7 @@ add-some-requires c κs =
     let l = at-loop .loop in
     let r = ranges (s .d .now) (start .pre .1) in
     let o = r .most-out in
-    (start .pre .0, start .pre .1, start .pre .2, rw (at-at-place .at-place .ensures) (r .layout (l .i - 1) (omega arith)), l .inv .3, l .inv .2)
+    (start .pre .0, start .pre .1, start .pre .2, at-at-place .at-place .ensures .1, l .inv .3, l .inv .2)
 
 loop-again : tie.Need-loop-again Inv-loop μ-loop
 loop-again c =
@@ -64,7 +64,7 @@ loop-again c =
     let e : picks (at-base-in .base-in .result) (marked k (s .r .0)) (own k (at-at-place .at-place .result .0)) ≡ inherited k (s .r .0) (at-at-place .at-place .result .0) = ap (λ b. picks b (marked k (s .r .0)) (own k (at-at-place .at-place .result .0))) (at-base-in .base-in .ensures) in
     let a = added-as e (at-add-some .add-some .ensures) in
     let w = added-bounds (l .out) (l .inv .3) (l .m) _ _ _ (l .inv .2) a in
-    let x = at-at-place .at-place .ensures ∙ sym (outs-at k (l .i - 1) (omega arith)) in
+    let x = at-at-place .at-place .ensures .0 ∙ sym (outs-at k (l .i - 1) (omega arith)) in
     (omega arith, inr (omega arith), w .1, w .2, added-as (block-more (inherited k (s .r .0)) (outs k) (l .i) (at-at-place .at-place .result .0) (omega arith) (omega arith) x) (added-then (s .out .now) (start .pre .4) 0 _ (l .out) (l .m) _ _ _ (omega arith) (l .inv .4) a))
 
 returns : tie.Need-returns Inv-loop μ-loop

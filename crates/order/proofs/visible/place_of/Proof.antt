@@ -33,7 +33,7 @@ returns c =
     let k = cells (s .d .now) in
     let l = at-loop .loop in
     let n = outs-length (s .d .now) (start .pre .0) (ranges (s .d .now) (start .pre .1) .most-out) in
-    (omega arith, sought-found (s .r .0) (outs k) (l .j) (omega arith) (outs-at k (l .j) (omega arith) ∙ sym (at-at-place .at-place .ensures) ∙ c .if1 .taken) (l .inv .3))
+    (omega arith, sought-found (s .r .0) (outs k) (l .j) (omega arith) (outs-at k (l .j) (omega arith) ∙ sym (at-at-place .at-place .ensures .0) ∙ c .if1 .taken) (l .inv .3))
 
 loop-again : tie.Need-loop-again Inv-loop μ-loop
 loop-again c =
@@ -44,7 +44,7 @@ loop-again c =
     let k = cells (s .d .now) in
     let l = at-loop .loop in
     let n = outs-length (s .d .now) (start .pre .0) (ranges (s .d .now) (start .pre .1) .most-out) in
-    (omega arith, l .inv .1, l .inv .2, sought-more (s .r .0) (outs k) (l .j) (omega arith) (λ e. c .if1 .left (at-at-place .at-place .ensures ∙ sym (outs-at k (l .j) (omega arith)) ∙ e)) (l .inv .3))
+    (omega arith, l .inv .1, l .inv .2, sought-more (s .r .0) (outs k) (l .j) (omega arith) (λ e. c .if1 .left (at-at-place .at-place .ensures .0 ∙ sym (outs-at k (l .j) (omega arith)) ∙ e)) (l .inv .3))
 
 returns-2 : tie.Need-returns-2 Inv-loop μ-loop
 returns-2 c =
