@@ -1,7 +1,7 @@
 -- An entry's six bytes decode to it.
 use Prim.Native.Nat.{ℕ, _+_, _*_, _-_, _/_, _%_, _<_, _≤_}
-use mathlib.Core.Path.{_≡_, refl, _∙_, ap}
-use mathlib.Core.List.{List, [], _∷_, append-nil}
+use mathlib.Core.Path.{_≡_, refl, _∙_}
+use mathlib.Core.List.{List, [], _∷_}
 use native.Mathlib.Omega.{arith}
 use lib.ListN.{length, set, drop-of-length-le}
 use lib.Seq.{sets-eq}
@@ -10,7 +10,7 @@ use Rattle.updates.specs.declared.kind.Kind.{Kind}
 use Rattle.updates.specs.declared.kind.Kind.the-variants.{Time, Earliest, Penalty, Strike}
 use Rattle.entries.specs.declared.entry.Entry.{Entry}
 use Rattle.entries.specs.Sizes.{bibs}
-use Rattle.entries.specs.Stored.{mixed, stored, kindAfter, decoded}
+use Rattle.entries.specs.Stored.{stored, kindAfter, decoded}
 
 pub stored-length : (e : Entry) → length (stored e) ≡ 6
 unfolding stored

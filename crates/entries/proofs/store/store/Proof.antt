@@ -1,5 +1,4 @@
 -- `entries::store::store` meets its contract: six bytes written one by one. Assumes nothing.
-use mathlib.Core.Path.{_∙_, ap}
 use native.Mathlib.Omega.{arith}
 use lib.ListN.{length-set}
 use borrow.Author.Needs.{needs}
