@@ -18,29 +18,32 @@ use Rattle.entries.specs.Entries.{entryAt, wrote}
 use Rattle.entries.proofs.Replaced.{replaced-length, replaced-here, replaced-left, replaced-right}
 use Rattle.entries.proofs.Stored.{stored-length, decoded-stored}
 
-module _ (t : List ℕ) (n : ℕ) (e : Entry) (h : length t ≡ bytes) (l : n < updates) where
-  room : 6 * n + 6 ≤ length t
-  room = omega arith
+room : (t : List ℕ) (n : ℕ) → length t ≡ bytes → n < updates → 6 * n + 6 ≤ length t
+room t n h l = omega arith
 
+module _ (t : List ℕ) (n : ℕ) (e : Entry) (h : length t ≡ bytes) (l : n < updates) where
   pub wrote-length : length (wrote t n e) ≡ bytes
   unfolding wrote
-  wrote-length = replaced-length t (stored e) (6 * n) 6 room (stored-length e) ∙ h
+  wrote-length = replaced-length t (stored e) (6 * n) 6 (room t n h l) (stored-length e) ∙ h
 
   pub entry-same : e .bib < bibs → entryAt (wrote t n e) n ≡ e
   unfolding entryAt wrote
-  entry-same b = ap decoded (replaced-here t (stored e) (6 * n) 6 room (stored-length e)) ∙ decoded-stored e b
+  entry-same b = ap decoded (replaced-here t (stored e) (6 * n) 6 (room t n h l) (stored-length e)) ∙ decoded-stored e b
 
-  pub entry-other : (m : ℕ) → m ≢ n → entryAt (wrote t n e) m ≡ entryAt t m
+module _ (t : List ℕ) (n : ℕ) (e : Entry) (m : ℕ) (h : length t ≡ bytes) (l : n < updates) where
+  pub entry-other : m ≢ n → entryAt (wrote t n e) m ≡ entryAt t m
   unfolding entryAt wrote
-  entry-other m o =
+  entry-other o =
       cases (ltb m n)
-      (λ q. let g = ltb-true m n q in ap decoded (replaced-left t (stored e) (6 * n) 6 room (stored-length e) (6 * m) 6 (omega arith)))
-      (λ q. let g = ltb-false m n q in let r : n < m = omega (arith, o) in ap (λ z. decoded (take 6 z)) (replaced-right t (stored e) (6 * n) 6 room (stored-length e) (6 * m) (omega arith)))
+      (λ q. let g = ltb-true m n q in ap decoded (replaced-left t (stored e) (6 * n) 6 (room t n h l) (stored-length e) (6 * m) 6 (omega arith)))
+      (λ q. let g = ltb-false m n q in let r : n < m = omega (arith, o) in ap (λ z. decoded (take 6 z)) (replaced-right t (stored e) (6 * n) 6 (room t n h l) (stored-length e) (6 * m) (omega arith)))
 
   -- the two as one: the entries are the old ones changed at n
-  pub entry-wrote : (m : ℕ) → e .bib < bibs → entryAt (wrote t n e) m ≡ changed (entryAt t) n e m
-  entry-wrote m b =
-      cases (eqb m n) (λ q. rw (q, eqb-true m n q) (entry-same b)) (λ q. rw q (entry-other m (eqb-false m n q)))
+  pub entry-wrote : e .bib < bibs → entryAt (wrote t n e) m ≡ changed (entryAt t) n e m
+  entry-wrote b =
+      cases (eqb m n)
+      (λ q. rw (q, eqb-true m n q) (entry-same t n e h l b))
+      (λ q. rw q (entry-other (eqb-false m n q)))
 
 -- past the last byte there is the entry of a fresh day
 pub entry-past : (t : List ℕ) (n : ℕ) → length t ≡ bytes → updates ≤ n → entryAt t n ≡ entry Time 0 0 0
