@@ -1,4 +1,6 @@
--- Laws that belong to no one function: an entry read after a write, a value one number further.
+-- Laws that belong to no one function: an entry read after a write, a value one number further; and examples.
+pub mod Replaced
 pub mod Stored
 pub mod Entries
 pub mod Folded
+pub mod Examples

@@ -1,4 +1,4 @@
--- The value of one bib: 01, "A query's answer". The updates of the bib among some numbers, applied in their order.
+-- The value of one bib: the updates of the bib among some numbers, "applied to the fresh values", in their order.
 use Prim.Native.Nat.{ℕ}
 use mathlib.Core.Bool.{cond}
 use mathlib.Core.List.{List, [], _∷_}

@@ -1,17 +1,18 @@
--- 01, "Sizes of a day": 4,096 updates at most; each is kept in six bytes.
+-- How many entries there are, and the ranges of their fields: 01, "Sizes of a day". No range depends on the day.
 use Prim.Native.Nat.{ℕ}
 
 -- update numbers are 0 to 4,095
 abbrev pub updates : ℕ
 updates = 4096
 
--- the bytes of the table that keep the entries
+-- the bytes of the table that keep the entries, six each
 abbrev pub bytes : ℕ
 bytes = 24576
 
--- client numbers are 0 to 15, bibs 0 to 1,023
+-- client numbers are 0 to 15 ("tablets 0 to 15")
 abbrev pub clients : ℕ
 clients = 16
 
+-- a bib has ten bits, room for "bibs 0 to 999"
 abbrev pub bibs : ℕ
 bibs = 1024
