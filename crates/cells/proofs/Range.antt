@@ -1,20 +1,18 @@
--- What a content in range says of each cell; and that a fresh table is in range.
+-- What a content in range says of each cell, and what puts a content in range.
 use Prim.Native.Nat.{ℕ, _<_, _≤_}
 use mathlib.Core.Bool.{true}
-use mathlib.Core.Path.{_≡_, refl}
+use mathlib.Core.Path.{_≡_}
 use mathlib.Core.List.{List}
 use lib.Dec.{eqb, ltb}
 use borrow.Author.Tests.{eq-eqb, lt-ltb, ltb-true}
 use native.Mathlib.Omega.{arith}
 use Rattle.lists.proofs.Cases.{and-true}
 use Rattle.cells.specs.Sizes.{revisions, clients, updates}
-use Rattle.cells.specs.Tables.{every}
-use Rattle.cells.specs.Parts.{Parts, size, split, statePart, usedPart, lastPart, firstPart, countPart, basePart, layoutPart, queuePart, openedPart, countersPart, signaturePart}
+use Rattle.cells.specs.Parts.{Parts, split, statePart, usedPart, lastPart, firstPart, countPart, basePart, layoutPart, queuePart, openedPart, countersPart, signaturePart}
 use Rattle.cells.specs.Words.{byte, word}
 use Rattle.cells.specs.Cells.{Cells}
 use Rattle.cells.specs.Decode.{decode, cells}
 use Rattle.cells.specs.Range.{bytesBelow, wordsBelow, countersIn, signature, signed, partsIn, inRange}
-use Rattle.cells.specs.Steps.{freshParts}
 use Rattle.cells.proofs.Tables.{every-all, every-at}
 
 -- the ranges that the steps rely on

@@ -1,14 +1,14 @@
 -- Tables of a function's values: their entries, and what a loop that fills one from the front has done at i. Tests over numbers.
-use Prim.Native.Nat.{ℕ, zero, suc, _+_, _<_, _≤_}
+use Prim.Native.Nat.{ℕ, zero, suc, _+_, _<_}
 use mathlib.Core.Bool.{Bool, true, false, _&&_}
 use mathlib.Core.Path.{_≡_, refl, sym, ap, _∙_}
 use mathlib.Core.Logic.{_⊎_, inl, inr}
-use mathlib.Core.List.{List, [], _∷_, _++_, append-assoc, map}
+use mathlib.Core.List.{List, [], _∷_, _++_, append-assoc}
 use native.Mathlib.Nat.{add-zero, not-suc-le-zero}
 use native.Mathlib.Numerals.{add-one}
 use native.Mathlib.Omega.{arith}
 use lib.Dec.{eqb}
-use lib.ListN.{length, set, take, drop, getD, length-append, length-drop, length-set, take-append-drop, List·getD-append, List·getD-eq-default}
+use lib.ListN.{length, set, take, drop, getD, length-append, length-set, take-append-drop, List·getD-append}
 use lib.Seq.{drop-cons, length-take-le, set-at, take-suc-set, take-all, getD-at, ext-getD, getD-set-same, getD-set-other}
 use borrow.Author.Tests.{eqb-true, eqb-false}
 use Rattle.lists.specs.Lists.{changed}

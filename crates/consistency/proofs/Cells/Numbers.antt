@@ -4,10 +4,8 @@ use mathlib.Core.Path.{_∙_, sym, subst}
 use lib.Dec.{ltb}
 use Rattle.lists.proofs.Cases.{cases}
 use Rattle.diagram.specs.Day.{Day, meant}
-use Rattle.diagram.specs.Checks
 use Rattle.diagram.proofs.Days.Accepting.{meant-low, meant-same}
 use Rattle.cells.specs.Cells.{Cells}
-use Rattle.cells.specs.Checks as Asked
 use Rattle.consistency.specs.Follow.{CellsFollow}
 use Rattle.consistency.specs.Numbers.{Number, NumbersFollow}
 
