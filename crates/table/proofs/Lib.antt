@@ -1,2 +1,3 @@
--- Laws of the two halves of the table.
+-- Laws of the two halves of the table, of the checks, and of the call query.
 pub mod Halves
+pub mod Checks
