@@ -17,10 +17,10 @@ use Rattle.entries.specs.Folded.{valueOf}
 use Rattle.cells.specs.Range.{inRange}
 use Rattle.cells.specs.Sizes.{clients, revisions}
 use Rattle.cells.specs.Steps.{queryBytes}
-use Rattle.cells.specs.Checks.{isClient, givenOut, joined, openElsewhere, busyByOther, stale}
+use Rattle.cells.specs.Checks.{isClient, givenOut, joined, openElsewhere, busyByOther, stale, logFull}
 use Rattle.fields.specs.declared.table.Client.{Client}
 use Rattle.fields.specs.declared.table.Revision.{Revision}
-use Rattle.revisions.specs.Checks.{rangeCheck, clientCheck, givenCheck, joinedCheck, openCheck, otherUseCheck, staleCheck}
+use Rattle.revisions.specs.Checks.{rangeCheck, clientCheck, givenCheck, joinedCheck, openCheck, otherUseCheck, staleCheck, logCheck}
 use Rattle.revisions.specs.declared.checks.RangeCheck.the-variants as range
 use Rattle.revisions.specs.declared.checks.ClientCheck.the-variants as client
 use Rattle.revisions.specs.declared.checks.GivenCheck.the-variants as given
@@ -28,6 +28,7 @@ use Rattle.revisions.specs.declared.checks.JoinedCheck.the-variants as out
 use Rattle.revisions.specs.declared.checks.OpenCheck.the-variants as transaction
 use Rattle.revisions.specs.declared.checks.UseCheck.the-variants as revision
 use Rattle.revisions.specs.declared.checks.StaleCheck.the-variants as event
+use Rattle.revisions.specs.declared.checks.LogCheck.the-variants as log
 use Rattle.table.specs.Halves.{bytes, low, high, cellsOf, isTable}
 use Rattle.table.specs.Answers.{Out, refused, taken, check}
 use Rattle.table.specs.Calls.{badBib, queryOut, valueAt}
@@ -51,7 +52,7 @@ both true true e = (refl, refl)
 both true false e = absurd (let z : _≡_ {A = ℕ} 0 1 = cc in omega arith)
 both false b e = absurd (let z : _≡_ {A = ℕ} 0 1 = cc in omega arith)
 
-not-false : (b : Bool) → not b ≡ false → b ≡ true
+pub not-false : (b : Bool) → not b ≡ false → b ≡ true
 not-false true e = refl
 not-false false e = absurd (let z : _≡_ {A = ℕ} 0 1 = cc in omega arith)
 
@@ -119,6 +120,14 @@ pub bib-strange : (n : ℕ) → bibCheck n ≡ bib.Strange → badBib n ≡ true
 unfolding bibCheck
 bib-strange n e = held (badBib n) _ _ _ (λ d. let z : _≡_ {A = ℕ} 0 1 = cc in omega arith) e .0
 
+pub has-room : (d : List ℕ) → logCheck d ≡ log.Room → logFull (cells d) ≡ false
+unfolding logCheck
+has-room d e = failed (logFull (cells d)) _ _ _ (λ d. let z : _≡_ {A = ℕ} 0 1 = cc in omega arith) e .0
+
+pub is-full : (d : List ℕ) → logCheck d ≡ log.Full → logFull (cells d) ≡ true
+unfolding logCheck
+is-full d e = held (logFull (cells d)) _ _ _ (λ d. let z : _≡_ {A = ℕ} 0 1 = cc in omega arith) e .0
+
 module _ (d : List ℕ) (n : ℕ) (y : Revision) (ey : record { 0 = n } ≡ y) where
   pub is-out : joinedCheck d (y .0) ≡ out.Out → joined (cells d) n ≡ false
   unfolding joinedCheck
@@ -129,7 +138,7 @@ module _ (d : List ℕ) (n : ℕ) (y : Revision) (ey : record { 0 = n } ≡ y) w
   is-joined e = held (joined (cells d) n) _ _ _ (λ d. let z : _≡_ {A = ℕ} 0 1 = cc in omega arith) (ap (λ (r : Revision). joinedCheck d (r .0)) ey ∙ e) .0
 
   module _ (c : ℕ) (x : Client) (ex : record { 0 = c } ≡ x) where
-    same : {A : Type 0} (f : ℕ → ℕ → A) → f c n ≡ f (x .0) (y .0)
+    pub same : {A : Type 0} (f : ℕ → ℕ → A) → f c n ≡ f (x .0) (y .0)
     same f = ap (λ (k : Client). f (k .0) n) ex ∙ ap (λ (r : Revision). f (x .0) (r .0)) ey
 
     pub clear : openCheck d (x .0) (y .0) ≡ transaction.Clear → openElsewhere (cells d) c n ≡ false
@@ -157,11 +166,11 @@ module _ (d : List ℕ) (n : ℕ) (y : Revision) (ey : record { 0 = n } ≡ y) w
     is-stale e = held (stale (cells d) c n) _ _ _ (λ d. let z : _≡_ {A = ℕ} 0 1 = cc in omega arith) (same (staleCheck d) ∙ e) .0
 
 -- the checks in a row: past one that does not apply, and at one that does
-pub past : (b : Bool) (k : ℕ) (rest x : QueryCheck) → b ≡ false → x ≡ rest → x ≡ stop b k rest
-past b k rest x e h = rw e h
+pub past : {A : Type 0} (b : Bool) (r rest x : A) → b ≡ false → x ≡ rest → x ≡ cond b r rest
+past b r rest x e h = rw e h
 
-pub at : (b : Bool) (k : ℕ) (rest : QueryCheck) → b ≡ true → query.Refused k ≡ stop b k rest
-at b k rest e = rw e
+pub at : {A : Type 0} (b : Bool) (r rest : A) → b ≡ true → r ≡ cond b r rest
+at b r rest e = rw e
 
 pub same-pair : (x : Client) (y : Revision) (c n : ℕ) → record { 0 = c } ≡ x → record { 0 = n } ≡ y
     → query.Allowed x y ≡ query.Allowed (record { 0 = c }) (record { 0 = n })
@@ -236,7 +245,7 @@ fits n a b l e h = (rw (h, length-append) (omega arith), rw h (take-at a b n (sy
 pub to-end : (a k : ℕ) (t : List ℕ) → length t ≡ a + k → take k (drop a t) ≡ drop a t
 to-end a k t h = take-all k (drop a t) (rw length-drop (omega arith))
 
-high-whole : (t : List ℕ) → length t ≡ bytes → take Upper.bytes (high t) ≡ high t
+pub high-whole : (t : List ℕ) → length t ≡ bytes → take Upper.bytes (high t) ≡ high t
 unfolding high
 high-whole t h = to-end Lower.bytes Upper.bytes t h
 

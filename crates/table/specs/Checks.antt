@@ -1,15 +1,21 @@
--- The answers of the table's own checks, codes 1 and 5, and of all the checks of a query.
+-- The answers of the table's own checks, codes 1 and 5, and of all the checks of a query and of an update.
 use Prim.Native.Nat.{ℕ}
 use mathlib.Core.Bool.{Bool, not, cond}
 use mathlib.Core.List.{List}
 use Rattle.cells.specs.Decode.{cells}
-use Rattle.cells.specs.Checks.{isClient, givenOut, joined, openElsewhere, busyByOther, stale}
+use Rattle.cells.specs.Checks.{isClient, givenOut, joined, openElsewhere, busyByOther, stale, logFull}
 use Rattle.table.specs.Halves.{isTable}
 use Rattle.table.specs.Calls.{badBib}
 use Rattle.table.specs.declared.sound.TableCheck.{TableCheck}
 use Rattle.table.specs.declared.sound.TableCheck.the-variants as table
 use Rattle.table.specs.declared.bib.BibCheck.{BibCheck}
 use Rattle.table.specs.declared.bib.BibCheck.the-variants as bib
+use Rattle.updates.specs.Kinds.{kindCheck}
+use Rattle.updates.specs.declared.kind.Kind.{Kind}
+use Rattle.updates.specs.declared.kind.KindCheck.{KindCheck}
+use Rattle.updates.specs.declared.kind.KindCheck.the-variants as kinds
+use Rattle.table.specs.declared.update.UpdateCheck.{UpdateCheck}
+use Rattle.table.specs.declared.update.UpdateCheck.the-variants as update
 use Rattle.table.specs.declared.query.QueryCheck.{QueryCheck}
 use Rattle.table.specs.declared.query.QueryCheck.the-variants as query
 
@@ -35,3 +41,29 @@ queryCheck d c n bib =
     stop (busyByOther (cells d) c n) 7 (
     stop (stale (cells d) c n) 8 (
     query.Allowed (record { 0 = c }) (record { 0 = n }))))))))
+
+abbrev pub halt : Bool → ℕ → UpdateCheck → UpdateCheck
+halt applies code rest = cond applies (update.Refused code) rest
+
+-- 5 "update kind not 1 to 4"
+unfoldable pub ofKind : KindCheck → (Kind → UpdateCheck) → UpdateCheck
+ofKind kinds.Unknown rest = update.Refused 5
+ofKind (kinds.Known kind) rest = rest kind
+
+-- 6 to 9 of an update
+unfoldable pub lateCheck : List ℕ → ℕ → ℕ → Kind → UpdateCheck
+lateCheck d c n kind =
+    halt (openElsewhere (cells d) c n) 6 (
+    halt (busyByOther (cells d) c n) 7 (
+    halt (stale (cells d) c n) 8 (
+    halt (logFull (cells d)) 9 (
+    update.Allowed (record { 0 = c }) (record { 0 = n }) kind))))
+
+-- 2 to 9 of an update
+unfoldable pub updateCheck : List ℕ → ℕ → ℕ → ℕ → ℕ → UpdateCheck
+updateCheck d c n k bib =
+    halt (not (isClient c)) 2 (
+    halt (not (givenOut (cells d) n)) 3 (
+    halt (joined (cells d) n) 4 (
+    halt (badBib bib) 5 (
+    ofKind (kindCheck k) (lateCheck d c n)))))

@@ -3,3 +3,4 @@ pub mod answer; // answer.rt: what a call answers
 pub mod bib; // bib.rt: the check of a bib
 pub mod query; // query.rt: the call query
 pub mod sound; // sound.rt: the check that the buffer is a table
+pub mod update; // update.rt: the call update
