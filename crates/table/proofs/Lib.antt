@@ -1,2 +1,4 @@
--- Laws of the two halves of the table.
+-- Laws of the two halves of the table, of the checks, and of the calls query and update.
 pub mod Halves
+pub mod Checks
+pub mod Updates

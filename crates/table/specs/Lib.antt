@@ -2,3 +2,4 @@
 pub mod Halves
 pub mod Answers
 pub mod Calls
+pub mod Checks

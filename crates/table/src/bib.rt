@@ -1,0 +1,18 @@
+// Code 5 of a bib.
+ghost use mathlib.Core.Path.{_≡_};
+ghost use Rattle.table.specs.Checks.{bibCheck};
+
+pub enum BibCheck {
+    Known,
+    Strange,
+}
+
+pub fn check_bib(n: u16) -> BibCheck
+    ensures { λ r. ⌜ r ≡ bibCheck n ⌝ }
+{
+    if n < 1000 {
+        BibCheck::Known
+    } else {
+        BibCheck::Strange
+    }
+}

@@ -1,0 +1,111 @@
+// The call query: a bib's value at a revision.
+ghost use mathlib.Core.Bool.{true};
+ghost use mathlib.Core.List.{_++_};
+ghost use mathlib.Core.Path.{_≡_};
+ghost use Prim.Native.Nat.{_<_};
+ghost use lib.ListN.{length};
+ghost use Rattle.cells.specs.Sizes as Lower;
+ghost use Rattle.cells.specs.Sizes.{clients, revisions};
+ghost use Rattle.cells.specs.Range.{inRange};
+ghost use Rattle.cells.specs.Steps.{queryBytes};
+ghost use Rattle.table.specs.Halves.{bytes, high, isTable, low};
+ghost use Rattle.table.specs.Answers.{left};
+ghost use Rattle.table.specs.Calls.{queryOut, valueAt};
+ghost use Rattle.table.specs.Checks.{queryCheck};
+use crate::answer::Answer;
+use crate::bib;
+use crate::bib::BibCheck;
+use crate::sound;
+use crate::sound::TableCheck;
+use fields::table::Client;
+use fields::table::Revision;
+use revisions::checks;
+use revisions::checks::ClientCheck;
+use revisions::checks::GivenCheck;
+use revisions::checks::JoinedCheck;
+use revisions::checks::OpenCheck;
+use revisions::checks::StaleCheck;
+use revisions::checks::UseCheck;
+
+// The value of a bib after the updates visible at r.
+fn value_at(t: &[u8], r: Revision, bib: u16) -> u32
+    requires { ⌜ (length (now t) ≡ bytes) × (inRange (low (now t)) ≡ true) × (r .0 < revisions) ⌝ }
+    ensures { λ v. ⌜ v ≡ valueAt (now (t .entry)) (r .0) bib ⌝ }
+{
+    let mut out = [0u16; 4096];
+    let n = order::visible::list(&t[0..40960], r, &mut out);
+    entries::value::value(&t[40960..65536], &out, n, bib)
+}
+
+// The query is r's last event, and opens or continues its client's transaction.
+fn ask(t: &mut [u8], c: Client, r: Revision)
+    requires { ⌜ (length (now t) ≡ bytes) × (c .0 < clients) × (r .0 < revisions) ⌝ }
+    ensures { λ _. ⌜ now (t .exit) ≡ queryBytes (low (now (t .entry))) (c .0) (r .0) ++ high (now (t .entry)) ⌝ }
+{
+    revisions::record::query(&mut t[0..40960], c, r);
+}
+
+// What checks 2 to 8 find.
+pub enum QueryCheck {
+    Allowed(Client, Revision),
+    Refused(u8),
+}
+
+fn check_query(d: &[u8], client: u8, revision: u8, bib: u16) -> QueryCheck
+    requires { ⌜ length (now d) ≡ Lower.bytes ⌝ }
+    ensures { λ r. ⌜ r ≡ queryCheck (now (d .entry)) client revision bib ⌝ }
+{
+    let ClientCheck::Known(c) = checks::check_client(client) else {
+        return QueryCheck::Refused(2);
+    };
+    let GivenCheck::Given(r) = checks::check_given(d, revision) else {
+        return QueryCheck::Refused(3);
+    };
+    let JoinedCheck::Out = checks::check_joined(d, r) else {
+        return QueryCheck::Refused(4);
+    };
+    let BibCheck::Known = bib::check_bib(bib) else {
+        return QueryCheck::Refused(5);
+    };
+    let OpenCheck::Clear = checks::check_open(d, c, r) else {
+        return QueryCheck::Refused(6);
+    };
+    let UseCheck::Free = checks::check_use_by_other(d, c, r) else {
+        return QueryCheck::Refused(7);
+    };
+    let StaleCheck::CaughtUp = checks::check_stale(d, c, r) else {
+        return QueryCheck::Refused(8);
+    };
+    QueryCheck::Allowed(c, r)
+}
+
+// The call on bytes that are a table.
+fn query_sound(t: &mut [u8], client: u8, revision: u8, bib: u16) -> Answer
+    requires { ⌜ (isTable (now t) ≡ true) × (length (now t) ≡ bytes) × (inRange (low (now t)) ≡ true) ⌝ }
+    ensures { λ a. ⌜ left a (now (t .exit)) ≡ queryOut (now (t .entry)) client revision bib ⌝ }
+{
+    let found = check_query(&t[0..40960], client, revision, bib);
+    match found {
+        QueryCheck::Refused(code) => Answer {
+            code: code,
+            value: 0,
+        },
+        QueryCheck::Allowed(c, r) => {
+            let value = value_at(t, r, bib);
+            ask(t, c, r);
+            Answer {
+                code: 0,
+                value: value,
+            }
+        }
+    }
+}
+
+pub fn query(t: &mut [u8], client: u8, revision: u8, bib: u16) -> Answer
+    ensures { λ a. ⌜ left a (now (t .exit)) ≡ queryOut (now (t .entry)) client revision bib ⌝ }
+{
+    let TableCheck::Sound = sound::check_table(t) else {
+        return Answer { code: 1, value: 0 };
+    };
+    query_sound(t, client, revision, bib)
+}
