@@ -1,2 +1,3 @@
--- Laws of the two halves of the table.
+-- Laws of the two halves of the table, and of the checks' answers.
 pub mod Halves
+pub mod Checked

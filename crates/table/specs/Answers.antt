@@ -3,6 +3,7 @@ use Prim.Native.Nat.{ℕ}
 use mathlib.Core.Bool.{Bool, cond}
 use mathlib.Core.List.{List, []}
 use Rattle.updates.specs.declared.kind.Kind.{Kind}
+use Rattle.table.specs.declared.answer.Answer.{Answer}
 use Rattle.updates.specs.declared.kind.KindCheck.{KindCheck}
 use Rattle.updates.specs.declared.kind.KindCheck.the-variants.{Known, Unknown}
 
@@ -27,3 +28,7 @@ check applies code t rest = cond applies (refused t code) rest
 abbrev pub named : KindCheck → List ℕ → (Kind → Out) → Out
 named Unknown t rest = refused t 5
 named (Known kind) t rest = rest kind
+
+-- an answer, and the bytes at exit
+abbrev pub left : Answer → List ℕ → Out
+left a t = record { code = a .code; value = a .value; table = t; shown = [] }

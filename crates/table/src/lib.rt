@@ -1,1 +1,4 @@
-// The table of 65,536 bytes: what each call answers and writes. Definitions alone; the code of the calls is not here yet.
+// The table of 65,536 bytes: one module a call. The calls that are not here yet have their definitions in specs/Calls.antt.
+pub mod answer; // answer.rt: what a call answers
+pub mod sound; // sound.rt: the check of code 1
+pub mod yields; // yields.rt: a client's open transaction is closed
