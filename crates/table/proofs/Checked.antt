@@ -101,6 +101,10 @@ pub strange : (n : ℕ) → clientCheck n ≡ client.Strange → isClient n ≡ 
 unfolding clientCheck
 strange n e = missed (isClient n) _ _ _ (λ h. let z : _≡_ {A = ℕ} 0 1 = cc in omega arith) e
 
+not-false : (b : Bool) → not b ≡ false → b ≡ true
+not-false true e = refl
+not-false false e = absurd (false≢true (sym e))
+
 next-number : (b : Bool) (n : ℕ) (x : Revision) → cond b left.Exhausted (left.Next (record { 0 = n })) ≡ left.Next x → (b ≡ false) × (x .0 ≡ n)
 next-number true n x e = let z : _≡_ {A = ℕ} 0 1 = cc in absurd (omega arith)
 next-number false n x e = (refl, cc e)
@@ -138,9 +142,13 @@ module _ (t : List ℕ) where
   in-use r n q e = ap (busy (cellsOf t)) (sym q) ∙ picked (busy (cellsOf t) r) _ _ _ (λ h. let z : _≡_ {A = ℕ} 0 1 = cc in omega arith) e .0
 
   -- code 10
-  pub next : (x : Revision) → leftCheck (midOf 0 40960 t) ≡ left.Next x → (noneLeft (cellsOf t) ≡ false) × (x .0 ≡ cellsOf t .given)
+  pub next : (x : Revision) → leftCheck (midOf 0 40960 t) ≡ left.Next x → (noneLeft (cellsOf t) ≡ false) × (x .0 ≡ cellsOf t .given) × (x .0 < revisions)
   unfolding leftCheck low
-  next x e = next-number (noneLeft (cellsOf t)) (cellsOf t .given) x e
+  next x e =
+      let p = next-number (noneLeft (cellsOf t)) (cellsOf t .given) x e in
+      let q = p .1 in
+      let l = ltb-true (cellsOf t .given) revisions (not-false (ltb (cellsOf t .given) revisions) (p .0)) in
+      (p .0, q, omega arith)
 
   pub exhausted : leftCheck (midOf 0 40960 t) ≡ left.Exhausted → noneLeft (cellsOf t) ≡ true
   unfolding leftCheck low
