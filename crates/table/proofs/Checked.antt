@@ -36,6 +36,11 @@ pub stop : (b : Bool) (a y : Out) → b ≡ true → a ≡ cond b a y
 stop true a y e = refl
 stop false a y e = absurd (false≢true e)
 
+-- neither of two
+pub neither : (a b : Bool) → a ≡ false → b ≡ false → (a || b) ≡ false
+neither true b e f = e
+neither false b e f = f
+
 -- which of two answers it was
 picked : {A : Type 0} (b : Bool) (x y z : A) → (y ≡ z → ⊥) → cond b x y ≡ z → (b ≡ true) × (x ≡ z)
 picked true x y z never e = (refl, e)
