@@ -1,4 +1,5 @@
--- Laws of the two halves of the table, of the checks, and of the calls query and update.
+-- Laws of the two halves of the table, of the answers of its checks, and of the calls from their checks.
 pub mod Halves
+pub mod Checked
 pub mod Checks
 pub mod Updates

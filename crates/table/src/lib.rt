@@ -1,6 +1,9 @@
 // The table of 65,536 bytes: one module a call. The calls that are not here yet have their definitions in specs/Calls.antt.
 pub mod answer; // answer.rt: what a call answers
 pub mod bib; // bib.rt: the check of a bib
+pub mod fork; // fork.rt: the call fork
+pub mod join; // join.rt: the call join
 pub mod query; // query.rt: the call query
 pub mod sound; // sound.rt: the check that the buffer is a table
 pub mod update; // update.rt: the call update
+pub mod yields; // yields.rt: the call yield
