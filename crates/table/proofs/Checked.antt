@@ -24,7 +24,8 @@ use Rattle.revisions.specs.declared.checks.LeftCheck.the-variants as left
 use Rattle.revisions.specs.declared.checks.JoinCheck.the-variants as join
 use Rattle.table.specs.Halves.{bytes, low, cellsOf, isTable}
 use Rattle.table.specs.Answers.{Out}
-use Rattle.table.specs.Checks.{tableCheck}
+use Rattle.table.specs.Checks.{lengthCheck, tableCheck}
+use Rattle.table.specs.declared.fresh.LengthCheck.the-variants.{Right, Wrong}
 use Rattle.table.specs.declared.sound.TableCheck.the-variants.{Sound, Damaged}
 
 -- a call goes on after a check, or ends with it
@@ -92,6 +93,23 @@ whole t e = eqb-true (length t) bytes (and-true (eqb (length t) bytes) (inRange 
 pub cells-in : (t : List ℕ) → isTable t ≡ true → inRange (low t) ≡ true
 unfolding isTable
 cells-in t e = and-true (eqb (length t) bytes) (inRange (low t)) e .1
+
+-- code 1 of fresh
+pub same-length : (t : List ℕ) → length t ≡ bytes → Right ≡ lengthCheck t
+unfolding lengthCheck
+same-length t h = sym (ap (λ b. cond b Right Wrong) (eq-eqb (length t) bytes h))
+
+pub other-length : (t : List ℕ) → (length t ≡ bytes → ⊥) → Wrong ≡ lengthCheck t
+unfolding lengthCheck
+other-length t h = sym (ap (λ b. cond b Right Wrong) (ne-eqb (length t) bytes h))
+
+pub right : (t : List ℕ) → lengthCheck t ≡ Right → eqb (length t) bytes ≡ true
+unfolding lengthCheck
+right t e = picked (eqb (length t) bytes) Right Wrong Right (λ h. let z : _≡_ {A = ℕ} 0 1 = cc in omega arith) e .0
+
+pub wrong : (t : List ℕ) → lengthCheck t ≡ Wrong → eqb (length t) bytes ≡ false
+unfolding lengthCheck
+wrong t e = missed (eqb (length t) bytes) Right Wrong Wrong (λ h. let z : _≡_ {A = ℕ} 0 1 = cc in omega arith) e
 
 -- code 2
 pub known : (n : ℕ) (x : Client) → clientCheck n ≡ client.Known x → (isClient n ≡ true) × (x .0 ≡ n) × (x .0 < clients)

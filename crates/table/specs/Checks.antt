@@ -2,10 +2,14 @@
 use Prim.Native.Nat.{ℕ}
 use mathlib.Core.Bool.{Bool, not, cond}
 use mathlib.Core.List.{List}
+use lib.Dec.{eqb}
+use lib.ListN.{length}
 use Rattle.cells.specs.Decode.{cells}
 use Rattle.cells.specs.Checks.{isClient, givenOut, joined, openElsewhere, busyByOther, stale, logFull}
-use Rattle.table.specs.Halves.{isTable}
+use Rattle.table.specs.Halves.{bytes, isTable}
 use Rattle.table.specs.Calls.{badBib}
+use Rattle.table.specs.declared.fresh.LengthCheck.{LengthCheck}
+use Rattle.table.specs.declared.fresh.LengthCheck.the-variants.{Right, Wrong}
 use Rattle.table.specs.declared.sound.TableCheck.{TableCheck}
 use Rattle.table.specs.declared.sound.TableCheck.the-variants as table
 use Rattle.table.specs.declared.bib.BibCheck.{BibCheck}
@@ -19,9 +23,13 @@ use Rattle.table.specs.declared.update.UpdateCheck.the-variants as updat
 use Rattle.table.specs.declared.query.QueryCheck.{QueryCheck}
 use Rattle.table.specs.declared.query.QueryCheck.the-variants as query
 
--- 1 "length isn't 65,536 or a cell is out of its range"
+-- 1 "buffer length isn't 65,536, or a cell is out of its range"
 unfoldable pub tableCheck : List ℕ → TableCheck
 tableCheck t = cond (isTable t) table.Sound table.Damaged
+
+-- of fresh: 1 for the length only
+unfoldable pub lengthCheck : List ℕ → LengthCheck
+lengthCheck t = cond (eqb (length t) bytes) Right Wrong
 
 -- 5 "bib above 999"
 unfoldable pub bibCheck : ℕ → BibCheck

@@ -1,6 +1,5 @@
 -- What each call answers with and leaves in the table: 01, "Codes of the desk", on bytes.
 pub mod Halves
 pub mod Answers
-pub mod Checks
 pub mod Calls
 pub mod Checks
