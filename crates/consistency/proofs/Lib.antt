@@ -1,6 +1,8 @@
--- From a fresh table, through every run of accepted steps, cells and bytes agree with the day; and through every list of calls.
+-- From a fresh table, through every run of accepted steps, cells and bytes agree with the day; through every list of
+-- calls the replies do, and demand 3 holds.
 pub mod Cells
 pub mod Bytes
 pub mod Follow
 pub mod Table
+pub mod Demand
 mod Examples

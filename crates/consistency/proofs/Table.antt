@@ -1,4 +1,6 @@
 -- The table of calls follows the plain day.
 pub mod Stands
 pub mod Values
+pub mod Same
 pub mod Calls
+pub mod Follows

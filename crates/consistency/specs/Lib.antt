@@ -4,3 +4,4 @@ pub mod Reached
 pub mod Follow
 pub mod Numbers
 pub mod Table
+pub mod Demand

@@ -1,36 +1,100 @@
--- The table agrees with the plain day: any buffer of the right length is made fresh, and from then on, through every list of calls with any arguments, refused
--- ones included, every code, every value and what every list shows is the plain day's.
-use Prim.Native.Nat.{ℕ}
+-- The table agrees with the plain day: any buffer of the right length is made fresh, and from then on, through every list of calls
+-- with any arguments, refused ones included, every code, every value and every sheet is the plain day's.
+use Prim.Native.Nat.{ℕ, _*_}
 use mathlib.Core.Path.{_≡_}
-use mathlib.Core.List.{List, [], _∷_}
-use lib.ListN.{length}
+use mathlib.Core.List.{List, [], _∷_, _++_}
+use lib.ListN.{length, drop}
 use Rattle.entries.specs.declared.entry.Entry as Stored
-use Rattle.entries.specs.Entries.{entryAt}
-use Rattle.plain.specs.Calls.{Call, Update, Query, Yield, Fork, Join, Show, Entry, Answer}
-use Rattle.plain.specs.Record.{linesOf}
+use Rattle.listing.specs.Lines.{line}
+use Rattle.plain.specs.Calls as Paper
+use Rattle.plain.specs.Calls.{Call, Entry, Line, Answer}
 use Rattle.plain.specs.Answers.{answers}
-use Rattle.table.specs.Halves.{bytes, high}
+use Rattle.table.specs.Halves.{bytes}
 use Rattle.table.specs.Answers.{Out}
 use Rattle.table.specs.Calls.{freshOut, updateOut, queryOut, yieldOut, forkOut, joinOut, listOut}
 
-abbrev pub asEntered : Stored.Entry → Entry
-asEntered e = record { kind = e .kind; client = e .client; bib = e .bib; v = e .v }
+-- a call as it is made at a table: a list has the bytes of its sheet
+pub data Request : Type 0 where
+  Update : (client revision kind bib v : ℕ) → Request
+  Query : (client revision bib : ℕ) → Request
+  Yield : (client : ℕ) → Request
+  Fork : (revision : ℕ) → Request
+  Join : (joiner joinee : ℕ) → Request
+  Show : (revision : ℕ) (sheet : List ℕ) → Request
 
-abbrev pub outOf : List ℕ → Call → Out
-outOf t (Update c n k bib v) = updateOut t c n k bib v
-outOf t (Query c n bib) = queryOut t c n bib
-outOf t (Yield c) = yieldOut t c
-outOf t (Fork n) = forkOut t n
-outOf t (Join n m) = joinOut t n m
-outOf t (Show n room) = listOut t n room
+-- the same call on paper: "(of a sheet only the length)"
+abbrev pub onPaper : Request → Call
+onPaper (Update c n k bib v) = Paper.Update c n k bib v
+onPaper (Query c n bib) = Paper.Query c n bib
+onPaper (Yield c) = Paper.Yield c
+onPaper (Fork n) = Paper.Fork n
+onPaper (Join n m) = Paper.Join n m
+onPaper (Show n sheet) = Paper.Show n (length sheet)
 
--- what a call answers with; the lines of a list are the entries that the table has under the numbers shown
-abbrev pub answerOf : Out → Answer
-answerOf u = record { code = u .code; value = u .value; lines = linesOf (λ n. asEntered (entryAt (high (u .table)) n)) (u .shown) }
+abbrev pub calls : List Request → List Call
+calls [] = []
+calls (q ∷ qs) = onPaper q ∷ calls qs
 
-unfoldable pub answersOn : List ℕ → List Call → List Answer
-answersOn t [] = []
-answersOn t (c ∷ cs) = answerOf (outOf t c) ∷ answersOn (outOf t c .table) cs
+-- what a caller has of a call: its code, its value, and the bytes of the sheet, if one was lent
+pub record Reply : Type 0 where
+  pub code : ℕ
+  pub value : ℕ
+  pub sheet : List ℕ
+
+pub record Served : Type 0 where
+  pub reply : Reply
+  pub table : List ℕ
+
+-- a call that has the table lent, and one that has a sheet lent
+abbrev pub onTable : Out → Served
+onTable u = record { reply = record { code = u .code; value = u .value; sheet = [] }; table = u .lent }
+
+abbrev pub onSheet : List ℕ → Out → Served
+onSheet t u = record { reply = record { code = u .code; value = u .value; sheet = u .lent }; table = t }
+
+abbrev pub served : List ℕ → Request → Served
+served t (Update c n k bib v) = onTable (updateOut t c n k bib v)
+served t (Query c n bib) = onTable (queryOut t c n bib)
+served t (Yield c) = onTable (yieldOut t c)
+served t (Fork n) = onTable (forkOut t n)
+served t (Join n m) = onTable (joinOut t n m)
+served t (Show n sheet) = onSheet t (listOut t n sheet)
+
+-- the replies of a table to a list of calls, each getting it as the last one left it
+unfoldable pub repliesOn : List ℕ → List Request → List Reply
+repliesOn t [] = []
+repliesOn t (q ∷ qs) = served t q .reply ∷ repliesOn (served t q .table) qs
+
+-- the lines of a listing on paper, "n entries of 12 bytes"
+abbrev pub stored : Entry → Stored.Entry
+stored e = record { kind = e .kind; client = e .client; bib = e .bib; v = e .v }
+
+abbrev pub inBytes : List Line → List ℕ
+inBytes [] = []
+inBytes (l ∷ ls) = line (stored (l .entry)) (l .number) ++ inBytes ls
+
+-- "Bytes from 12 n on stay."
+abbrev pub sheetWith : List Line → List ℕ → List ℕ
+sheetWith ls sheet = inBytes ls ++ drop (12 * length ls) sheet
+
+-- what an answer on paper is in a caller's hands
+abbrev pub sheetAfter : Request → Answer → List ℕ
+sheetAfter (Update c n k bib v) a = []
+sheetAfter (Query c n bib) a = []
+sheetAfter (Yield c) a = []
+sheetAfter (Fork n) a = []
+sheetAfter (Join n m) a = []
+sheetAfter (Show n sheet) a = sheetWith (a .lines) sheet
+
+abbrev pub said : Request → Answer → Reply
+said q a = record { code = a .code; value = a .value; sheet = sheetAfter q a }
+
+unfoldable pub replies : List Request → List Answer → List Reply
+replies [] more = []
+replies (q ∷ qs) [] = []
+replies (q ∷ qs) (a ∷ more) = said q a ∷ replies qs more
 
 abbrev pub TableFollowsDays : Type 0
-TableFollowsDays = (t : List ℕ) → length t ≡ bytes → (freshOut t .code ≡ 0) × (freshOut t .value ≡ 0) × ((cs : List Call) → answersOn (freshOut t .table) cs ≡ answers cs)
+TableFollowsDays =
+    (t : List ℕ) → length t ≡ bytes
+    → (freshOut t .code ≡ 0) × (freshOut t .value ≡ 0) × ((qs : List Request) → repliesOn (freshOut t .lent) qs ≡ replies qs (answers (calls qs)))

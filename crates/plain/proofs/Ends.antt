@@ -1,5 +1,5 @@
--- How each call ends: refused with the day as it was, or taken with what its checks showed. The checks are unpacked here, and
--- nowhere else.
+-- How each call ends: refused with a code above 1 and the day as it was, or taken with what its checks showed. The checks
+-- are unpacked here, and nowhere else.
 use Prim.Native.Nat.{ℕ, suc, _*_}
 use mathlib.Core.Bool.{Bool, true, false, _||_}
 use mathlib.Core.Path.{_≡_, refl}
@@ -23,7 +23,7 @@ use Rattle.plain.specs.Record.{PlainDay, pathResult, noted}
 use Rattle.plain.specs.Answers.{Outcome, refused, taken, shown, check, given, badBib, named, stepped, called}
 
 pub data Ends (p : PlainDay) (Yes : Outcome → Type 0) : Outcome → Type 0 where
-  no : (k : ℕ) → Ends p Yes (refused p (suc k))
+  no : (k : ℕ) → Ends p Yes (refused p (suc (suc k)))
   yes : {o : Outcome} → Yes o → Ends p Yes o
 
 -- an answer of code 0 was taken
@@ -32,16 +32,16 @@ was-taken (no k) e = absurd (omega arith)
 was-taken (yes h) e = h
 
 module _ {p : PlainDay} {Yes : Outcome → Type 0} where
-  by-check : (b : Bool) (k : ℕ) (rest : Outcome) → (b ≡ false → Ends p Yes rest) → Ends p Yes (check b (suc k) p rest)
+  by-check : (b : Bool) (k : ℕ) (rest : Outcome) → (b ≡ false → Ends p Yes rest) → Ends p Yes (check b (suc (suc k)) p rest)
   by-check true k rest f = no k
   by-check false k rest f = f refl
 
   by-given : (o : Option ℕ) (rest : ℕ → Outcome) → ((r : ℕ) → o ≡ some r → Ends p Yes (rest r)) → Ends p Yes (given o p rest)
-  by-given none rest f = no 2
+  by-given none rest f = no 1
   by-given (some r) rest f = f r refl
 
   by-named : (k : KindCheck) (rest : Kind → Outcome) → ((kind : Kind) → k ≡ Known kind → Ends p Yes (rest kind)) → Ends p Yes (named k p rest)
-  by-named Unknown rest f = no 4
+  by-named Unknown rest f = no 3
   by-named (Known kind) rest f = f kind refl
 
 -- a step of revision r, which number n means
@@ -59,15 +59,15 @@ pub record UpdateTaken (p : PlainDay) (c n k bib v : ℕ) (o : Outcome) : Type 0
 pub update-ends : (p : PlainDay) (c n k bib v : ℕ) → Ends p (UpdateTaken p c n k bib v) (called p (Update c n k bib v))
 unfolding called
 update-ends p c n k bib v =
-    by-check (unknownClient c) 1 _ λ e2.
+    by-check (unknownClient c) 0 _ λ e2.
     by-given (meant (p .day) n) _ λ r e3.
-    by-check (p .day .joined r) 3 _ λ e4.
-    by-check (badBib bib) 4 _ λ e5.
+    by-check (p .day .joined r) 2 _ λ e4.
+    by-check (badBib bib) 3 _ λ e5.
     by-named (kindCheck k) _ λ kind f5.
-    by-check (openElsewhere (p .day) c r) 5 _ λ e6.
-    by-check (busyByOther (p .day) c r) 6 _ λ e7.
-    by-check (stale (p .day) c r) 7 _ λ e8.
-    by-check (logFull (p .day)) 8 _ λ e9.
+    by-check (openElsewhere (p .day) c r) 4 _ λ e6.
+    by-check (busyByOther (p .day) c r) 5 _ λ e7.
+    by-check (stale (p .day) c r) 6 _ λ e8.
+    by-check (logFull (p .day)) 7 _ λ e9.
     yes (record {
       step = record { revision = r; means = e3; accepts = accept-event (p .day) c r true e2 (meant-given (p .day) n r e3) e4 e6 e7 e8 e9 };
       kind = kind;
@@ -82,13 +82,13 @@ pub record QueryTaken (p : PlainDay) (c n bib : ℕ) (o : Outcome) : Type 0 wher
 pub query-ends : (p : PlainDay) (c n bib : ℕ) → Ends p (QueryTaken p c n bib) (called p (Query c n bib))
 unfolding called
 query-ends p c n bib =
-    by-check (unknownClient c) 1 _ λ e2.
+    by-check (unknownClient c) 0 _ λ e2.
     by-given (meant (p .day) n) _ λ r e3.
-    by-check (p .day .joined r) 3 _ λ e4.
-    by-check (badBib bib) 4 _ λ e5.
-    by-check (openElsewhere (p .day) c r) 5 _ λ e6.
-    by-check (busyByOther (p .day) c r) 6 _ λ e7.
-    by-check (stale (p .day) c r) 7 _ λ e8.
+    by-check (p .day .joined r) 2 _ λ e4.
+    by-check (badBib bib) 3 _ λ e5.
+    by-check (openElsewhere (p .day) c r) 4 _ λ e6.
+    by-check (busyByOther (p .day) c r) 5 _ λ e7.
+    by-check (stale (p .day) c r) 6 _ λ e8.
     yes (record { step = record { revision = r; means = e3; accepts = accept-event (p .day) c r false e2 (meant-given (p .day) n r e3) e4 e6 e7 e8 refl }; is = refl })
 
 pub record YieldTaken (p : PlainDay) (c : ℕ) (o : Outcome) : Type 0 where
@@ -97,7 +97,7 @@ pub record YieldTaken (p : PlainDay) (c : ℕ) (o : Outcome) : Type 0 where
 
 pub yield-ends : (p : PlainDay) (c : ℕ) → Ends p (YieldTaken p c) (called p (Yield c))
 unfolding called
-yield-ends p c = by-check (unknownClient c) 1 _ λ e2. yes (record { accepts = accept-yield (p .day) c e2; is = refl })
+yield-ends p c = by-check (unknownClient c) 0 _ λ e2. yes (record { accepts = accept-yield (p .day) c e2; is = refl })
 
 pub record ForkTaken (p : PlainDay) (n : ℕ) (o : Outcome) : Type 0 where
   pub step : Steps1 p n Steps.Fork
@@ -107,9 +107,9 @@ pub fork-ends : (p : PlainDay) (n : ℕ) → Ends p (ForkTaken p n) (called p (F
 unfolding called
 fork-ends p n =
     by-given (meant (p .day) n) _ λ r e3.
-    by-check (p .day .joined r) 3 _ λ e4.
-    by-check (busy (p .day) r) 6 _ λ e7.
-    by-check (noneLeft (p .day)) 9 _ λ e10.
+    by-check (p .day .joined r) 2 _ λ e4.
+    by-check (busy (p .day) r) 5 _ λ e7.
+    by-check (noneLeft (p .day)) 8 _ λ e10.
     yes (record { step = record { revision = r; means = e3; accepts = accept-fork (p .day) r (meant-given (p .day) n r e3) e4 e7 e10 }; is = refl })
 
 pub record JoinTaken (p : PlainDay) (n m : ℕ) (o : Outcome) : Type 0 where
@@ -123,9 +123,9 @@ unfolding called
 join-ends p n m =
     by-given (meant (p .day) n) _ λ a e3.
     by-given (meant (p .day) m) _ λ b f3.
-    by-check (p .day .joined a || p .day .joined b) 3 _ λ e4.
-    by-check (busy (p .day) a || busy (p .day) b) 6 _ λ e7.
-    by-check (notJoinable (p .day) a b) 10 _ λ e11.
+    by-check (p .day .joined a || p .day .joined b) 2 _ λ e4.
+    by-check (busy (p .day) a || busy (p .day) b) 5 _ λ e7.
+    by-check (notJoinable (p .day) a b) 9 _ λ e11.
     let o = or-false (p .day .joined a) (p .day .joined b) e4 in
     let i = or-false (busy (p .day) a) (busy (p .day) b) e7 in
     yes (record {
@@ -146,7 +146,7 @@ pub show-ends : (p : PlainDay) (n room : ℕ) → Ends p (ShowTaken p n room) (c
 unfolding called
 show-ends p n room =
     by-given (meant (p .day) n) _ λ r e3.
-    by-check (p .day .joined r) 3 _ λ e4.
-    by-check (busy (p .day) r) 6 _ λ e7.
-    by-check (ltb room (12 * length (view (p .day .diagram) (p .day .terminal r)))) 11 _ λ e12.
+    by-check (p .day .joined r) 2 _ λ e4.
+    by-check (busy (p .day) r) 5 _ λ e7.
+    by-check (ltb room (12 * length (view (p .day .diagram) (p .day .terminal r)))) 10 _ λ e12.
     yes (record { revision = r; means = e3; out = e4; idle = e7; is = refl })

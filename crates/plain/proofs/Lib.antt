@@ -1,5 +1,6 @@
--- The starred edges by computing, and one line-up for every list of calls.
+-- The starred edges by computing, code 1, which does not arise, and one line-up for every list of calls.
 pub mod Edges
 pub mod Ends
 pub mod Steps
 pub mod LineUp
+pub mod Never

@@ -3,3 +3,4 @@ pub mod Halves
 pub mod Checked
 pub mod Checks
 pub mod Updates
+pub mod Listed

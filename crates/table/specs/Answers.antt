@@ -1,34 +1,33 @@
--- A call's answer and the table it leaves: "A refusal gives value 0" and changes no byte.
+-- A call's answer and the lent bytes as it leaves them: "A refusal gives value 0; table and sheet keep every byte."
 use Prim.Native.Nat.{ℕ}
 use mathlib.Core.Bool.{Bool, cond}
-use mathlib.Core.List.{List, []}
+use mathlib.Core.List.{List}
 use Rattle.updates.specs.declared.kind.Kind.{Kind}
 use Rattle.table.specs.declared.answer.Answer.{Answer}
 use Rattle.updates.specs.declared.kind.KindCheck.{KindCheck}
 use Rattle.updates.specs.declared.kind.KindCheck.the-variants.{Known, Unknown}
 
+-- the bytes lent to be written: the table, or a list's sheet
 pub record Out : Type 0 where
   pub code : ℕ
   pub value : ℕ
-  pub table : List ℕ
-  -- the numbers of the updates that a list shows, in order
-  pub shown : List ℕ
+  pub lent : List ℕ
 
 abbrev pub refused : List ℕ → ℕ → Out
-refused t code = record { code = code; value = 0; table = t; shown = [] }
+refused lent code = record { code = code; value = 0; lent = lent }
 
 abbrev pub taken : List ℕ → ℕ → Out
-taken t value = record { code = 0; value = value; table = t; shown = [] }
+taken lent value = record { code = 0; value = value; lent = lent }
 
 -- a check that applies ends the call
 abbrev pub check : Bool → ℕ → List ℕ → Out → Out
-check applies code t rest = cond applies (refused t code) rest
+check applies code lent rest = cond applies (refused lent code) rest
 
 -- 5: "update kind not 1 to 4"
 abbrev pub named : KindCheck → List ℕ → (Kind → Out) → Out
-named Unknown t rest = refused t 5
-named (Known kind) t rest = rest kind
+named Unknown lent rest = refused lent 5
+named (Known kind) lent rest = rest kind
 
--- an answer, and the bytes at exit
+-- an answer, and the lent bytes at exit
 abbrev pub left : Answer → List ℕ → Out
-left a t = record { code = a .code; value = a .value; table = t; shown = [] }
+left a lent = record { code = a .code; value = a .value; lent = lent }

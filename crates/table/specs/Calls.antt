@@ -1,4 +1,4 @@
--- Each call, check by check in 01's order: 01, "Codes of the desk". Of a list: its code, value and the numbers shown.
+-- Each call, check by check in 01's order: 01, "Codes of the desk". A list has its sheet lent; the table is only read.
 use Prim.Native.Nat.{ℕ, _*_}
 use mathlib.Core.Bool.{Bool, not, _||_}
 use mathlib.Core.List.{List, _++_}
@@ -12,6 +12,7 @@ use Rattle.entries.specs.Sizes as Upper
 use Rattle.entries.specs.Stored.{entry}
 use Rattle.entries.specs.Entries.{entryAt, wrote}
 use Rattle.entries.specs.Folded.{valueOf}
+use Rattle.listing.specs.Lines.{sheet}
 use Rattle.table.specs.Halves.{bytes, low, high, cellsOf, isTable}
 use Rattle.table.specs.Answers.{Out, taken, check, named}
 
@@ -83,12 +84,17 @@ joinOut t n m =
     check (not (joinable (cellsOf t) n m)) 11 t (
     taken (joinBytes (low t) n m ++ high t) (cellsOf t .count m)))))))
 
+-- 12 of a list, and its end
+unfoldable pub shownOut : List ℕ → ℕ → List ℕ → Out
+shownOut t n s =
+    check (ltb (length s) (12 * length (order (cellsOf t) n))) 12 s (
+    taken (sheet (entryAt (high t)) (order (cellsOf t) n) s) (length (order (cellsOf t) n)))
+
 -- "List: 1, 3, 4, 7, 12"
-unfoldable pub listOut : List ℕ → ℕ → ℕ → Out
-listOut t n room =
-    check (not (isTable t)) 1 t (
-    check (not (givenOut (cellsOf t) n)) 3 t (
-    check (joined (cellsOf t) n) 4 t (
-    check (busy (cellsOf t) n) 7 t (
-    check (ltb room (12 * length (order (cellsOf t) n))) 12 t (
-    record { code = 0; value = length (order (cellsOf t) n); table = t; shown = order (cellsOf t) n })))))
+unfoldable pub listOut : List ℕ → ℕ → List ℕ → Out
+listOut t n s =
+    check (not (isTable t)) 1 s (
+    check (not (givenOut (cellsOf t) n)) 3 s (
+    check (joined (cellsOf t) n) 4 s (
+    check (busy (cellsOf t) n) 7 s (
+    shownOut t n s))))

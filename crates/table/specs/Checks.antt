@@ -1,8 +1,8 @@
 -- The answers of the table's own checks, codes 1 and 5, and of all the checks of a query and of an update.
-use Prim.Native.Nat.{ℕ}
+use Prim.Native.Nat.{ℕ, _*_}
 use mathlib.Core.Bool.{Bool, not, cond}
 use mathlib.Core.List.{List}
-use lib.Dec.{eqb}
+use lib.Dec.{eqb, ltb}
 use lib.ListN.{length}
 use Rattle.cells.specs.Decode.{cells}
 use Rattle.cells.specs.Checks.{isClient, givenOut, joined, openElsewhere, busyByOther, stale, logFull}
@@ -12,6 +12,8 @@ use Rattle.table.specs.declared.fresh.LengthCheck.{LengthCheck}
 use Rattle.table.specs.declared.fresh.LengthCheck.the-variants.{Right, Wrong}
 use Rattle.table.specs.declared.sound.TableCheck.{TableCheck}
 use Rattle.table.specs.declared.sound.TableCheck.the-variants as table
+use Rattle.table.specs.declared.list.SheetCheck.{SheetCheck}
+use Rattle.table.specs.declared.list.SheetCheck.the-variants as list
 use Rattle.table.specs.declared.bib.BibCheck.{BibCheck}
 use Rattle.table.specs.declared.bib.BibCheck.the-variants as bib
 use Rattle.updates.specs.Kinds.{kindCheck}
@@ -30,6 +32,10 @@ tableCheck t = cond (isTable t) table.Sound table.Damaged
 -- of fresh: 1 for the length only
 unfoldable pub lengthCheck : List ℕ → LengthCheck
 lengthCheck t = cond (eqb (length t) bytes) Right Wrong
+
+-- 12 "the listing's buffer is smaller than it needs": room for n lines
+unfoldable pub sheetCheck : ℕ → ℕ → SheetCheck
+sheetCheck room n = cond (ltb room (12 * n)) list.Short list.Fits
 
 -- 5 "bib above 999"
 unfoldable pub bibCheck : ℕ → BibCheck

@@ -1,9 +1,10 @@
-// The table of 65,536 bytes: one module a call. The call list is not here yet; its definition is in specs/Calls.antt.
+// The table of 65,536 bytes: one module a call.
 pub mod answer; // answer.rt: what a call answers
 pub mod bib; // bib.rt: the check of a bib
 pub mod fork; // fork.rt: the call fork
 pub mod fresh; // fresh.rt: the call fresh
 pub mod join; // join.rt: the call join
+pub mod list; // list.rt: the call list
 pub mod query; // query.rt: the call query
 pub mod sound; // sound.rt: the check that the buffer is a table
 pub mod update; // update.rt: the call update

@@ -11,16 +11,21 @@ use Rattle.diagram.specs.Steps.{Step, Accepted, accepted, after, run}
 use Rattle.diagram.proofs.Order.Runs.{accepted-both, run-step}
 use Rattle.cells.specs.Sizes as Lower
 use Rattle.entries.specs.Sizes as Upper
+use Rattle.entries.specs.declared.entry.Entry as Stored
 use Rattle.entries.specs.Entries.{entryAt}
+use Rattle.plain.specs.Calls.{Entry}
 use Rattle.plain.specs.Record.{PlainDay}
 use Rattle.table.specs.Halves.{bytes, low, high, cellsOf, isTable}
 use Rattle.table.proofs.Halves.{low-of, high-of}
 use Rattle.consistency.specs.Reached.{bytesAfter, bytesFrom, stepBytes}
 use Rattle.consistency.specs.Follow.{BytesFollow}
 use Rattle.consistency.specs.Numbers.{NumbersFollow}
-use Rattle.consistency.specs.Table.{asEntered}
 use Rattle.consistency.proofs.Cells.Numbers.{numbers-follow}
 use Rattle.consistency.proofs.Follow.{bytes-follow}
+
+-- an entry as it was entered
+abbrev pub asEntered : Stored.Entry → Entry
+asEntered e = record { kind = e .kind; client = e .client; bib = e .bib; v = e .v }
 
 pub record Stands (p : PlainDay) (t : List ℕ) : Type 0 where
   pub steps : List Step

@@ -1,10 +1,10 @@
 -- A revision that a number means, on the table and on the day: what it shows, and the value of a bib on it.
-use Prim.Native.Nat.{ℕ, _<_}
+use Prim.Native.Nat.{ℕ, suc, _*_, _<_}
 use mathlib.Core.Bool.{false}
 use mathlib.Core.Path.{_≡_, refl, sym, _∙_, ap}
 use mathlib.Core.Option.{none, some}
-use mathlib.Core.List.{List, [], _∷_, append-nil}
-use lib.ListN.{length}
+use mathlib.Core.List.{List, [], _∷_, _++_, append-nil}
+use lib.ListN.{length, drop}
 use Rattle.lists.specs.Lists.{_∈_}
 use Rattle.updates.specs.Applied.{applied, freshValue}
 use Rattle.diagram.specs.Diagram.{event}
@@ -17,6 +17,7 @@ use Rattle.cells.specs.Order.{order}
 use Rattle.entries.specs.declared.entry.Entry as Stored
 use Rattle.entries.specs.Entries.{entryAt}
 use Rattle.entries.specs.Folded as Folded
+use Rattle.listing.specs.Lines.{line, lines, sheet}
 use Rattle.plain.specs.Calls.{Entry}
 use Rattle.plain.specs.Record as Plain
 use Rattle.plain.specs.Record.{PlainDay, linesOf, pathResult}
@@ -24,13 +25,23 @@ use Rattle.plain.specs.Answers.{stepped}
 use Rattle.plain.proofs.LineUp.{view-low, ofBib-same, linesOf-same}
 use Rattle.table.specs.Halves.{cellsOf, high}
 use Rattle.table.specs.Calls as Table
-use Rattle.consistency.specs.Table.{asEntered}
-use Rattle.consistency.proofs.Table.Stands.{Stands, numbers-are}
+use Rattle.consistency.specs.Table.{inBytes, sheetWith}
+use Rattle.consistency.proofs.Table.Stands.{Stands, asEntered, numbers-are}
 
 -- the updates of a bib, among the entries as they are stored and as they were entered
 ofBib-is : (f : ℕ → Stored.Entry) (bib : ℕ) (ns : List ℕ) → Folded.ofBib f bib ns ≡ Plain.ofBib (λ n. asEntered (f n)) bib ns
 ofBib-is f bib [] = refl
 ofBib-is f bib (n ∷ ns) = rw (ofBib-is f bib ns)
+
+-- the lines in bytes, of the entries as they are stored and as they were entered
+inBytes-is : (f : ℕ → Stored.Entry) (ns : List ℕ) → inBytes (linesOf (λ n. asEntered (f n)) ns) ≡ lines f ns
+unfolding lines
+inBytes-is f [] = refl
+inBytes-is f (n ∷ ns) = ap (λ z. line (f n) n ++ z) (inBytes-is f ns)
+
+linesOf-length : (f : ℕ → Entry) (ns : List ℕ) → length (linesOf f ns) ≡ length ns
+linesOf-length f [] = refl
+linesOf-length f (n ∷ ns) = ap suc (linesOf-length f ns)
 
 module _ (p : PlainDay) (t : List ℕ) (S : Stands p t) (n r : ℕ) (m : meant (p .day) n ≡ some r) (o : p .day .joined r ≡ false) where
   pub same-order : order (cellsOf t) n ≡ view (p .day .diagram) (p .day .terminal r)
@@ -50,5 +61,16 @@ module _ (p : PlainDay) (t : List ℕ) (S : Stands p t) (n r : ℕ) (m : meant (
       = tabulate-newest viewStep [] (event (p .day .terminal r) c none) (p .day .diagram) ∙ append-nil _ in
       ap (λ us. applied us freshValue) (ap (Folded.ofBib (entryAt (high t)) bib) same-order ∙ ofBib-is (entryAt (high t)) bib (view (p .day .diagram) (p .day .terminal r)) ∙ ofBib-same _ (p .entries) bib (view (p .day .diagram) (p .day .terminal r)) entries-same ∙ ap (Plain.ofBib (p .entries) bib) (sym seen))
 
-  pub same-lines : linesOf (λ k. asEntered (entryAt (high t) k)) (order (cellsOf t) n) ≡ linesOf (p .entries) (view (p .day .diagram) (p .day .terminal r))
-  same-lines = ap (linesOf (λ k. asEntered (entryAt (high t) k))) same-order ∙ linesOf-same _ (p .entries) (view (p .day .diagram) (p .day .terminal r)) entries-same
+  lines-same : inBytes (linesOf (p .entries) (view (p .day .diagram) (p .day .terminal r))) ≡ lines (entryAt (high t)) (order (cellsOf t) n)
+  lines-same =
+      ap inBytes (sym (linesOf-same _ (p .entries) (view (p .day .diagram) (p .day .terminal r)) entries-same))
+      ∙ inBytes-is (entryAt (high t)) (view (p .day .diagram) (p .day .terminal r))
+      ∙ ap (lines (entryAt (high t))) (sym same-order)
+
+  pub same-sheet : (s : List ℕ) → sheet (entryAt (high t)) (order (cellsOf t) n) s ≡ sheetWith (linesOf (p .entries) (view (p .day .diagram) (p .day .terminal r))) s
+  unfolding sheet
+  same-sheet s =
+      let few : length (order (cellsOf t) n) ≡ length (linesOf (p .entries) (view (p .day .diagram) (p .day .terminal r))) =
+      ap length same-order ∙ sym (linesOf-length (p .entries) (view (p .day .diagram) (p .day .terminal r))) in
+      ap (λ z. z ++ drop (12 * length (order (cellsOf t) n)) s) (sym lines-same)
+      ∙ ap (λ k. inBytes (linesOf (p .entries) (view (p .day .diagram) (p .day .terminal r))) ++ drop (12 * k) s) few

@@ -1,0 +1,28 @@
+-- `listing::lines::put` meets its contract: the line's twelve bytes are lent and come back written. Assumes nothing.
+use mathlib.Core.Path.{_∙_, ap}
+use borrow.Author.Needs.{needs}
+use Rattle.entries.specs.declared.entry.Entry.{Entry}
+use Rattle.listing.specs.Lines.{line}
+use Rattle.listing.proofs.Written.{lent-line}
+use Rattle.listing.proofs.lines.put.Statement.{statement}
+use Rattle.listing.proofs.lines.put.Tie as tie
+
+returns : tie.Need-returns
+returns c =
+    let at-read = c .before .before .before .before in
+    let s = at-read .before .before .before .args in
+    lent-line (s .s .now) _ _ (s .i) (c .before .before .write .ensures ∙ ap (λ (e : Entry). line e (s .n)) (at-read .read .ensures))
+
+pub put-spec : {M : Type 1} → statement M
+put-spec =
+    tie.close
+    (tie.spec
+    (λ c κs. search needs)
+    (λ c. search needs)
+    (λ c. search needs)
+    (λ c. search needs)
+    (λ c. search needs)
+    (λ c. search needs)
+    (λ c κs. search needs)
+    (λ c. search needs)
+    returns)

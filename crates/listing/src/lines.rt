@@ -1,0 +1,33 @@
+// The lines of some numbers put into a sheet, in their order.
+ghost use mathlib.Core.Path.{_≡_};
+ghost use mathlib.Core.List.{_++_};
+ghost use Prim.Native.Nat.{_*_, _+_, _≤_};
+ghost use lib.ListN.{drop, length, take};
+ghost use Rattle.entries.specs.Sizes.{bytes};
+ghost use Rattle.entries.specs.Entries.{entryAt};
+ghost use Rattle.listing.specs.Lines.{line, sheet};
+use crate::line;
+
+// Line i is of update n.
+fn put(t: &[u8], n: u16, s: &mut [u8], i: usize)
+    requires { ⌜ (length (now t) ≡ bytes) × (12 * i + 12 ≤ length (now s)) ⌝ }
+    ensures { λ _. ⌜ now (s .exit) ≡ take (12 * i) (now (s .entry)) ++ (line (entryAt (now (t .entry)) n) n ++ drop (12 * i + 12) (now (s .entry))) ⌝ }
+{
+    let e = entries::read::read(t, n);
+    let kind = e.kind;
+    let at = 12 * i;
+    let end = at + 12;
+    line::write(&mut s[at..end], kind, e.client, e.bib, e.v, n as u32);
+}
+
+// The lines of the first `count` numbers of `order`; the other bytes stay.
+pub fn lines(t: &[u8], order: &[u16], count: usize, s: &mut [u8])
+    requires { ⌜ (length (now t) ≡ bytes) × (count ≤ length (now order)) × (12 * count ≤ length (now s)) ⌝ }
+    ensures { λ _. ⌜ now (s .exit) ≡ sheet (entryAt (now (t .entry))) (take count (now (order .entry))) (now (s .entry)) ⌝ }
+{
+    let mut i: usize = 0;
+    while i < count {
+        put(t, order[i], s, i);
+        i += 1;
+    }
+}

@@ -1,0 +1,48 @@
+// The call list: the updates visible at a revision, in listed order, into a lent sheet. The table is only read.
+ghost use mathlib.Core.Bool.{true};
+ghost use mathlib.Core.Path.{_≡_};
+ghost use Prim.Native.Nat.{_<_, _≤_};
+ghost use lib.ListN.{length};
+ghost use Rattle.cells.specs.Sizes.{revisions, updates};
+ghost use Rattle.cells.specs.Range.{inRange};
+ghost use Rattle.table.specs.Halves.{bytes, low};
+ghost use Rattle.table.specs.Answers.{left};
+ghost use Rattle.table.specs.Calls.{shownOut};
+ghost use Rattle.table.specs.Checks.{sheetCheck};
+use crate::answer::Answer;
+use fields::table::Revision;
+
+// Code 12.
+pub enum SheetCheck {
+    Fits,
+    Short,
+}
+
+// n lines of 12 bytes.
+fn check_sheet(sheet: &[u8], n: usize) -> SheetCheck
+    requires { ⌜ n ≤ updates ⌝ }
+    ensures { λ r. ⌜ r ≡ sheetCheck (length (now (sheet .entry))) n ⌝ }
+{
+    if sheet.len() < 12 * n {
+        SheetCheck::Short
+    } else {
+        SheetCheck::Fits
+    }
+}
+
+// What is visible at r, if the sheet has room for it.
+fn show(t: &[u8], r: Revision, sheet: &mut [u8]) -> Answer
+    requires { ⌜ (length (now t) ≡ bytes) × (inRange (low (now t)) ≡ true) × (r .0 < revisions) ⌝ }
+    ensures { λ a. ⌜ left a (now (sheet .exit)) ≡ shownOut (now (t .entry)) (r .0) (now (sheet .entry)) ⌝ }
+{
+    let mut out = [0u16; 4096];
+    let n = order::visible::list(&t[0..40960], r, &mut out);
+    let SheetCheck::Fits = check_sheet(sheet, n) else {
+        return Answer { code: 12, value: 0 };
+    };
+    listing::lines::lines(&t[40960..65536], &out, n, sheet);
+    Answer {
+        code: 0,
+        value: n as u32,
+    }
+}
