@@ -1,6 +1,5 @@
--- Laws of the two halves of the table, of the answers of its checks, and of the calls from their checks.
+-- Laws of the two halves of the table, of the answers of its checks, and of the calls from what their checks find.
 pub mod Halves
-pub mod Checked
 pub mod Checks
-pub mod Updates
+pub mod Calls
 pub mod Listed

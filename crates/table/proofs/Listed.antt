@@ -18,7 +18,8 @@ use Rattle.table.specs.Calls.{shownOut}
 use Rattle.table.specs.Checks.{sheetCheck}
 use Rattle.table.specs.declared.list.SheetCheck.{SheetCheck}
 use Rattle.table.specs.declared.list.SheetCheck.the-variants.{Fits, Short}
-use Rattle.table.proofs.Checks.{fits, high-whole, same-taken}
+use Rattle.table.proofs.Halves.{fits, high-whole}
+use Rattle.table.proofs.Calls.{same-taken}
 
 different : Short ≡ Fits → ⊥
 different e = let z : _≡_ {A = ℕ} 0 1 = cc in omega arith

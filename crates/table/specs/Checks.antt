@@ -1,15 +1,23 @@
--- The answers of the table's own checks, codes 1 and 5, and of all the checks of a query and of an update.
-use Prim.Native.Nat.{ℕ, _*_}
+-- The answers of the table's own checks, codes 1 and 5, and what the checks of a call find, in their order.
+use Prim.{Unit}
+use Prim.Native.Nat.{ℕ, _*_, _<_}
 use mathlib.Core.Bool.{Bool, not, cond}
 use mathlib.Core.List.{List}
+use mathlib.Core.Path.{_≡_}
 use lib.Dec.{eqb, ltb}
 use lib.ListN.{length}
+use Rattle.cells.specs.Sizes.{clients, revisions, updates}
 use Rattle.cells.specs.Decode.{cells}
-use Rattle.cells.specs.Checks.{isClient, givenOut, joined, openElsewhere, busyByOther, stale, logFull}
+use Rattle.cells.specs.Checks.{joined, openElsewhere, busy, busyByOther, stale, logFull, joinable}
+use Rattle.entries.specs.Sizes.{bibs}
+use Rattle.fields.specs.declared.table.Client.{Client}
+use Rattle.fields.specs.declared.table.Revision.{Revision}
+use Rattle.revisions.specs.Checks.{clientCheck, givenCheck, leftCheck}
 use Rattle.table.specs.Halves.{bytes, isTable}
 use Rattle.table.specs.Calls.{badBib}
-use Rattle.table.specs.declared.fresh.LengthCheck.{LengthCheck}
-use Rattle.table.specs.declared.fresh.LengthCheck.the-variants.{Right, Wrong}
+use Rattle.table.specs.Found.{onClient, onGiven, onLeft, onKind, onEvent, onQuiet, onPair}
+use Rattle.table.specs.declared.sound.LengthCheck.{LengthCheck}
+use Rattle.table.specs.declared.sound.LengthCheck.the-variants as buffer
 use Rattle.table.specs.declared.sound.TableCheck.{TableCheck}
 use Rattle.table.specs.declared.sound.TableCheck.the-variants as table
 use Rattle.table.specs.declared.list.SheetCheck.{SheetCheck}
@@ -17,13 +25,14 @@ use Rattle.table.specs.declared.list.SheetCheck.the-variants as list
 use Rattle.table.specs.declared.bib.BibCheck.{BibCheck}
 use Rattle.table.specs.declared.bib.BibCheck.the-variants as bib
 use Rattle.updates.specs.Kinds.{kindCheck}
-use Rattle.updates.specs.declared.kind.Kind.{Kind}
-use Rattle.updates.specs.declared.kind.KindCheck.{KindCheck}
-use Rattle.updates.specs.declared.kind.KindCheck.the-variants as kinds
+use Rattle.table.specs.declared.quiet.QuietCheck.{QuietCheck}
+use Rattle.table.specs.declared.quiet.QuietCheck.the-variants as quiet
+use Rattle.table.specs.declared.event.EventCheck.{EventCheck}
+use Rattle.table.specs.declared.event.EventCheck.the-variants as event
+use Rattle.table.specs.declared.pair.PairCheck.{PairCheck}
+use Rattle.table.specs.declared.pair.PairCheck.the-variants as pair
 use Rattle.table.specs.declared.update.UpdateCheck.{UpdateCheck}
 use Rattle.table.specs.declared.update.UpdateCheck.the-variants as update
-use Rattle.table.specs.declared.query.QueryCheck.{QueryCheck}
-use Rattle.table.specs.declared.query.QueryCheck.the-variants as query
 
 -- 1 "buffer length isn't 65,536, or a cell is out of its range"
 unfoldable pub tableCheck : List ℕ → TableCheck
@@ -31,7 +40,7 @@ tableCheck t = cond (isTable t) table.Sound table.Damaged
 
 -- of fresh: 1 for the length only
 unfoldable pub lengthCheck : List ℕ → LengthCheck
-lengthCheck t = cond (eqb (length t) bytes) Right Wrong
+lengthCheck t = cond (eqb (length t) bytes) buffer.Right buffer.Wrong
 
 -- 12 "the listing's buffer is smaller than it needs": room for n lines
 unfoldable pub sheetCheck : ℕ → ℕ → SheetCheck
@@ -41,43 +50,88 @@ sheetCheck room n = cond (ltb room (12 * n)) list.Short list.Fits
 unfoldable pub bibCheck : ℕ → BibCheck
 bibCheck n = cond (badBib n) bib.Strange bib.Known
 
-abbrev pub stop : Bool → ℕ → QueryCheck → QueryCheck
-stop applies code rest = cond applies (query.Refused code) rest
+-- 3, 4, 7 of a fork and a list
+unfoldable pub quietCheck : List ℕ → ℕ → QuietCheck
+quietCheck d n =
+    onGiven (givenCheck d n) (quiet.Refused 3) (λ r.
+    cond (joined (cells d) (r .0)) (quiet.Refused 4) (
+    cond (busy (cells d) (r .0)) (quiet.Refused 7) (
+    quiet.Quiet r)))
+
+-- 3, 4, 7, 10 of a fork
+unfoldable pub forkCheck : List ℕ → ℕ → PairCheck
+forkCheck d n =
+    onQuiet (quietCheck d n) pair.Refused (λ p.
+    onLeft (leftCheck d) (pair.Refused 10) (λ c.
+    pair.Allowed p c))
+
+-- 3, 4 of a join
+unfoldable pub bothCheck : List ℕ → ℕ → ℕ → PairCheck
+bothCheck d n m =
+    onGiven (givenCheck d n) (pair.Refused 3) (λ a.
+    onGiven (givenCheck d m) (pair.Refused 3) (λ b.
+    cond (joined (cells d) (a .0)) (pair.Refused 4) (
+    cond (joined (cells d) (b .0)) (pair.Refused 4) (
+    pair.Allowed a b))))
+
+-- 7, 11 of a join
+unfoldable pub meetCheck : List ℕ → Revision → Revision → PairCheck
+meetCheck d a b =
+    cond (busy (cells d) (a .0)) (pair.Refused 7) (
+    cond (busy (cells d) (b .0)) (pair.Refused 7) (
+    cond (not (joinable (cells d) (a .0) (b .0))) (pair.Refused 11) (
+    pair.Allowed a b)))
+
+-- 3, 4, 7, 11 of a join
+unfoldable pub joinCheck : List ℕ → ℕ → ℕ → PairCheck
+joinCheck d n m = onPair (bothCheck d n m) pair.Refused (λ a b. meetCheck d a b)
+
+-- 2, 3, 4 of an update and a query
+unfoldable pub placeCheck : List ℕ → ℕ → ℕ → EventCheck
+placeCheck d c n =
+    onClient (clientCheck c) (event.Refused 2) (λ x.
+    onGiven (givenCheck d n) (event.Refused 3) (λ y.
+    cond (joined (cells d) (y .0)) (event.Refused 4) (
+    event.Allowed x y)))
+
+-- 6, 7, 8 of an update and a query
+unfoldable pub turnCheck : List ℕ → Client → Revision → EventCheck
+turnCheck d x y =
+    cond (openElsewhere (cells d) (x .0) (y .0)) (event.Refused 6) (
+    cond (busyByOther (cells d) (x .0) (y .0)) (event.Refused 7) (
+    cond (stale (cells d) (x .0) (y .0)) (event.Refused 8) (
+    event.Allowed x y)))
 
 -- 2 to 8 of a query
-unfoldable pub queryCheck : List ℕ → ℕ → ℕ → ℕ → QueryCheck
+unfoldable pub queryCheck : List ℕ → ℕ → ℕ → ℕ → EventCheck
 queryCheck d c n bib =
-    stop (not (isClient c)) 2 (
-    stop (not (givenOut (cells d) n)) 3 (
-    stop (joined (cells d) n) 4 (
-    stop (badBib bib) 5 (
-    stop (openElsewhere (cells d) c n) 6 (
-    stop (busyByOther (cells d) c n) 7 (
-    stop (stale (cells d) c n) 8 (
-    query.Allowed (record { 0 = c }) (record { 0 = n }))))))))
-
-abbrev pub halt : Bool → ℕ → UpdateCheck → UpdateCheck
-halt applies code rest = cond applies (update.Refused code) rest
-
--- 5 "update kind not 1 to 4"
-unfoldable pub ofKind : KindCheck → (Kind → UpdateCheck) → UpdateCheck
-ofKind kinds.Unknown rest = update.Refused 5
-ofKind (kinds.Known kind) rest = rest kind
-
--- 6 to 9 of an update
-unfoldable pub lateCheck : List ℕ → ℕ → ℕ → Kind → UpdateCheck
-lateCheck d c n kind =
-    halt (openElsewhere (cells d) c n) 6 (
-    halt (busyByOther (cells d) c n) 7 (
-    halt (stale (cells d) c n) 8 (
-    halt (logFull (cells d)) 9 (
-    update.Allowed (record { 0 = c }) (record { 0 = n }) kind))))
+    onEvent (placeCheck d c n) event.Refused (λ x y.
+    cond (badBib bib) (event.Refused 5) (
+    turnCheck d x y))
 
 -- 2 to 9 of an update
 unfoldable pub updateCheck : List ℕ → ℕ → ℕ → ℕ → ℕ → UpdateCheck
 updateCheck d c n k bib =
-    halt (not (isClient c)) 2 (
-    halt (not (givenOut (cells d) n)) 3 (
-    halt (joined (cells d) n) 4 (
-    halt (badBib bib) 5 (
-    ofKind (kindCheck k) (lateCheck d c n)))))
+    onEvent (placeCheck d c n) update.Refused (λ x y.
+    cond (badBib bib) (update.Refused 5) (
+    onKind (kindCheck k) (update.Refused 5) (λ kind.
+    onEvent (turnCheck d x y) update.Refused (λ x y.
+    cond (logFull (cells d)) (update.Refused 9) (
+    update.Allowed x y kind)))))
+
+-- what is found is in range
+abbrev pub eventIn : EventCheck → Type 0
+eventIn (event.Refused k) = Unit {0}
+eventIn (event.Allowed x y) = (x .0 < clients) × (y .0 < revisions)
+
+abbrev pub pairIn : PairCheck → Type 0
+pairIn (pair.Refused k) = Unit {0}
+pairIn (pair.Allowed a b) = (a .0 < revisions) × (b .0 < revisions)
+
+abbrev pub forkIn : List ℕ → PairCheck → Type 0
+forkIn d (pair.Refused k) = Unit {0}
+forkIn d (pair.Allowed p c) = (p .0 < revisions) × (c .0 ≡ cells d .given) × (c .0 < revisions)
+
+abbrev pub updateIn : List ℕ → ℕ → UpdateCheck → Type 0
+updateIn d bib (update.Refused k) = Unit {0}
+updateIn d bib (update.Allowed x y kind) = (x .0 < clients) × (y .0 < revisions) × (cells d .updates < updates) × (bib < bibs)

@@ -2,4 +2,5 @@
 pub mod Halves
 pub mod Answers
 pub mod Calls
+pub mod Found
 pub mod Checks

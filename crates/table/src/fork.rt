@@ -4,24 +4,23 @@ ghost use mathlib.Core.Bool.{true};
 ghost use mathlib.Core.List.{_++_};
 ghost use Prim.Native.Nat.{_<_};
 ghost use lib.ListN.{length};
+ghost use Rattle.cells.specs.Sizes as Lower;
 ghost use Rattle.cells.specs.Sizes.{revisions};
 ghost use Rattle.cells.specs.Range.{inRange};
 ghost use Rattle.cells.specs.Steps.{forkBytes};
-ghost use Rattle.table.specs.Halves.{bytes, high, low};
+ghost use Rattle.table.specs.Halves.{bytes, high, isTable, low};
 ghost use Rattle.table.specs.Answers.{left};
 ghost use Rattle.table.specs.Calls.{forkOut};
+ghost use Rattle.table.specs.Checks.{forkCheck, forkIn};
 use crate::answer::Answer;
+use crate::pair::PairCheck;
+use crate::quiet;
+use crate::quiet::QuietCheck;
+use crate::sound;
 use crate::sound::TableCheck;
-use crate::sound::check_table;
 use fields::table::Revision;
-use revisions::checks::GivenCheck;
-use revisions::checks::JoinedCheck;
+use revisions::checks;
 use revisions::checks::LeftCheck;
-use revisions::checks::UseCheck;
-use revisions::checks::check_given;
-use revisions::checks::check_joined;
-use revisions::checks::check_left;
-use revisions::checks::check_use;
 
 // p forks c, a number that is not the main revision's.
 fn start(t: &mut [u8], p: Revision, c: Revision)
@@ -31,27 +30,46 @@ fn start(t: &mut [u8], p: Revision, c: Revision)
     revisions::fork::fork(&mut t[0..40960], p, c);
 }
 
+// Checks 3, 4, 7, 10: the revision, and the number of the new one.
+fn check_fork(d: &[u8], revision: u8) -> PairCheck
+    requires { ⌜ length (now d) ≡ Lower.bytes ⌝ }
+    ensures { λ a. ⌜ (a ≡ forkCheck (now (d .entry)) revision) × forkIn (now (d .entry)) a ⌝ }
+{
+    let found = quiet::check_quiet(d, revision);
+    match found {
+        QuietCheck::Refused(code) => PairCheck::Refused(code),
+        QuietCheck::Quiet(p) => {
+            let LeftCheck::Next(c) = checks::check_left(d) else {
+                return PairCheck::Refused(10);
+            };
+            PairCheck::Allowed(p, c)
+        }
+    }
+}
+
+// The call on bytes that are a table.
+fn fork_sound(t: &mut [u8], revision: u8) -> Answer
+    requires { ⌜ (isTable (now t) ≡ true) × (length (now t) ≡ bytes) × (inRange (low (now t)) ≡ true) ⌝ }
+    ensures { λ a. ⌜ left a (now (t .exit)) ≡ forkOut (now (t .entry)) revision ⌝ }
+{
+    let found = check_fork(&t[0..40960], revision);
+    match found {
+        PairCheck::Refused(code) => Answer { code, value: 0 },
+        PairCheck::Allowed(p, c) => {
+            start(t, p, c);
+            Answer {
+                code: 0,
+                value: c.0 as u32,
+            }
+        }
+    }
+}
+
 pub fn fork(t: &mut [u8], revision: u8) -> Answer
     ensures { λ a. ⌜ left a (now (t .exit)) ≡ forkOut (now (t .entry)) revision ⌝ }
 {
-    let TableCheck::Sound = check_table(t) else {
+    let TableCheck::Sound = sound::check_table(t) else {
         return Answer { code: 1, value: 0 };
     };
-    let GivenCheck::Given(p) = check_given(&t[0..40960], revision) else {
-        return Answer { code: 3, value: 0 };
-    };
-    let JoinedCheck::Out = check_joined(&t[0..40960], p) else {
-        return Answer { code: 4, value: 0 };
-    };
-    let UseCheck::Free = check_use(&t[0..40960], p) else {
-        return Answer { code: 7, value: 0 };
-    };
-    let LeftCheck::Next(c) = check_left(&t[0..40960]) else {
-        return Answer { code: 10, value: 0 };
-    };
-    start(t, p, c);
-    Answer {
-        code: 0,
-        value: c.0 as u32,
-    }
+    fork_sound(t, revision)
 }

@@ -7,22 +7,9 @@ ghost use Rattle.entries.specs.Sizes as Upper;
 ghost use Rattle.table.specs.Halves.{bytes};
 ghost use Rattle.table.specs.Answers.{left};
 ghost use Rattle.table.specs.Calls.{freshOut};
-ghost use Rattle.table.specs.Checks.{lengthCheck};
 use crate::answer::Answer;
-
-pub enum LengthCheck {
-    Right,
-    Wrong,
-}
-
-pub fn check_length(t: &[u8]) -> LengthCheck
-    ensures { λ r. ⌜ r ≡ lengthCheck (now (t .entry)) ⌝ }
-{
-    if t.len() == 65536 {
-        return LengthCheck::Right;
-    }
-    LengthCheck::Wrong
-}
+use crate::sound;
+use crate::sound::LengthCheck;
 
 // No entries.
 fn clear(p: &mut [u8])
@@ -48,7 +35,7 @@ fn start(t: &mut [u8])
 pub fn fresh(t: &mut [u8]) -> Answer
     ensures { λ a. ⌜ left a (now (t .exit)) ≡ freshOut (now (t .entry)) ⌝ }
 {
-    let LengthCheck::Right = check_length(t) else {
+    let LengthCheck::Right = sound::check_length(t) else {
         return Answer { code: 1, value: 0 };
     };
     start(t);

@@ -5,11 +5,15 @@ ghost use Prim.Native.Nat.{_<_, _≤_};
 ghost use lib.ListN.{length};
 ghost use Rattle.cells.specs.Sizes.{revisions, updates};
 ghost use Rattle.cells.specs.Range.{inRange};
-ghost use Rattle.table.specs.Halves.{bytes, low};
+ghost use Rattle.table.specs.Halves.{bytes, isTable, low};
 ghost use Rattle.table.specs.Answers.{left};
-ghost use Rattle.table.specs.Calls.{shownOut};
+ghost use Rattle.table.specs.Calls.{listOut, shownOut};
 ghost use Rattle.table.specs.Checks.{sheetCheck};
 use crate::answer::Answer;
+use crate::quiet;
+use crate::quiet::QuietCheck;
+use crate::sound;
+use crate::sound::TableCheck;
 use fields::table::Revision;
 
 // Code 12.
@@ -45,4 +49,25 @@ fn show(t: &[u8], r: Revision, sheet: &mut [u8]) -> Answer
         code: 0,
         value: n as u32,
     }
+}
+
+// The call on bytes that are a table.
+fn list_sound(t: &[u8], revision: u8, sheet: &mut [u8]) -> Answer
+    requires { ⌜ (isTable (now t) ≡ true) × (length (now t) ≡ bytes) × (inRange (low (now t)) ≡ true) ⌝ }
+    ensures { λ a. ⌜ left a (now (sheet .exit)) ≡ listOut (now (t .entry)) revision (now (sheet .entry)) ⌝ }
+{
+    let found = quiet::check_quiet(&t[0..40960], revision);
+    match found {
+        QuietCheck::Refused(code) => Answer { code, value: 0 },
+        QuietCheck::Quiet(r) => show(t, r, sheet),
+    }
+}
+
+pub fn list(t: &[u8], revision: u8, sheet: &mut [u8]) -> Answer
+    ensures { λ a. ⌜ left a (now (sheet .exit)) ≡ listOut (now (t .entry)) revision (now (sheet .entry)) ⌝ }
+{
+    let TableCheck::Sound = sound::check_table(t) else {
+        return Answer { code: 1, value: 0 };
+    };
+    list_sound(t, revision, sheet)
 }

@@ -11,21 +11,16 @@ ghost use Rattle.cells.specs.Steps.{queryBytes};
 ghost use Rattle.table.specs.Halves.{bytes, high, isTable, low};
 ghost use Rattle.table.specs.Answers.{left};
 ghost use Rattle.table.specs.Calls.{queryOut, valueAt};
-ghost use Rattle.table.specs.Checks.{queryCheck};
+ghost use Rattle.table.specs.Checks.{eventIn, queryCheck};
 use crate::answer::Answer;
 use crate::bib;
 use crate::bib::BibCheck;
+use crate::event;
+use crate::event::EventCheck;
 use crate::sound;
 use crate::sound::TableCheck;
 use fields::table::Client;
 use fields::table::Revision;
-use revisions::checks;
-use revisions::checks::ClientCheck;
-use revisions::checks::GivenCheck;
-use revisions::checks::JoinedCheck;
-use revisions::checks::OpenCheck;
-use revisions::checks::StaleCheck;
-use revisions::checks::UseCheck;
 
 // The value of a bib after the updates visible at r.
 fn value_at(t: &[u8], r: Revision, bib: u16) -> u32
@@ -45,38 +40,19 @@ fn ask(t: &mut [u8], c: Client, r: Revision)
     revisions::record::query(&mut t[0..40960], c, r);
 }
 
-// What checks 2 to 8 find.
-pub enum QueryCheck {
-    Allowed(Client, Revision),
-    Refused(u8),
-}
-
-fn check_query(d: &[u8], client: u8, revision: u8, bib: u16) -> QueryCheck
+// Checks 2 to 8.
+fn check_query(d: &[u8], client: u8, revision: u8, bib: u16) -> EventCheck
     requires { ⌜ length (now d) ≡ Lower.bytes ⌝ }
-    ensures { λ r. ⌜ r ≡ queryCheck (now (d .entry)) client revision bib ⌝ }
+    ensures { λ a. ⌜ (a ≡ queryCheck (now (d .entry)) client revision bib) × eventIn a ⌝ }
 {
-    let ClientCheck::Known(c) = checks::check_client(client) else {
-        return QueryCheck::Refused(2);
-    };
-    let GivenCheck::Given(r) = checks::check_given(d, revision) else {
-        return QueryCheck::Refused(3);
-    };
-    let JoinedCheck::Out = checks::check_joined(d, r) else {
-        return QueryCheck::Refused(4);
+    let found = event::check_place(d, client, revision);
+    let EventCheck::Allowed(c, r) = found else {
+        return found;
     };
     let BibCheck::Known = bib::check_bib(bib) else {
-        return QueryCheck::Refused(5);
+        return EventCheck::Refused(5);
     };
-    let OpenCheck::Clear = checks::check_open(d, c, r) else {
-        return QueryCheck::Refused(6);
-    };
-    let UseCheck::Free = checks::check_use_by_other(d, c, r) else {
-        return QueryCheck::Refused(7);
-    };
-    let StaleCheck::CaughtUp = checks::check_stale(d, c, r) else {
-        return QueryCheck::Refused(8);
-    };
-    QueryCheck::Allowed(c, r)
+    event::check_turn(d, c, r)
 }
 
 // The call on bytes that are a table.
@@ -86,11 +62,11 @@ fn query_sound(t: &mut [u8], client: u8, revision: u8, bib: u16) -> Answer
 {
     let found = check_query(&t[0..40960], client, revision, bib);
     match found {
-        QueryCheck::Refused(code) => Answer {
+        EventCheck::Refused(code) => Answer {
             code: code,
             value: 0,
         },
-        QueryCheck::Allowed(c, r) => {
+        EventCheck::Allowed(c, r) => {
             let value = value_at(t, r, bib);
             ask(t, c, r);
             Answer {

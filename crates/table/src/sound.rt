@@ -1,20 +1,34 @@
-// Code 1: the buffer is a table.
+// Code 1: the buffer has the length of a table, and is a table.
 ghost use mathlib.Core.Path.{_≡_};
-ghost use Rattle.table.specs.Checks.{tableCheck};
+ghost use Rattle.table.specs.Checks.{lengthCheck, tableCheck};
 use revisions::checks;
 use revisions::checks::RangeCheck;
+
+pub enum LengthCheck {
+    Right,
+    Wrong,
+}
 
 pub enum TableCheck {
     Sound,
     Damaged,
 }
 
+pub fn check_length(t: &[u8]) -> LengthCheck
+    ensures { λ r. ⌜ r ≡ lengthCheck (now (t .entry)) ⌝ }
+{
+    if t.len() == 65536 {
+        return LengthCheck::Right;
+    }
+    LengthCheck::Wrong
+}
+
 pub fn check_table(t: &[u8]) -> TableCheck
     ensures { λ r. ⌜ r ≡ tableCheck (now (t .entry)) ⌝ }
 {
-    if t.len() != 65536 {
+    let LengthCheck::Right = check_length(t) else {
         return TableCheck::Damaged;
-    }
+    };
     let RangeCheck::Sound = checks::check_range(&t[0..40960]) else {
         return TableCheck::Damaged;
     };

@@ -14,22 +14,18 @@ ghost use Rattle.entries.specs.Entries.{wrote};
 ghost use Rattle.table.specs.Halves.{bytes, cellsOf, high, isTable, low};
 ghost use Rattle.table.specs.Answers.{left};
 ghost use Rattle.table.specs.Calls.{updateOut};
-ghost use Rattle.table.specs.Checks.{updateCheck};
+ghost use Rattle.table.specs.Checks.{updateCheck, updateIn};
 use crate::answer::Answer;
 use crate::bib;
 use crate::bib::BibCheck;
+use crate::event;
+use crate::event::EventCheck;
 use crate::sound;
 use crate::sound::TableCheck;
 use fields::table::Client;
 use fields::table::Revision;
 use revisions::checks;
-use revisions::checks::ClientCheck;
-use revisions::checks::GivenCheck;
-use revisions::checks::JoinedCheck;
 use revisions::checks::LogCheck;
-use revisions::checks::OpenCheck;
-use revisions::checks::StaleCheck;
-use revisions::checks::UseCheck;
 use updates::kind;
 use updates::kind::Kind;
 use updates::kind::KindCheck;
@@ -42,36 +38,30 @@ pub enum UpdateCheck {
 
 fn check_update(d: &[u8], client: u8, revision: u8, kind: u8, bib: u16) -> UpdateCheck
     requires { ⌜ length (now d) ≡ Lower.bytes ⌝ }
-    ensures { λ r. ⌜ r ≡ updateCheck (now (d .entry)) client revision kind bib ⌝ }
+    ensures { λ a. ⌜ (a ≡ updateCheck (now (d .entry)) client revision kind bib) × updateIn (now (d .entry)) bib a ⌝ }
 {
-    let ClientCheck::Known(c) = checks::check_client(client) else {
-        return UpdateCheck::Refused(2);
-    };
-    let GivenCheck::Given(r) = checks::check_given(d, revision) else {
-        return UpdateCheck::Refused(3);
-    };
-    let JoinedCheck::Out = checks::check_joined(d, r) else {
-        return UpdateCheck::Refused(4);
-    };
-    let BibCheck::Known = bib::check_bib(bib) else {
-        return UpdateCheck::Refused(5);
-    };
-    let KindCheck::Known(k) = kind::check(kind) else {
-        return UpdateCheck::Refused(5);
-    };
-    let OpenCheck::Clear = checks::check_open(d, c, r) else {
-        return UpdateCheck::Refused(6);
-    };
-    let UseCheck::Free = checks::check_use_by_other(d, c, r) else {
-        return UpdateCheck::Refused(7);
-    };
-    let StaleCheck::CaughtUp = checks::check_stale(d, c, r) else {
-        return UpdateCheck::Refused(8);
-    };
-    let LogCheck::Room = checks::check_log(d) else {
-        return UpdateCheck::Refused(9);
-    };
-    UpdateCheck::Allowed(c, r, k)
+    let found = event::check_place(d, client, revision);
+    match found {
+        EventCheck::Refused(code) => UpdateCheck::Refused(code),
+        EventCheck::Allowed(c, r) => {
+            let BibCheck::Known = bib::check_bib(bib) else {
+                return UpdateCheck::Refused(5);
+            };
+            let KindCheck::Known(k) = kind::check(kind) else {
+                return UpdateCheck::Refused(5);
+            };
+            let next = event::check_turn(d, c, r);
+            match next {
+                EventCheck::Refused(code) => UpdateCheck::Refused(code),
+                EventCheck::Allowed(x, y) => {
+                    let LogCheck::Room = checks::check_log(d) else {
+                        return UpdateCheck::Refused(9);
+                    };
+                    UpdateCheck::Allowed(x, y, k)
+                }
+            }
+        }
+    }
 }
 
 // The update is r's last event; its number is the answer.

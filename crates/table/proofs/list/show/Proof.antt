@@ -5,7 +5,7 @@ use native.Mathlib.Omega.{arith}
 use borrow.Author.Needs.{needs}
 use Rattle.cells.specs.Order.{order}
 use Rattle.table.specs.Halves.{low, high, cellsOf}
-use Rattle.table.proofs.Checks.{fits}
+use Rattle.table.proofs.Halves.{fits}
 use Rattle.table.proofs.Listed.{has-room, listed-short, listed-done}
 use Rattle.table.proofs.list.show.Statement.{statement}
 use Rattle.table.proofs.list.show.Tie as tie

@@ -1,18 +1,16 @@
 -- `table::query::query` meets its contract: code 1, then the other checks and the work. Assumes nothing.
 use mathlib.Core.Path.{_∙_, sym}
 use borrow.Author.Needs.{needs}
-use Rattle.table.proofs.Checks.{is-table, no-query, no-table, table-parts}
+use Rattle.table.proofs.Checks.{is-table, no-table}
+use Rattle.table.proofs.Calls.{no-query}
 use Rattle.table.proofs.query.query.Statement.{statement}
 use Rattle.table.proofs.query.query.Tie as tie
 
 returns : tie.Need-returns
-returns c = no-query _ _ _ _ (no-table _ (sym (c .before .before .check-table .ensures) ∙ c .enum-told2 .given .1))
+returns c = no-query _ (no-table _ (sym (c .before .before .check-table .ensures) ∙ c .enum-told2 .given .1)) _ _ _
 
 query-sound-requires : tie.Need-query-sound-requires
-query-sound-requires c κs =
-    let h = is-table _ (sym (c .before .before .before .check-table .ensures) ∙ c .before .enum-told .given .1) in
-    let p = table-parts _ h in
-    (h, p .0, p .1)
+query-sound-requires c κs = is-table _ (sym (c .before .before .before .check-table .ensures) ∙ c .before .enum-told .given .1)
 
 pub query-spec : {M : Type 1} → statement M
 query-spec = tie.close (tie.spec

@@ -3,7 +3,7 @@ use mathlib.Core.Path.{refl}
 use borrow.Author.Needs.{needs}
 use Rattle.cells.specs.Order.{order}
 use Rattle.table.specs.Halves.{low, high, cellsOf}
-use Rattle.table.proofs.Checks.{fits, value-along}
+use Rattle.table.proofs.Halves.{fits, value-along}
 use Rattle.table.proofs.query.value_at.Statement.{statement}
 use Rattle.table.proofs.query.value_at.Tie as tie
 

@@ -1,163 +1,83 @@
--- `table::update::check_update` meets its contract: the first check that applies decides. Assumes nothing.
-use mathlib.Core.Bool.{false, not}
-use mathlib.Core.Path.{_≡_, sym, _∙_}
+-- `table::update::check_update` meets its contract: what the first checks find, then the others. Assumes nothing.
+use Prim.{tt}
+use mathlib.Core.Path.{sym, _∙_}
 use borrow.Author.Needs.{needs}
-use Rattle.updates.specs.Kinds.{kindCheck}
-use Rattle.updates.specs.declared.kind.KindCheck.the-variants.{Known}
-use Rattle.cells.specs.Decode.{cells}
-use Rattle.cells.specs.Checks.{isClient, givenOut, joined, openElsewhere, busyByOther, stale, logFull}
-use Rattle.table.specs.Calls.{badBib}
-use Rattle.table.specs.Checks.{updateCheck, lateCheck}
-use Rattle.table.proofs.Checks as laws
-use Rattle.table.proofs.Checks.{past, at}
-use Rattle.table.proofs.Updates.{past-kind, at-kind, same-three}
+use Rattle.table.specs.Found.{onEvent, onKind}
+use Rattle.table.specs.Checks.{updateCheck}
+use Rattle.table.proofs.Checks.{bib-known, bib-strange, bib-in, has-room, is-full, log-in}
 use Rattle.table.proofs.update.check_update.Statement.{statement}
 use Rattle.table.proofs.update.check_update.Tie as tie
 
--- what each check that was passed says, at the place after it
-e2 : (c : tie.After-known-told) → (not (isClient (c .before .before .before .before .before .args .client)) ≡ false) × (record { 0 = (c .before .before .before .before .before .args .client) } ≡ c .before .c .given .0 .0)
-e2 c = laws.known _ _ (sym (c .before .before .before .check-client .ensures) ∙ c .before .c .given .1)
-
-e3 : (c : tie.After-known-told2) → (not (givenOut (cells (c .before .before .before .before .before .before .before .before .before .args .d .now)) (c .before .before .before .before .before .before .before .before .before .args .revision)) ≡ false) × (record { 0 = (c .before .before .before .before .before .before .before .before .before .args .revision) } ≡ c .before .r .given .0 .0)
-e3 c = laws.was-given _ _ _ (sym (c .before .before .before .check-given .ensures) ∙ c .before .r .given .1)
-
-e4 : (c : tie.After-enum-told3) → joined (cells (c .before .before .before .before .before .before .before .before .before .before .before .before .args .d .now)) (c .before .before .before .before .before .before .before .before .before .before .before .before .args .revision) ≡ false
-e4 c = laws.is-out _ _ _ (e3 (c .before .before .before) .1) (sym (c .before .before .check-joined .ensures) ∙ c .enum-told3 .given .1)
-
-e5 : (c : tie.After-enum-told5) → badBib (c .before .before .before .before .before .before .before .before .before .before .before .before .before .before .before .args .bib) ≡ false
-e5 c = laws.bib-known _ (sym (c .before .before .check-bib .ensures) ∙ c .enum-told5 .given .1)
-
-ek : (c : tie.After-known-told3) → kindCheck (c .before .before .before .before .before .before .before .before .before .before .before .before .before .before .before .before .before .before .before .args .kind) ≡ Known (c .before .k .given .0 .0)
-ek c = sym (c .before .before .before .check .ensures) ∙ c .before .k .given .1
-
-e6 : (c : tie.After-enum-told8) → openElsewhere (cells (c .before .before .before .before .before .before .before .before .before .before .before .before .before .before .before .before .before .before .before .before .before .before .args .d .now)) (c .before .before .before .before .before .before .before .before .before .before .before .before .before .before .before .before .before .before .before .before .before .before .args .client) (c .before .before .before .before .before .before .before .before .before .before .before .before .before .before .before .before .before .before .before .before .before .before .args .revision) ≡ false
-e6 c = laws.clear _ _ _ (e3 (c .before .before .before .before .before .before .before .before .before .before .before .before .before) .1) _ _ (e2 (c .before .before .before .before .before .before .before .before .before .before .before .before .before .before .before .before .before) .1) (sym (c .before .before .check-open .ensures) ∙ c .enum-told8 .given .1)
-
-e7 : (c : tie.After-enum-told10) → busyByOther (cells (c .before .before .before .before .before .before .before .before .before .before .before .before .before .before .before .before .before .before .before .before .before .before .before .before .before .args .d .now)) (c .before .before .before .before .before .before .before .before .before .before .before .before .before .before .before .before .before .before .before .before .before .before .before .before .before .args .client) (c .before .before .before .before .before .before .before .before .before .before .before .before .before .before .before .before .before .before .before .before .before .before .before .before .before .args .revision) ≡ false
-e7 c = laws.free _ _ _ (e3 (c .before .before .before .before .before .before .before .before .before .before .before .before .before .before .before .before) .1) _ _ (e2 (c .before .before .before .before .before .before .before .before .before .before .before .before .before .before .before .before .before .before .before .before) .1) (sym (c .before .before .check-use-by-other .ensures) ∙ c .enum-told10 .given .1)
-
-e8 : (c : tie.After-enum-told12) → stale (cells (c .before .before .before .before .before .before .before .before .before .before .before .before .before .before .before .before .before .before .before .before .before .before .before .before .before .before .before .before .args .d .now)) (c .before .before .before .before .before .before .before .before .before .before .before .before .before .before .before .before .before .before .before .before .before .before .before .before .before .before .before .before .args .client) (c .before .before .before .before .before .before .before .before .before .before .before .before .before .before .before .before .before .before .before .before .before .before .before .before .before .before .before .before .args .revision) ≡ false
-e8 c = laws.caught-up _ _ _ (e3 (c .before .before .before .before .before .before .before .before .before .before .before .before .before .before .before .before .before .before .before) .1) _ _ (e2 (c .before .before .before .before .before .before .before .before .before .before .before .before .before .before .before .before .before .before .before .before .before .before .before) .1) (sym (c .before .before .check-stale .ensures) ∙ c .enum-told12 .given .1)
-
-e9 : (c : tie.After-enum-told14) → logFull (cells (c .before .before .before .before .before .before .before .before .before .before .before .before .before .before .before .before .before .before .before .before .before .before .before .before .before .before .before .before .before .before .before .args .d .now)) ≡ false
-e9 c = laws.has-room _ (sym (c .before .before .check-log .ensures) ∙ c .enum-told14 .given .1)
-
 returns : tie.Need-returns
-unfolding updateCheck
-returns c = at _ _ _ (laws.strange _ (sym (c .before .before .check-client .ensures) ∙ c .enum-told .given .1))
+unfolding updateCheck onEvent
+returns c =
+    let p = c .before .before .before in
+    let e = sym (p .before .before .before .check-place .ensures .0) ∙ p .before .found2 .given .1 in
+    (rw (e, bib-strange _ (sym (c .before .before .check-bib .ensures) ∙ c .enum-told2 .given .1)), tt)
 
 returns-2 : tie.Need-returns-2
-unfolding updateCheck
+unfolding updateCheck onEvent onKind
 returns-2 c =
-    let k2 = c .before .before .before in
-    past _ _ _ _ (e2 k2 .0) (at _ _ _ (laws.never-given _ _ (sym (c .before .before .check-given .ensures) ∙ c .enum-told2 .given .1)))
+    let b = c .before .before .before in
+    let p = b .before .before .before in
+    let e = sym (p .before .before .before .check-place .ensures .0) ∙ p .before .found2 .given .1 in
+    let f = bib-known _ (sym (b .before .before .check-bib .ensures) ∙ b .enum-told .given .1) in
+    (rw (e, f, sym (c .before .before .check .ensures) ∙ c .enum-told3 .given .1), tt)
 
-check-joined-requires : tie.Need-check-joined-requires
-check-joined-requires c κs = let h = e3 c in (search needs, laws.in-revisions _ _ _ (h .0) (h .1))
+check-turn-requires : tie.Need-check-turn-requires
+check-turn-requires c κs =
+    let p = c .before .before .before .before .before .before .before in
+    let i = rw (p .before .found2 .given .1) at (p .before .before .before .check-place .ensures .1) in
+    (search needs, i .0, i .1)
 
 returns-3 : tie.Need-returns-3
-unfolding updateCheck
+unfolding updateCheck onEvent onKind
 returns-3 c =
-    let k3 = c .before .before .before in
-    let k2 = k3 .before .before .before .before in
-    past _ _ _ _ (e2 k2 .0) (past _ _ _ _ (e3 k3 .0) (at _ _ _
-    (laws.is-joined _ _ _ (e3 k3 .1) (sym (c .before .before .check-joined .ensures) ∙ c .enum-told4 .given .1))))
+    let t = c .before .before .before in
+    let k = t .before .before .before .before in
+    let b = k .before .before .before .before in
+    let p = b .before .before .before in
+    let e = sym (p .before .before .before .check-place .ensures .0) ∙ p .before .found2 .given .1 in
+    let f = bib-known _ (sym (b .before .before .check-bib .ensures) ∙ b .enum-told .given .1) in
+    let g = sym (k .before .before .before .check .ensures) ∙ k .before .k .given .1 in
+    let h = sym (t .before .before .before .check-turn .ensures .0) ∙ t .before .next2 .given .1 in
+    (rw (e, f, g, h, is-full _ (sym (c .before .before .check-log .ensures) ∙ c .enum-told5 .given .1)), tt)
 
 returns-4 : tie.Need-returns-4
-unfolding updateCheck
-returns-4 c =
-    let k4 = c .before .before .before in
-    let k3 = k4 .before .before .before in
-    let k2 = k3 .before .before .before .before in
-    past _ _ _ _ (e2 k2 .0) (past _ _ _ _ (e3 k3 .0) (past _ _ _ _ (e4 k4) (at _ _ _
-    (laws.bib-strange _ (sym (c .before .before .check-bib .ensures) ∙ c .enum-told6 .given .1)))))
+unfolding updateCheck onEvent
+returns-4 c = (rw (sym (c .before .before .before .check-place .ensures .0) ∙ c .before .found .given .1), tt)
 
 returns-5 : tie.Need-returns-5
-unfolding updateCheck
+unfolding updateCheck onEvent onKind
 returns-5 c =
-    let k5 = c .before .before .before in
-    let k4 = k5 .before .before .before in
-    let k3 = k4 .before .before .before in
-    let k2 = k3 .before .before .before .before in
-    past _ _ _ _ (e2 k2 .0) (past _ _ _ _ (e3 k3 .0) (past _ _ _ _ (e4 k4) (past _ _ _ _ (e5 k5) (at-kind _ _
-    (sym (c .before .before .check .ensures) ∙ c .enum-told7 .given .1)))))
-
-check-open-requires : tie.Need-check-open-requires
-check-open-requires c κs = let h = e2 (c .before .before .before .before .before .before .before .before .before .before .before .before .before .before) in (search needs, laws.in-clients _ _ (h .0) (h .1))
+    let k = c .before .before .before .before in
+    let b = k .before .before .before .before in
+    let p = b .before .before .before in
+    let e = sym (p .before .before .before .check-place .ensures .0) ∙ p .before .found2 .given .1 in
+    let f = bib-known _ (sym (b .before .before .check-bib .ensures) ∙ b .enum-told .given .1) in
+    let g = sym (k .before .before .before .check .ensures) ∙ k .before .k .given .1 in
+    (rw (e, f, g, sym (c .before .before .before .check-turn .ensures .0) ∙ c .before .next .given .1), tt)
 
 returns-6 : tie.Need-returns-6
-unfolding updateCheck lateCheck
+unfolding updateCheck onEvent onKind
 returns-6 c =
-    let kk = c .before .before .before in
-    let k5 = kk .before .before .before .before in
-    let k4 = k5 .before .before .before in
-    let k3 = k4 .before .before .before in
-    let k2 = k3 .before .before .before .before in
-    past _ _ _ _ (e2 k2 .0) (past _ _ _ _ (e3 k3 .0) (past _ _ _ _ (e4 k4) (past _ _ _ _ (e5 k5) (past-kind _ _ _ _ (ek kk) (at _ _ _
-    (laws.elsewhere _ _ _ (e3 k3 .1) _ _ (e2 k2 .1) (sym (c .before .before .check-open .ensures) ∙ c .enum-told9 .given .1)))))))
-
-returns-7 : tie.Need-returns-7
-unfolding updateCheck lateCheck
-returns-7 c =
-    let k6 = c .before .before .before in
-    let kk = k6 .before .before .before in
-    let k5 = kk .before .before .before .before in
-    let k4 = k5 .before .before .before in
-    let k3 = k4 .before .before .before in
-    let k2 = k3 .before .before .before .before in
-    past _ _ _ _ (e2 k2 .0) (past _ _ _ _ (e3 k3 .0) (past _ _ _ _ (e4 k4) (past _ _ _ _ (e5 k5) (past-kind _ _ _ _ (ek kk) (past _ _ _ _ (e6 k6) (at _ _ _
-    (laws.in-use _ _ _ (e3 k3 .1) _ _ (e2 k2 .1) (sym (c .before .before .check-use-by-other .ensures) ∙ c .enum-told11 .given .1))))))))
-
-check-stale-requires : tie.Need-check-stale-requires
-check-stale-requires c κs =
-    let k3 = c .before .before .before .before .before .before .before .before .before .before .before .before .before .before .before .before in
-    let h = e3 k3 in
-    let g = e2 (k3 .before .before .before .before) in
-    (search needs, laws.in-clients _ _ (g .0) (g .1), laws.in-revisions _ _ _ (h .0) (h .1))
-
-returns-8 : tie.Need-returns-8
-unfolding updateCheck lateCheck
-returns-8 c =
-    let k7 = c .before .before .before in
-    let k6 = k7 .before .before .before in
-    let kk = k6 .before .before .before in
-    let k5 = kk .before .before .before .before in
-    let k4 = k5 .before .before .before in
-    let k3 = k4 .before .before .before in
-    let k2 = k3 .before .before .before .before in
-    past _ _ _ _ (e2 k2 .0) (past _ _ _ _ (e3 k3 .0) (past _ _ _ _ (e4 k4) (past _ _ _ _ (e5 k5) (past-kind _ _ _ _ (ek kk) (past _ _ _ _ (e6 k6) (past _ _ _ _ (e7 k7) (at _ _ _
-    (laws.is-stale _ _ _ (e3 k3 .1) _ _ (e2 k2 .1) (sym (c .before .before .check-stale .ensures) ∙ c .enum-told13 .given .1)))))))))
-
-returns-9 : tie.Need-returns-9
-unfolding updateCheck lateCheck
-returns-9 c =
-    let k8 = c .before .before .before in
-    let k7 = k8 .before .before .before in
-    let k6 = k7 .before .before .before in
-    let kk = k6 .before .before .before in
-    let k5 = kk .before .before .before .before in
-    let k4 = k5 .before .before .before in
-    let k3 = k4 .before .before .before in
-    let k2 = k3 .before .before .before .before in
-    past _ _ _ _ (e2 k2 .0) (past _ _ _ _ (e3 k3 .0) (past _ _ _ _ (e4 k4) (past _ _ _ _ (e5 k5) (past-kind _ _ _ _ (ek kk) (past _ _ _ _ (e6 k6) (past _ _ _ _ (e7 k7) (past _ _ _ _ (e8 k8) (at _ _ _
-    (laws.is-full _ (sym (c .before .before .check-log .ensures) ∙ c .enum-told15 .given .1))))))))))
-
-returns-10 : tie.Need-returns-10
-unfolding updateCheck lateCheck
-returns-10 c =
-    let k8 = c .before .before .before in
-    let k7 = k8 .before .before .before in
-    let k6 = k7 .before .before .before in
-    let kk = k6 .before .before .before in
-    let k5 = kk .before .before .before .before in
-    let k4 = k5 .before .before .before in
-    let k3 = k4 .before .before .before in
-    let k2 = k3 .before .before .before .before in
-    past _ _ _ _ (e2 k2 .0) (past _ _ _ _ (e3 k3 .0) (past _ _ _ _ (e4 k4) (past _ _ _ _ (e5 k5) (past-kind _ _ _ _ (ek kk) (past _ _ _ _ (e6 k6) (past _ _ _ _ (e7 k7) (past _ _ _ _ (e8 k8) (past _ _ _ _ (e9 c)
-    (same-three _ _ _ _ _ (e2 k2 .1) (e3 k3 .1))))))))))
+    let t = c .before .before .before in
+    let k = t .before .before .before .before in
+    let b = k .before .before .before .before in
+    let p = b .before .before .before in
+    let e = sym (p .before .before .before .check-place .ensures .0) ∙ p .before .found2 .given .1 in
+    let f = bib-known _ (sym (b .before .before .check-bib .ensures) ∙ b .enum-told .given .1) in
+    let g = sym (k .before .before .before .check .ensures) ∙ k .before .k .given .1 in
+    let h = sym (t .before .before .before .check-turn .ensures .0) ∙ t .before .next2 .given .1 in
+    let l = has-room _ (sym (c .before .before .check-log .ensures) ∙ c .enum-told4 .given .1) in
+    let i = rw (t .before .next2 .given .1) at (t .before .before .before .check-turn .ensures .1) in
+    (rw (e, f, g, h, l), (i .0, i .1, log-in _ l, bib-in _ f))
 
 pub check-update-spec : {M : Type 1} → statement M
 check-update-spec = tie.close (tie.spec
+    (λ c κs. search needs)
+    (λ c. search needs)
+    (λ c. search needs)
     (λ c κs. search needs)
     (λ c. search needs)
     (λ c. search needs)
@@ -166,32 +86,13 @@ check-update-spec = tie.close (tie.spec
     (λ c. search needs)
     (λ c. search needs)
     returns-2
-    check-joined-requires
+    check-turn-requires
+    (λ c. search needs)
+    (λ c. search needs)
+    (λ c κs. search needs)
     (λ c. search needs)
     (λ c. search needs)
     returns-3
-    (λ c κs. search needs)
-    (λ c. search needs)
-    (λ c. search needs)
     returns-4
-    (λ c κs. search needs)
-    (λ c. search needs)
-    (λ c. search needs)
     returns-5
-    check-open-requires
-    (λ c. search needs)
-    (λ c. search needs)
-    returns-6
-    (λ c κs. search needs)
-    (λ c. search needs)
-    (λ c. search needs)
-    returns-7
-    check-stale-requires
-    (λ c. search needs)
-    (λ c. search needs)
-    returns-8
-    (λ c κs. c .before .before .before .before .before .before .before .before .before .before .before .before .before .before .before .before .before .before .before .before .before .before .before .before .before .before .before .before .pre)
-    (λ c. search needs)
-    (λ c. search needs)
-    returns-9
-    returns-10)
+    returns-6)

@@ -3,7 +3,7 @@ use Prim.Native.Nat.{_<_}
 use mathlib.Core.Path.{_∙_}
 use Rattle.cells.specs.Steps.{updateBytes}
 use Rattle.table.specs.Halves.{low}
-use Rattle.table.proofs.Updates.{below, put-done}
+use Rattle.table.proofs.Halves.{below, put-done}
 use borrow.Author.Needs.{needs}
 use Rattle.table.proofs.update.put.Statement.{statement}
 use Rattle.table.proofs.update.put.Tie as tie

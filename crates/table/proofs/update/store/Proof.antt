@@ -1,6 +1,6 @@
 -- `table::update::store` meets its contract: the high half is lent and comes back. Assumes nothing.
 use Rattle.table.specs.Halves.{low, high}
-use Rattle.table.proofs.Updates.{store-done}
+use Rattle.table.proofs.Halves.{store-done}
 use borrow.Author.Needs.{needs}
 use Rattle.table.proofs.update.store.Statement.{statement}
 use Rattle.table.proofs.update.store.Tie as tie

@@ -1,19 +1,16 @@
 -- `table::update::update` meets its contract: code 1, then the other checks and the work. Assumes nothing.
 use mathlib.Core.Path.{_∙_, sym}
 use borrow.Author.Needs.{needs}
-use Rattle.table.proofs.Checks.{is-table, no-table, table-parts}
-use Rattle.table.proofs.Updates.{no-update}
+use Rattle.table.proofs.Checks.{is-table, no-table}
+use Rattle.table.proofs.Calls.{no-update}
 use Rattle.table.proofs.update.update.Statement.{statement}
 use Rattle.table.proofs.update.update.Tie as tie
 
 returns : tie.Need-returns
-returns c = no-update _ _ _ _ _ _ (no-table _ (sym (c .before .before .check-table .ensures) ∙ c .enum-told2 .given .1))
+returns c = no-update _ (no-table _ (sym (c .before .before .check-table .ensures) ∙ c .enum-told2 .given .1)) _ _ _ _ _
 
 update-sound-requires : tie.Need-update-sound-requires
-update-sound-requires c κs =
-    let h = is-table _ (sym (c .before .before .before .check-table .ensures) ∙ c .before .enum-told .given .1) in
-    let p = table-parts _ h in
-    (h, p .0, p .1)
+update-sound-requires c κs = is-table _ (sym (c .before .before .before .check-table .ensures) ∙ c .before .enum-told .given .1)
 
 pub update-spec : {M : Type 1} → statement M
 update-spec = tie.close (tie.spec

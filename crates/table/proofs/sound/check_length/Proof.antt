@@ -1,8 +1,8 @@
--- `table::fresh::check_length` meets its contract: the test decides. Assumes nothing.
+-- `table::sound::check_length` meets its contract: the test decides. Assumes nothing.
 use borrow.Author.Needs.{needs}
-use Rattle.table.proofs.Checked.{other-length, same-length}
-use Rattle.table.proofs.fresh.check_length.Statement.{statement}
-use Rattle.table.proofs.fresh.check_length.Tie as tie
+use Rattle.table.proofs.Checks.{other-length, same-length}
+use Rattle.table.proofs.sound.check_length.Statement.{statement}
+use Rattle.table.proofs.sound.check_length.Tie as tie
 
 returns : tie.Need-returns
 returns c = same-length _ (c .if1 .taken)
