@@ -1,0 +1,59 @@
+// Each code from 1 to 12 at least once; 9 and 10 are in log.rt and forks.rt.
+use crate::calls::fork;
+use crate::calls::fresh;
+use crate::calls::join;
+use crate::calls::list;
+use crate::calls::query;
+use crate::calls::update;
+use crate::calls::yields;
+use crate::say;
+
+pub fn one(short: &mut [u8], t: &mut [u8]) {
+    say::title(b"1 no table: a byte short; cells out of range");
+    fresh(short);
+    yields(short, 0);
+    yields(t, 0);
+    fresh(t);
+}
+
+pub fn two_to_four(t: &mut [u8]) {
+    say::title(b"2 strange tablet");
+    yields(t, 16);
+    say::title(b"3 never sent");
+    fork(t, 1);
+    join(t, 0, 64);
+    say::title(b"4 handed in");
+    fork(t, 0);
+    join(t, 0, 1);
+    query(t, 0, 1, 7);
+}
+
+pub fn five(t: &mut [u8]) {
+    say::title(b"5 bad entry: bib 1000; kind 0; kind 5");
+    query(t, 0, 0, 1000);
+    update(t, 0, 0, 0, 7, 1);
+    update(t, 0, 0, 5, 7, 1);
+}
+
+pub fn six_and_seven(t: &mut [u8], sheet: &mut [u8]) {
+    say::title(b"6 other box open");
+    fork(t, 0);
+    update(t, 0, 0, 1, 7, 1);
+    query(t, 0, 2, 7);
+    say::title(b"7 in use");
+    update(t, 1, 0, 1, 7, 1);
+    fork(t, 0);
+    list(t, 0, sheet);
+    join(t, 2, 0);
+}
+
+pub fn eight_to_twelve(t: &mut [u8], sheet: &mut [u8]) {
+    say::title(b"8 not caught up");
+    yields(t, 0);
+    query(t, 0, 2, 7);
+    say::title(b"11 not joinable: box 0; itself");
+    join(t, 2, 0);
+    join(t, 2, 2);
+    say::title(b"12 sheet short");
+    list(t, 0, sheet);
+}
