@@ -1,18 +1,15 @@
 -- Each call from what its checks find.
 use Prim.Native.Nat.{ℕ, _<_}
 use mathlib.Core.Bool.{Bool, true, false, not, cond, _||_}
-use mathlib.Core.Path.{_≡_, refl, ap, sym, _∙_}
+use mathlib.Core.Path.{_≡_, refl, sym, _∙_}
 use mathlib.Core.List.{List, _++_}
 use native.Mathlib.Omega.{arith}
-use Rattle.updates.specs.Kinds.{kindCheck}
 use Rattle.updates.specs.declared.kind.Kind.{Kind}
 use Rattle.updates.specs.declared.kind.KindCheck.{KindCheck}
 use Rattle.updates.specs.declared.kind.KindCheck.the-variants as kinds
-use Rattle.cells.specs.Cells.{Cells}
 use Rattle.cells.specs.Decode.{cells}
-use Rattle.cells.specs.Sizes.{revisions}
 use Rattle.cells.specs.Steps.{updateBytes, queryBytes, closeBytes, forkBytes, joinBytes}
-use Rattle.cells.specs.Checks.{isClient, givenOut, joined, busy, noneLeft}
+use Rattle.cells.specs.Checks.{isClient, givenOut, noneLeft}
 use Rattle.entries.specs.Stored.{entry}
 use Rattle.entries.specs.Entries.{wrote}
 use Rattle.fields.specs.declared.table.Client.{Client}
@@ -20,7 +17,6 @@ use Rattle.fields.specs.declared.table.Revision.{Revision}
 use Rattle.revisions.specs.Checks.{clientCheck, givenCheck, leftCheck}
 use Rattle.revisions.specs.declared.checks.ClientCheck.{ClientCheck}
 use Rattle.revisions.specs.declared.checks.ClientCheck.the-variants as client
-use Rattle.revisions.specs.declared.checks.GivenCheck.{GivenCheck}
 use Rattle.revisions.specs.declared.checks.GivenCheck.the-variants as given
 use Rattle.revisions.specs.declared.checks.LeftCheck.the-variants as left
 use Rattle.table.specs.Halves.{low, high, cellsOf, isTable}
@@ -29,14 +25,12 @@ use Rattle.table.specs.Calls.{updateOut, queryOut, yieldOut, forkOut, jo
 use Rattle.table.specs.Found.{onClient, onGiven, onLeft, onKind, onQuiet, onEvent, onPair}
 use Rattle.table.specs.Checks.{quietCheck, forkCheck, bothCheck, meetCheck, joinCheck, placeCheck, turnCheck, queryCheck, updateCheck}
 use Rattle.table.specs.declared.quiet.QuietCheck.{QuietCheck}
-use Rattle.table.specs.declared.quiet.QuietCheck.the-variants as quiet
 use Rattle.table.specs.declared.event.EventCheck.{EventCheck}
 use Rattle.table.specs.declared.event.EventCheck.the-variants as event
 use Rattle.table.specs.declared.pair.PairCheck.{PairCheck}
 use Rattle.table.specs.declared.pair.PairCheck.the-variants as pair
 use Rattle.table.specs.declared.update.UpdateCheck.{UpdateCheck}
 use Rattle.table.specs.declared.update.UpdateCheck.the-variants as update
-use Rattle.table.proofs.Checks.{failed, was-given}
 
 unfoldable pub onUpdate : UpdateCheck → (ℕ → Out) → (Client → Revision → Kind → Out) → Out
 onUpdate (update.Refused k) end rest = end k
@@ -108,20 +102,7 @@ pub pair-ends : (f q : PairCheck) (k : ℕ) (rest : Revision → Revision → Pa
 unfolding onPair
 pair-ends f q k rest e h = h ∙ rw (sym e ∙ h)
 
--- a revision that is quiet was given out
-quiet-of : (q : GivenCheck) (j b : Revision → Bool) (x : Revision)
-    → onGiven q (quiet.Refused 3) (λ r. cond (j r) (quiet.Refused 4) (cond (b r) (quiet.Refused 7) (quiet.Quiet r))) ≡ quiet.Quiet x → q ≡ given.Given x
-unfolding onGiven
-quiet-of given.Never j b x e = cc
-quiet-of (given.Given r) j b x e =
-    let p = failed (j r) _ _ _ (λ h. let z : _≡_ {A = ℕ} 0 1 = cc in omega arith) e in
-    let q = failed (b r) _ _ _ (λ h. let z : _≡_ {A = ℕ} 0 1 = cc in omega arith) (p .1) in
-    cc (q .1)
-
-pub quiet-in : (d : List ℕ) (n : ℕ) (x : Revision) → quietCheck d n ≡ quiet.Quiet x → x .0 < revisions
-unfolding quietCheck
-quiet-in d n x e = was-given d n x (quiet-of (givenCheck d n) (λ r. joined (cells d) (r .0)) (λ r. busy (cells d) (r .0)) x e)
-
+-- one of two
 either : (a b : Bool) (x y : Out) → cond (a || b) x y ≡ cond a x (cond b x y)
 either true b x y = refl
 either false b x y = refl

@@ -1,23 +1,21 @@
--- What the answer of each check says.
+-- What the answer of each check of a call says. Those of the whole buffer, code 1, are in Buffer.antt.
 use Prim.Native.Nat.{ℕ, _<_}
-use mathlib.Core.Bool.{Bool, true, false, not, cond, _&&_}
-use mathlib.Core.Path.{_≡_, refl, sym, ap, _∙_}
+use mathlib.Core.Bool.{Bool, true, false, not, cond}
+use mathlib.Core.Path.{_≡_, refl}
 use mathlib.Core.List.{List}
 use native.Mathlib.Omega.{arith}
-use lib.Dec.{eqb, ltb}
-use lib.ListN.{length}
-use borrow.Author.Tests.{eq-eqb, ne-eqb, eqb-true, ltb-true}
+use lib.Dec.{ltb}
+use borrow.Author.Tests.{ltb-true}
 use Rattle.lists.proofs.Cases.{and-true}
 use Rattle.fields.specs.declared.table.Client.{Client}
 use Rattle.fields.specs.declared.table.Revision.{Revision}
 use Rattle.cells.specs.Sizes.{clients, revisions, updates}
 use Rattle.cells.specs.Decode.{cells}
-use Rattle.cells.specs.Range.{inRange}
 use Rattle.cells.specs.Checks.{isClient, givenOut, joined, openElsewhere, busy, busyByOther, stale, logFull, noneLeft, joinable}
 use Rattle.entries.specs.Sizes.{bibs}
-use Rattle.revisions.specs.Checks.{rangeCheck, clientCheck, givenCheck, joinedCheck, openCheck, useCheck, otherUseCheck, staleCheck, logCheck, leftCheck, joinCheck}
-use Rattle.revisions.specs.declared.checks.RangeCheck.the-variants as range
+use Rattle.revisions.specs.Checks.{clientCheck, givenCheck, joinedCheck, openCheck, useCheck, otherUseCheck, staleCheck, logCheck, leftCheck, joinCheck}
 use Rattle.revisions.specs.declared.checks.ClientCheck.the-variants as client
+use Rattle.revisions.specs.declared.checks.GivenCheck.{GivenCheck}
 use Rattle.revisions.specs.declared.checks.GivenCheck.the-variants as given
 use Rattle.revisions.specs.declared.checks.JoinedCheck.the-variants as out
 use Rattle.revisions.specs.declared.checks.OpenCheck.the-variants as transaction
@@ -26,12 +24,11 @@ use Rattle.revisions.specs.declared.checks.StaleCheck.the-variants as event
 use Rattle.revisions.specs.declared.checks.LogCheck.the-variants as log
 use Rattle.revisions.specs.declared.checks.LeftCheck.the-variants as left
 use Rattle.revisions.specs.declared.checks.JoinCheck.the-variants as join
-use Rattle.table.specs.Halves.{bytes, low, isTable}
 use Rattle.table.specs.Calls.{badBib}
-use Rattle.table.specs.Checks.{lengthCheck, tableCheck, bibCheck}
-use Rattle.table.specs.declared.sound.LengthCheck.the-variants as buffer
-use Rattle.table.specs.declared.sound.TableCheck.the-variants as table
+use Rattle.table.specs.Checks.{bibCheck, quietCheck}
+use Rattle.table.specs.Found.{onGiven}
 use Rattle.table.specs.declared.bib.BibCheck.the-variants as bib
+use Rattle.table.specs.declared.quiet.QuietCheck.the-variants as quiet
 
 -- the answer is not the second one, so the test held; or not the first one, so it did not
 pub held : {A : Type 0} (test : Bool) (a b x : A) → (b ≡ x → ⊥) → cond test a b ≡ x → (test ≡ true) × (a ≡ x)
@@ -45,58 +42,6 @@ failed false a b x never e = (refl, e)
 pub not-false : (b : Bool) → not b ≡ false → b ≡ true
 not-false true e = refl
 not-false false e = absurd (let z : _≡_ {A = ℕ} 0 1 = cc in omega arith)
-
--- code 1
-pub same-length : (t : List ℕ) → length t ≡ bytes → buffer.Right ≡ lengthCheck t
-unfolding lengthCheck
-same-length t h = sym (ap (λ b. cond b buffer.Right buffer.Wrong) (eq-eqb (length t) bytes h))
-
-pub other-length : (t : List ℕ) → (length t ≡ bytes → ⊥) → buffer.Wrong ≡ lengthCheck t
-unfolding lengthCheck
-other-length t h = sym (ap (λ b. cond b buffer.Right buffer.Wrong) (ne-eqb (length t) bytes h))
-
-pub right : (t : List ℕ) → lengthCheck t ≡ buffer.Right → eqb (length t) bytes ≡ true
-unfolding lengthCheck
-right t e = held (eqb (length t) bytes) _ _ _ (λ h. let z : _≡_ {A = ℕ} 0 1 = cc in omega arith) e .0
-
-pub wrong : (t : List ℕ) → lengthCheck t ≡ buffer.Wrong → eqb (length t) bytes ≡ false
-unfolding lengthCheck
-wrong t e = failed (eqb (length t) bytes) _ _ _ (λ h. let z : _≡_ {A = ℕ} 0 1 = cc in omega arith) e .0
-
-pub long : (t : List ℕ) → lengthCheck t ≡ buffer.Right → length t ≡ bytes
-long t e = eqb-true (length t) bytes (right t e)
-
-and-left : {A : Type 0} (a b : Bool) (x y : A) → a ≡ false → y ≡ cond (a && b) x y
-and-left a b x y e = rw e
-
-and-right : {A : Type 0} (a b : Bool) (x y : A) → a ≡ true → b ≡ false → y ≡ cond (a && b) x y
-and-right a b x y e f = rw (e, f)
-
-and-both : {A : Type 0} (a b : Bool) (x y : A) → a ≡ true → b ≡ true → x ≡ cond (a && b) x y
-and-both a b x y e f = rw (e, f)
-
-pub wrong-length : (t : List ℕ) → lengthCheck t ≡ buffer.Wrong → table.Damaged ≡ tableCheck t
-unfolding tableCheck isTable
-wrong-length t e = and-left _ _ _ _ (wrong t e)
-
-pub wrong-cells : (t : List ℕ) → lengthCheck t ≡ buffer.Right → rangeCheck (low t) ≡ range.Damaged → table.Damaged ≡ tableCheck t
-unfolding tableCheck isTable rangeCheck
-wrong-cells t h e = and-right _ _ _ _ (right t h) (failed _ _ _ _ (λ d. let z : _≡_ {A = ℕ} 0 1 = cc in omega arith) e .0)
-
-pub right-cells : (t : List ℕ) → lengthCheck t ≡ buffer.Right → rangeCheck (low t) ≡ range.Sound → table.Sound ≡ tableCheck t
-unfolding tableCheck isTable rangeCheck
-right-cells t h e = and-both _ _ _ _ (right t h) (held _ _ _ _ (λ d. let z : _≡_ {A = ℕ} 0 1 = cc in omega arith) e .0)
-
-pub is-table : (t : List ℕ) → tableCheck t ≡ table.Sound → (isTable t ≡ true) × (length t ≡ bytes) × (inRange (low t) ≡ true)
-unfolding tableCheck isTable
-is-table t e =
-    let h = held (isTable t) _ _ _ (λ d. let z : _≡_ {A = ℕ} 0 1 = cc in omega arith) e .0 in
-    let p = and-true (eqb (length t) bytes) (inRange (low t)) h in
-    (h, eqb-true (length t) bytes (p .0), p .1)
-
-pub no-table : (t : List ℕ) → tableCheck t ≡ table.Damaged → isTable t ≡ false
-unfolding tableCheck
-no-table t e = failed (isTable t) _ _ _ (λ d. let z : _≡_ {A = ℕ} 0 1 = cc in omega arith) e .0
 
 -- code 2
 pub known : (n : ℕ) (x : Client) → clientCheck n ≡ client.Known x → x .0 < clients
@@ -203,3 +148,17 @@ module _ (d : List ℕ) where
   pub may-not : (n m : ℕ) → joinCheck d n m ≡ join.Not → joinable (cells d) n m ≡ false
   unfolding joinCheck
   may-not n m e = failed (joinable (cells d) n m) _ _ _ (λ d. let z : _≡_ {A = ℕ} 0 1 = cc in omega arith) e .0
+
+-- a revision that is quiet was given out
+quiet-of : (q : GivenCheck) (j b : Revision → Bool) (x : Revision)
+    → onGiven q (quiet.Refused 3) (λ r. cond (j r) (quiet.Refused 4) (cond (b r) (quiet.Refused 7) (quiet.Quiet r))) ≡ quiet.Quiet x → q ≡ given.Given x
+unfolding onGiven
+quiet-of given.Never j b x e = cc
+quiet-of (given.Given r) j b x e =
+    let p = failed (j r) _ _ _ (λ h. let z : _≡_ {A = ℕ} 0 1 = cc in omega arith) e in
+    let q = failed (b r) _ _ _ (λ h. let z : _≡_ {A = ℕ} 0 1 = cc in omega arith) (p .1) in
+    cc (q .1)
+
+pub quiet-in : (d : List ℕ) (n : ℕ) (x : Revision) → quietCheck d n ≡ quiet.Quiet x → x .0 < revisions
+unfolding quietCheck
+quiet-in d n x e = was-given d n x (quiet-of (givenCheck d n) (λ r. joined (cells d) (r .0)) (λ r. busy (cells d) (r .0)) x e)

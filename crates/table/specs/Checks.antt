@@ -1,7 +1,7 @@
 -- The answers of the table's own checks, codes 1 and 5, and what the checks of a call find, in their order.
 use Prim.{Unit}
 use Prim.Native.Nat.{ℕ, _*_, _<_}
-use mathlib.Core.Bool.{Bool, not, cond}
+use mathlib.Core.Bool.{not, cond}
 use mathlib.Core.List.{List}
 use mathlib.Core.Path.{_≡_}
 use lib.Dec.{eqb, ltb}

@@ -62,17 +62,11 @@ fn query_sound(t: &mut [u8], client: u8, revision: u8, bib: u16) -> Answer
 {
     let found = check_query(&t[0..40960], client, revision, bib);
     match found {
-        EventCheck::Refused(code) => Answer {
-            code: code,
-            value: 0,
-        },
+        EventCheck::Refused(code) => Answer { code, value: 0 },
         EventCheck::Allowed(c, r) => {
             let value = value_at(t, r, bib);
             ask(t, c, r);
-            Answer {
-                code: 0,
-                value: value,
-            }
+            Answer { code: 0, value }
         }
     }
 }

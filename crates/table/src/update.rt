@@ -36,6 +36,7 @@ pub enum UpdateCheck {
     Refused(u8),
 }
 
+// Checks 2 to 9.
 fn check_update(d: &[u8], client: u8, revision: u8, kind: u8, bib: u16) -> UpdateCheck
     requires { ⌜ length (now d) ≡ Lower.bytes ⌝ }
     ensures { λ a. ⌜ (a ≡ updateCheck (now (d .entry)) client revision kind bib) × updateIn (now (d .entry)) bib a ⌝ }
@@ -97,13 +98,10 @@ fn update_sound(t: &mut [u8], client: u8, revision: u8, kind: u8, bib: u16, v: u
 {
     let found = check_update(&t[0..40960], client, revision, kind, bib);
     match found {
-        UpdateCheck::Refused(code) => Answer {
-            code: code,
-            value: 0,
-        },
+        UpdateCheck::Refused(code) => Answer { code, value: 0 },
         UpdateCheck::Allowed(c, r, k) => {
-            let u = put(t, c, r, k, bib, v);
-            Answer { code: 0, value: u }
+            let value = put(t, c, r, k, bib, v);
+            Answer { code: 0, value }
         }
     }
 }

@@ -4,8 +4,7 @@ use mathlib.Core.Path.{sym, _∙_}
 use borrow.Author.Needs.{needs}
 use Rattle.table.specs.Found.{onLeft, onQuiet}
 use Rattle.table.specs.Checks.{forkCheck}
-use Rattle.table.proofs.Checks.{next}
-use Rattle.table.proofs.Calls.{quiet-in}
+use Rattle.table.proofs.Checks.{next, quiet-in}
 use Rattle.table.proofs.fork.check_fork.Statement.{statement}
 use Rattle.table.proofs.fork.check_fork.Tie as tie
 

@@ -3,7 +3,7 @@ use mathlib.Core.Path.{_∙_, ap, sym}
 use borrow.Author.Needs.{needs}
 use Rattle.table.specs.Answers.{taken}
 use Rattle.table.specs.Calls.{freshOut}
-use Rattle.table.proofs.Checks.{long, right, wrong}
+use Rattle.table.proofs.Buffer.{long, right, wrong}
 use Rattle.table.proofs.fresh.fresh.Statement.{statement}
 use Rattle.table.proofs.fresh.fresh.Tie as tie
 

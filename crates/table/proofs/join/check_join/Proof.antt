@@ -1,5 +1,5 @@
 -- `table::join::check_join` meets its contract: what the first checks find, then the others. Assumes nothing.
-use mathlib.Core.Path.{sym, _∙_, ap}
+use mathlib.Core.Path.{sym, _∙_}
 use borrow.Author.Needs.{needs}
 use Rattle.table.specs.Found.{onPair}
 use Rattle.table.specs.Checks.{joinCheck}

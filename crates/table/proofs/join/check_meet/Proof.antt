@@ -1,7 +1,6 @@
 -- `table::join::check_meet` meets its contract: the first check that applies decides. Assumes nothing.
 use Prim.{tt}
-use mathlib.Core.Bool.{not}
-use mathlib.Core.Path.{sym, _∙_, ap}
+use mathlib.Core.Path.{sym, _∙_}
 use borrow.Author.Needs.{needs}
 use Rattle.table.specs.Checks.{meetCheck}
 use Rattle.table.proofs.Checks.{free, in-use, may-join, may-not}

@@ -3,7 +3,8 @@ use mathlib.Core.Path.{sym, _∙_}
 use borrow.Author.Needs.{needs}
 use Rattle.table.specs.Halves.{low}
 use Rattle.table.specs.Found.{onQuiet}
-use Rattle.table.proofs.Calls.{list-by, quiet-in}
+use Rattle.table.proofs.Checks.{quiet-in}
+use Rattle.table.proofs.Calls.{list-by}
 use Rattle.table.proofs.list.list_sound.Statement.{statement}
 use Rattle.table.proofs.list.list_sound.Tie as tie
 

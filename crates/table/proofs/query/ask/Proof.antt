@@ -1,17 +1,15 @@
--- `table::query::ask` meets its contract: the low half is lent and comes back. Assumes nothing.
-use Prim.Native.Nat.{ℕ}
-use mathlib.Core.Path.{ap}
-use mathlib.Core.List.{List, _++_}
+-- `table::query::ask` meets its contract: the lower half is lent and comes back written. Assumes nothing.
 use borrow.Author.Needs.{needs}
-use Rattle.table.specs.Halves.{low, high}
+use Rattle.cells.specs.Steps.{queryBytes}
+use Rattle.table.proofs.Halves.{low-lent}
 use Rattle.table.proofs.query.ask.Statement.{statement}
 use Rattle.table.proofs.query.ask.Tie as tie
 
 returns : tie.Need-returns
-unfolding low high
 returns c =
     let at-query = c .before .before in
-    ap (λ (x : List ℕ). x ++ high (at-query .before .before .before .args .t .now)) (at-query .query .ensures)
+    let s = at-query .before .before .before .args in
+    low-lent (λ d. queryBytes d (s .c .0) (s .r .0)) (s .t .now) _ (at-query .query .ensures)
 
 pub ask-spec : {M : Type 1} → statement M
 ask-spec = tie.close (tie.spec

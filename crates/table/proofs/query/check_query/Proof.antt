@@ -1,6 +1,6 @@
 -- `table::query::check_query` meets its contract: what the first checks find, then the others. Assumes nothing.
 use Prim.{tt}
-use mathlib.Core.Path.{sym, _∙_, ap}
+use mathlib.Core.Path.{sym, _∙_}
 use borrow.Author.Needs.{needs}
 use Rattle.table.specs.Found.{onEvent}
 use Rattle.table.specs.Checks.{queryCheck}

@@ -1,6 +1,5 @@
 -- `table::sound::check_length` meets its contract: the test decides. Assumes nothing.
-use borrow.Author.Needs.{needs}
-use Rattle.table.proofs.Checks.{other-length, same-length}
+use Rattle.table.proofs.Buffer.{other-length, same-length}
 use Rattle.table.proofs.sound.check_length.Statement.{statement}
 use Rattle.table.proofs.sound.check_length.Tie as tie
 

@@ -2,7 +2,7 @@
 use mathlib.Core.Path.{_∙_, sym}
 use borrow.Author.Needs.{needs}
 use Rattle.table.specs.Halves.{low}
-use Rattle.table.proofs.Checks.{long, wrong-length, wrong-cells, right-cells}
+use Rattle.table.proofs.Buffer.{long, wrong-length, wrong-cells, right-cells}
 use Rattle.table.proofs.sound.check_table.Statement.{statement}
 use Rattle.table.proofs.sound.check_table.Tie as tie
 

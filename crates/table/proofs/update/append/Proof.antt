@@ -1,8 +1,7 @@
--- `table::update::append` meets its contract: the low half is lent and comes back. Assumes nothing.
-use Prim.Native.Nat.{ℕ}
-use mathlib.Core.Path.{ap}
-use mathlib.Core.List.{List, _++_}
-use Rattle.table.specs.Halves.{low, high}
+-- `table::update::append` meets its contract: the lower half is lent and comes back written. Assumes nothing.
+use Rattle.cells.specs.Steps.{updateBytes}
+use Rattle.table.specs.Halves.{low}
+use Rattle.table.proofs.Halves.{low-lent}
 use borrow.Author.Needs.{needs}
 use Rattle.table.proofs.update.append.Statement.{statement}
 use Rattle.table.proofs.update.append.Tie as tie
@@ -14,10 +13,11 @@ update-requires c κs =
     (search needs, start .pre .1, start .pre .2, start .pre .3, start .pre .4)
 
 returns : tie.Need-returns
-unfolding low high
+unfolding low
 returns c =
     let at-update = c .before .before in
-    (at-update .update .ensures .0, ap (λ (x : List ℕ). x ++ high (at-update .before .before .before .args .t .now)) (at-update .update .ensures .1))
+    let s = at-update .before .before .before .args in
+    (at-update .update .ensures .0, low-lent (λ d. updateBytes d (s .c .0) (s .r .0)) (s .t .now) _ (at-update .update .ensures .1))
 
 pub append-spec : {M : Type 1} → statement M
 append-spec = tie.close (tie.spec

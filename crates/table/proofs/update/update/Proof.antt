@@ -1,7 +1,7 @@
 -- `table::update::update` meets its contract: code 1, then the other checks and the work. Assumes nothing.
 use mathlib.Core.Path.{_∙_, sym}
 use borrow.Author.Needs.{needs}
-use Rattle.table.proofs.Checks.{is-table, no-table}
+use Rattle.table.proofs.Buffer.{is-table, no-table}
 use Rattle.table.proofs.Calls.{no-update}
 use Rattle.table.proofs.update.update.Statement.{statement}
 use Rattle.table.proofs.update.update.Tie as tie

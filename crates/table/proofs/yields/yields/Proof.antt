@@ -3,7 +3,8 @@ use mathlib.Core.Path.{_∙_, ap, sym}
 use borrow.Author.Needs.{needs}
 use Rattle.table.specs.Answers.{taken}
 use Rattle.table.specs.Found.{onClient}
-use Rattle.table.proofs.Checks.{is-table, no-table, known}
+use Rattle.table.proofs.Checks.{known}
+use Rattle.table.proofs.Buffer.{is-table, no-table}
 use Rattle.table.proofs.Calls.{no-yield, yield-by}
 use Rattle.table.proofs.yields.yields.Statement.{statement}
 use Rattle.table.proofs.yields.yields.Tie as tie
