@@ -1,0 +1,3 @@
+-- Laws that belong to no one function, and examples.
+pub mod Widths
+pub mod Examples

@@ -1,0 +1,12 @@
+-- Numbers of several bytes, "least significant first", of any width.
+use Prim.Native.Nat.{ℕ, _+_, _*_}
+use mathlib.Core.List.{List, [], _∷_}
+use lib.ListN.{take, drop}
+
+unfoldable pub number : List ℕ → ℕ
+number [] = 0
+number (b ∷ bytes) = b + 256 * number bytes
+
+-- the number of `width` bytes from place `at` on
+abbrev pub numberAt : List ℕ → ℕ → ℕ → ℕ
+numberAt bytes at width = number (take width (drop at bytes))
