@@ -26,21 +26,23 @@ impl Day {
 
     /// Makes one call. A refused one changes nothing.
     pub fn call(&mut self, call: Call) -> Answer {
-        let t = &mut self.0;
-        let result = match call {
-            Call::Update { client, revision, kind, bib, v } => {
-                update(t, client, revision, kind, bib, v)
-            }
-            Call::Query { client, revision, bib } => query(t, client, revision, bib),
-            Call::Yield { client } => yield_(t, client),
-            Call::Fork { revision } => fork(t, revision),
-            Call::Join { joiner, joinee } => join(t, joiner, joinee),
-            Call::List { revision, room } => {
-                return listed(t, revision, room).map_or_else(Answer::refused, Answer::listed)
-            }
-        };
-        result.map_or_else(Answer::refused, Answer::accepted)
+        crate::call(&mut self.0, call).unwrap_or_else(Answer::refused)
     }
+}
+
+/// Makes one call on any bytes.
+pub fn call(t: &mut [u8], call: Call) -> Result<Answer, Code> {
+    let value = match call {
+        Call::Update { client, revision, kind, bib, v } => {
+            update(t, client, revision, kind, bib, v)?
+        }
+        Call::Query { client, revision, bib } => query(t, client, revision, bib)?,
+        Call::Yield { client } => yield_(t, client)?,
+        Call::Fork { revision } => fork(t, revision)?,
+        Call::Join { joiner, joinee } => join(t, joiner, joinee)?,
+        Call::List { revision, room } => return listed(t, revision, room).map(Answer::listed),
+    };
+    Ok(Answer::accepted(value))
 }
 
 /// The lines of a listing, read back from the sheet.

@@ -20,5 +20,5 @@ mod table;
 mod update;
 
 pub use self::calls::{fork, fresh, join, list, query, update, yield_};
-pub use day::Day;
+pub use day::{call, Day};
 pub use parts::BYTES;
