@@ -26,7 +26,7 @@ impl From<Kind> for u8 {
     }
 }
 
-/// A table on bytes of its own, as `[u8; BYTES]` or `Vec<u8>`, or lent, as `&mut [u8]`.
+/// A table on bytes of its own, as `[u8; BYTES]` or `Box<[u8]>`, or on lent ones, as `&mut [u8]`.
 ///
 /// Nothing but the bytes is kept. A refused call changes none of them. A box is a revision of the
 /// table, a tablet is a client.
