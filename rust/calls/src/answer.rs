@@ -28,6 +28,20 @@ pub struct Line {
     pub number: u32,
 }
 
+impl Line {
+    /// From the bytes of the listing, least significant first.
+    pub fn from_bytes(bytes: [u8; 12]) -> Self {
+        let [kind, client, bib_low, bib_high, v0, v1, v2, v3, number @ ..] = bytes;
+        Line {
+            kind,
+            client,
+            bib: u16::from_le_bytes([bib_low, bib_high]),
+            v: u32::from_le_bytes([v0, v1, v2, v3]),
+            number: u32::from_le_bytes(number),
+        }
+    }
+}
+
 impl Answer {
     /// A refusal: value 0, nothing written.
     pub fn refused(code: Code) -> Self {

@@ -1,7 +1,8 @@
 //! Day files: 01, "Day file and printed day".
 //!
 //! A day file is a header and 12-byte records. This library reads and writes it, turns it into a
-//! text of one step a line and back, and shows what a day answers, by the plain implementation.
+//! text of one step a line and back, shows what a day answers, by the plain implementation, and
+//! draws its diagram.
 //!
 //! ```
 //! let records = dayfile::read_text("update 0/0 Time bib 7 61000\nquery 0/0 bib 7\n")?;
@@ -12,12 +13,14 @@
 
 #![forbid(unsafe_code)]
 
+mod drawn;
 mod file;
 mod printed;
 mod record;
 mod shown;
 mod text;
 
+pub use drawn::drawn_day;
 pub use file::{read_file, write_file, BadFile, LONGEST, MOST_STEPS};
 pub use printed::{answers, printed_day};
 pub use record::{Record, StepByte};

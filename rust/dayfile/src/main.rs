@@ -7,7 +7,8 @@ use std::io::{self, Read, Write};
 use std::process::ExitCode;
 
 use dayfile::{
-    printed_day, read_file, read_text, shown_day, write_file, write_text, Record, LONGEST,
+    drawn_day, printed_day, read_file, read_text, shown_day, write_file, write_text, Record,
+    LONGEST,
 };
 
 const HELP: &str = "\
@@ -17,6 +18,7 @@ usage: dayfile pack   [TEXT [FILE]]   text to day file
        dayfile unpack [FILE [TEXT]]   day file to text
        dayfile show   [FILE]          each step with its code, value and refusal
        dayfile print  [FILE]          the printed day: index, code, value
+       dayfile draw   [FILE [SVG]]    the day's diagram as a picture
        dayfile --help                 this text
 
 A missing name or `-` means standard input or standard output.
@@ -54,6 +56,9 @@ fn main() -> ExitCode {
         ["show", file] => show(file),
         ["print"] => print("-"),
         ["print", file] => print(file),
+        ["draw"] => draw("-", "-"),
+        ["draw", file] => draw(file, "-"),
+        ["draw", file, picture] => draw(file, picture),
         _ => {
             eprintln!("dayfile: wrong usage; see dayfile --help");
             return ExitCode::from(2);
@@ -82,6 +87,10 @@ fn unpack(file: &str, text: &str) -> Result<(), String> {
 
 fn show(file: &str) -> Result<(), String> {
     write_bytes("-", shown_day(&records(file)?).as_bytes())
+}
+
+fn draw(file: &str, picture: &str) -> Result<(), String> {
+    write_bytes(picture, drawn_day(&records(file)?).as_bytes())
 }
 
 /// A bad file is printed as such, and is an error besides.

@@ -2,7 +2,8 @@
 
 use calls::{Answer, Call, Code};
 use dayfile::{
-    printed_day, read_file, read_text, write_file, write_text, BadFile, Record, LONGEST, MOST_STEPS,
+    answers, drawn_day, printed_day, read_file, read_text, write_file, write_text, BadFile, Record,
+    LONGEST, MOST_STEPS,
 };
 use days::{random_day, Profile, Rng};
 
@@ -128,6 +129,26 @@ fn random_files_print_alike_through_text_and_by_the_literal_replay() {
         assert_eq!(printed_day(&again), printed_day(&bytes), "seed {seed}");
         assert_eq!(write_text(&read_file(&again).unwrap()), text, "seed {seed}");
         assert_eq!(printed_by_literal(&records), printed_day(&bytes), "seed {seed}");
+    }
+}
+
+/// A vertex for each accepted event, fork and join, and a start for each revision.
+#[test]
+fn random_files_are_drawn_step_by_step() {
+    for seed in 0..500 {
+        let mut rng = Rng::new(seed);
+        let records: Vec<Record> = (0..rng.below(60)).map(|_| random_record(&mut rng)).collect();
+        let accepted = || {
+            let answered = records.iter().zip(answers(&records));
+            answered.filter(|(_, answer)| answer.code == Code::Accepted).map(|(r, _)| r.call())
+        };
+        let forks = accepted().filter(|call| matches!(call, Some(Call::Fork { .. }))).count();
+        let yields = accepted().filter(|call| matches!(call, Some(Call::Yield { .. }))).count();
+        let picture = drawn_day(&records);
+        let count = |mark| picture.matches(mark).count();
+        assert_eq!(count("<circle class"), accepted().count() - yields, "seed {seed}");
+        assert_eq!(count(">box "), forks + 1, "seed {seed}");
+        assert_eq!(count("</svg>"), 1, "seed {seed}");
     }
 }
 

@@ -82,6 +82,13 @@ fn prints_the_day() {
     assert_eq!(printed.lines().nth(11), Some("10 0 65000"));
 }
 
+/// The committed picture is what the tool makes.
+#[test]
+fn draws_the_day() {
+    let drawn = String::from_utf8(output(&["draw"], FILE)).unwrap();
+    assert_eq!(drawn, include_str!("../../../docs/crossing.svg"));
+}
+
 #[test]
 fn help_goes_to_standard_output() {
     let help = String::from_utf8(output(&["--help"], b"")).unwrap();

@@ -1,15 +1,18 @@
-//! The checks that look at the day: codes 3, 4 and 6 to 11.
+//! The checks that look at cells: codes 3, 4 and 6 to 11.
 
 use calls::Code;
 
-use crate::day::Day;
 use crate::numbers::{Client, Revision, REVISIONS};
+use crate::order::UPDATES;
+use crate::parts::{CLOSED, IS_JOINED, NEVER};
+use crate::table::Table;
 
-impl Day {
+impl Table<'_> {
     /// Code 3.
-    pub(crate) fn given(&self, number: u8) -> Result<Revision, Code> {
-        if number < self.given {
-            Ok(Revision(number))
+    pub(crate) fn check_given(&self, number: u8) -> Result<Revision, Code> {
+        let revision = Revision(number);
+        if usize::from(number) < REVISIONS && self.state(revision) != NEVER {
+            Ok(revision)
         } else {
             Err(Code::NeverForked)
         }
@@ -17,60 +20,49 @@ impl Day {
 
     /// Code 4.
     pub(crate) fn check_out(&self, revision: Revision) -> Result<(), Code> {
-        if self.joined.has(revision) {
-            return Err(Code::Joined);
-        }
-        Ok(())
+        refuse(self.state(revision) == IS_JOINED, Code::Joined)
     }
 
-    /// Codes 6, 7 and 8 of update and query. A client that goes on with its open transaction is
-    /// alone there and caught up.
+    /// Codes 6, 7 and 8 of update and query.
     pub(crate) fn check_may_enter(&self, client: Client, revision: Revision) -> Result<(), Code> {
-        match self.open[client.index()] {
-            Some(open) if open == revision => Ok(()),
-            Some(_) => Err(Code::OtherRevisionOpen),
-            None => {
-                self.check_idle(revision)?;
-                if self.caught_up[client.index()].has(revision) {
-                    Ok(())
-                } else {
-                    Err(Code::StaleClient)
-                }
-            }
-        }
+        let opened = self.opened();
+        let open = opened[client.index()];
+        refuse(open != CLOSED && open != revision.0, Code::OtherRevisionOpen)?;
+        let mut clients = opened.iter().enumerate();
+        let by_other = clients.any(|(c, &open)| c != client.index() && open == revision.0);
+        refuse(by_other, Code::InUse)?;
+        refuse(!self.caught(client).has(revision), Code::StaleClient)
     }
 
     /// Code 7 of fork, join and list.
     pub(crate) fn check_idle(&self, revision: Revision) -> Result<(), Code> {
-        if self.open.contains(&Some(revision)) {
-            return Err(Code::InUse);
-        }
-        Ok(())
+        refuse(self.opened().contains(&revision.0), Code::InUse)
     }
 
     /// Code 9.
     pub(crate) fn check_log(&self) -> Result<(), Code> {
-        if self.history.is_full() {
-            return Err(Code::LogFull);
-        }
-        Ok(())
+        refuse(usize::from(self.updates()) >= UPDATES, Code::LogFull)
     }
 
-    /// Code 10.
-    pub(crate) fn check_revision_left(&self) -> Result<(), Code> {
-        if usize::from(self.given) == REVISIONS {
-            return Err(Code::NoRevisionLeft);
-        }
-        Ok(())
+    /// Code 10, or the next revision number.
+    pub(crate) fn check_left(&self) -> Result<Revision, Code> {
+        let given = self.given();
+        refuse(usize::from(given) >= REVISIONS, Code::NoRevisionLeft)?;
+        Ok(Revision(given))
     }
 
-    /// Code 11. No revision is ever marked as joinable by itself or by one that saw its start, and
-    /// the main revision never is.
+    /// Code 11.
     pub(crate) fn check_joinable(&self, joiner: Revision, joinee: Revision) -> Result<(), Code> {
-        if self.joinable[joiner.index()].has(joinee) {
-            Ok(())
-        } else {
-            Err(Code::NotJoinable)
-        }
+        let joinable =
+            joinee != Revision::MAIN && joiner != joinee && self.seen(joiner).has(joinee);
+        refuse(!joinable, Code::NotJoinable)
+    }
+}
+
+fn refuse(applies: bool, code: Code) -> Result<(), Code> {
+    if applies {
+        Err(code)
+    } else {
+        Ok(())
     }
 }

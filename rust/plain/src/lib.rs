@@ -1,17 +1,24 @@
-//! The table's calls in plain Rust: ordinary structs, no graph and no search.
+//! The table's calls in plain Rust, on the cells of docs/CELLS.md.
 //!
 //! It is the yardstick of speed for the proved table, and one of the two sides of the random
-//! tests. It rests on the theory of revision diagrams, not on their definition: a mark for each
-//! pair of revisions decides joins, a mark for each client and revision decides who is caught up,
-//! and a revision sees what it inherited at its start and its own list.
+//! tests: the same bytes, checks and steps, written from docs/CELLS.md alone, as one would write
+//! them without proofs. So it leaves the bytes that the proved table leaves, on every buffer.
 
 #![forbid(unsafe_code)]
 
+mod calls;
 mod checks;
 mod day;
-mod history;
+mod entry;
 mod marks;
 mod numbers;
+mod order;
+mod parts;
+mod range;
+mod steps;
+mod table;
 mod update;
 
-pub use day::Day;
+pub use self::calls::{fork, fresh, join, list, query, update, yield_};
+pub use day::{call, Day};
+pub use parts::BYTES;

@@ -7,8 +7,13 @@ use crate::numbers::Revision;
 pub(crate) struct Marks(u64);
 
 impl Marks {
-    pub(crate) const NONE: Marks = Marks(0);
-    pub(crate) const ALL: Marks = Marks(u64::MAX);
+    pub(crate) fn from_bytes(bytes: [u8; 8]) -> Self {
+        Marks(u64::from_le_bytes(bytes))
+    }
+
+    pub(crate) fn to_bytes(self) -> [u8; 8] {
+        self.0.to_le_bytes()
+    }
 
     pub(crate) fn only(revision: Revision) -> Self {
         Marks(1 << revision.0)
@@ -18,12 +23,12 @@ impl Marks {
         self.0 & Marks::only(revision).0 != 0
     }
 
-    pub(crate) fn with(self, other: Marks) -> Self {
+    pub(crate) fn or(self, other: Marks) -> Self {
         Marks(self.0 | other.0)
     }
 
-    pub(crate) fn set(&mut self, revision: Revision, yes: bool) {
+    pub(crate) fn with(self, revision: Revision, yes: bool) -> Self {
         let one = Marks::only(revision).0;
-        self.0 = if yes { self.0 | one } else { self.0 & !one };
+        Marks(if yes { self.0 | one } else { self.0 & !one })
     }
 }

@@ -24,6 +24,20 @@ impl Kind {
         }
     }
 
+    /// Of the two bits in an entry, whatever the others are.
+    pub(crate) fn from_bits(bits: u8) -> Self {
+        match bits & 3 {
+            0 => Kind::Time,
+            1 => Kind::Earliest,
+            2 => Kind::Penalty,
+            _ => Kind::Strike,
+        }
+    }
+
+    pub(crate) fn bits(self) -> u8 {
+        self as u8 - 1
+    }
+
     /// The value after an update of this kind.
     pub(crate) fn applied(self, value: u32, v: u32) -> u32 {
         match self {

@@ -1,0 +1,20 @@
+-- What an export hands back: the answer in one number, beside the bytes that the call leaves.
+use Prim.Native.Nat.{ℕ, _+_, _*_}
+use mathlib.Core.List.{List}
+use Rattle.table.specs.Answers.{Out}
+
+-- the code in the upper 32 bits, the value in the lower
+abbrev pub packed : ℕ → ℕ → ℕ
+packed code value = code * 4294967296 + value
+
+pub record Handed : Type 0 where
+  pub result : ℕ
+  pub table : List ℕ
+
+-- a result, and the bytes at exit
+abbrev pub handed : ℕ → List ℕ → Handed
+handed result table = record { result = result; table = table }
+
+-- an answer of 01 as its export hands it back
+unfoldable pub exported : Out → Handed
+exported o = handed (packed (o .code) (o .value)) (o .table)

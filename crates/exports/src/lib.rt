@@ -1,0 +1,67 @@
+// The calls of the table for C and Rust: numbers and byte slices alone, the answer packed into one number
+// (specs/Packed.antt). A slice is passed as a pointer and a length. The call list joins these when `table` has it.
+ghost use mathlib.Core.Path.{_≡_};
+ghost use Rattle.table.specs.Calls.{forkOut, freshOut, joinOut, queryOut, updateOut, yieldOut};
+ghost use Rattle.exports.specs.Packed.{exported, handed, packed};
+
+// The code in the upper 32 bits, the value in the lower.
+fn pack(code: u8, value: u32) -> u64
+    ensures { λ r. ⌜ r ≡ packed code value ⌝ }
+{
+    (code as u64) * 4294967296 + (value as u64)
+}
+
+#[no_mangle]
+pub extern "C" fn silttongs_fresh(t: &mut [u8]) -> u64
+    ensures { λ r. ⌜ handed r (now (t .exit)) ≡ exported (freshOut (now (t .entry))) ⌝ }
+{
+    let a = table::fresh::fresh(t);
+    pack(a.code, a.value)
+}
+
+#[no_mangle]
+pub extern "C" fn silttongs_update(
+    t: &mut [u8],
+    client: u8,
+    revision: u8,
+    kind: u8,
+    bib: u16,
+    v: u32,
+) -> u64
+    ensures { λ r. ⌜ handed r (now (t .exit)) ≡ exported (updateOut (now (t .entry)) client revision kind bib v) ⌝ }
+{
+    let a = table::update::update(t, client, revision, kind, bib, v);
+    pack(a.code, a.value)
+}
+
+#[no_mangle]
+pub extern "C" fn silttongs_query(t: &mut [u8], client: u8, revision: u8, bib: u16) -> u64
+    ensures { λ r. ⌜ handed r (now (t .exit)) ≡ exported (queryOut (now (t .entry)) client revision bib) ⌝ }
+{
+    let a = table::query::query(t, client, revision, bib);
+    pack(a.code, a.value)
+}
+
+#[no_mangle]
+pub extern "C" fn silttongs_yield(t: &mut [u8], client: u8) -> u64
+    ensures { λ r. ⌜ handed r (now (t .exit)) ≡ exported (yieldOut (now (t .entry)) client) ⌝ }
+{
+    let a = table::yields::yields(t, client);
+    pack(a.code, a.value)
+}
+
+#[no_mangle]
+pub extern "C" fn silttongs_fork(t: &mut [u8], revision: u8) -> u64
+    ensures { λ r. ⌜ handed r (now (t .exit)) ≡ exported (forkOut (now (t .entry)) revision) ⌝ }
+{
+    let a = table::fork::fork(t, revision);
+    pack(a.code, a.value)
+}
+
+#[no_mangle]
+pub extern "C" fn silttongs_join(t: &mut [u8], joiner: u8, joinee: u8) -> u64
+    ensures { λ r. ⌜ handed r (now (t .exit)) ≡ exported (joinOut (now (t .entry)) joiner joinee) ⌝ }
+{
+    let a = table::join::join(t, joiner, joinee);
+    pack(a.code, a.value)
+}

@@ -1,0 +1,37 @@
+/* The example day of examples/crossing.txt, called from C. From the repository's folder:
+ *
+ *     rt staticlib exports
+ *     cc -Iinclude examples/c/crossing.c target/staticlib/libexports.a -o target/crossing
+ *     target/crossing
+ */
+#include <inttypes.h>
+#include <stdint.h>
+#include <stdio.h>
+
+#include "silttongs.h"
+
+static uint8_t table[SILTTONGS_BYTES];
+
+static void show(const char *step, uint64_t answer) {
+    printf("%-26s code %2u  value %" PRIu32 "\n", step, (unsigned)silttongs_code(answer),
+           silttongs_value(answer));
+}
+
+int main(void) {
+    size_t n = sizeof table;
+    show("query before fresh", silttongs_query(table, n, 0, 0, 7));
+    show("fresh", silttongs_fresh(table, n));
+    show("update 0/0 Time 61000", silttongs_update(table, n, 0, 0, SILTTONGS_TIME, 7, 61000));
+    show("yield 0", silttongs_yield(table, n, 0));
+    show("fork box 0", silttongs_fork(table, n, 0));
+    show("update 1/1 Penalty 5000", silttongs_update(table, n, 1, 1, SILTTONGS_PENALTY, 7, 5000));
+    show("fork box 1", silttongs_fork(table, n, 1));
+    show("yield 1", silttongs_yield(table, n, 1));
+    show("update 0/0 Time 60000", silttongs_update(table, n, 0, 0, SILTTONGS_TIME, 7, 60000));
+    show("yield 0", silttongs_yield(table, n, 0));
+    show("query 0/1", silttongs_query(table, n, 0, 1, 7));
+    show("join 0 with 1", silttongs_join(table, n, 0, 1));
+    show("query 1/0", silttongs_query(table, n, 1, 0, 7));
+    show("update 0/1 Strike", silttongs_update(table, n, 0, 1, SILTTONGS_STRIKE, 7, 0));
+    return 0;
+}

@@ -1,0 +1,88 @@
+/* The revision table for timing boxes: its calls, for C and C++.
+ *
+ * Link target/staticlib/libexports.a, which `rt staticlib exports` writes for x86-64 Linux.
+ *
+ * A table is a buffer of SILTTONGS_BYTES bytes that the caller lends for each call; nothing else
+ * is kept. `table` points to `length` bytes that no one else reads or writes during the call, and
+ * is not null. Every content and every number is answered: what is proved of the calls has no
+ * precondition besides.
+ *
+ * Each call hands back its answer in one number: silttongs_code is 0 if the call was taken, else
+ * says why it was refused; silttongs_value is the value named below, 0 in a refusal. A refusal
+ * changes no byte. The checks run in ascending order of their codes.
+ *
+ * A box is a revision of the table, a tablet is a client. Boxes are 0 to 63, tablets 0 to 15,
+ * bibs 0 to 999, and a day takes 4,096 updates.
+ */
+#ifndef SILTTONGS_H
+#define SILTTONGS_H
+
+#include <stddef.h>
+#include <stdint.h>
+
+#ifdef __cplusplus
+extern "C" {
+#endif
+
+/* The length of a table. */
+#define SILTTONGS_BYTES 65536
+
+/* Why a call was refused. */
+enum {
+    SILTTONGS_TAKEN = 0,          /* it was not */
+    SILTTONGS_NO_TABLE = 1,       /* wrong length, or a cell is out of its range */
+    SILTTONGS_STRANGE_TABLET = 2, /* tablet above 15 */
+    SILTTONGS_NEVER_SENT = 3,     /* box number not yet given out */
+    SILTTONGS_HANDED_IN = 4,      /* box already a joinee */
+    SILTTONGS_BAD_ENTRY = 5,      /* bib above 999, or update kind not 1 to 4 */
+    SILTTONGS_OTHER_BOX_OPEN = 6, /* the tablet's open transaction is on another box */
+    SILTTONGS_IN_USE = 7,         /* another tablet, or for fork and join any, is at work there */
+    SILTTONGS_NOT_CAUGHT_UP = 8,  /* the box has not seen the tablet's last event */
+    SILTTONGS_LOG_FULL = 9,       /* 4,096 updates taken */
+    SILTTONGS_NO_BOX_LEFT = 10,   /* 64 boxes started */
+    SILTTONGS_NOT_JOINABLE = 11   /* box 0, the joiner itself, its fork unseen, or its start seen */
+};
+
+/* The kinds of update. */
+enum {
+    SILTTONGS_TIME = 1,     /* the value becomes v */
+    SILTTONGS_EARLIEST = 2, /* the smaller of value and v, of those that are not 0 */
+    SILTTONGS_PENALTY = 3,  /* v is added, modulo 2 to the 32nd */
+    SILTTONGS_STRIKE = 4    /* the value becomes 0 */
+};
+
+/* The code of an answer. */
+static inline uint8_t silttongs_code(uint64_t answer) { return (uint8_t)(answer >> 32); }
+
+/* The value of an answer. */
+static inline uint32_t silttongs_value(uint64_t answer) { return (uint32_t)answer; }
+
+/* Starts a new day, whatever the bytes were: box 0 alone, 0 for every bib. Code 1, for the length
+ * only. Value: 0. */
+uint64_t silttongs_fresh(uint8_t *table, size_t length);
+
+/* Enters an update of a bib on a box, in the tablet's transaction there, which it opens if need
+ * be. Codes 1 to 9. Value: how many updates the day took before it, its number. */
+uint64_t silttongs_update(uint8_t *table, size_t length, uint8_t tablet, uint8_t box, uint8_t kind,
+                          uint16_t bib, uint32_t v);
+
+/* Looks up a bib on a box, in the tablet's transaction there, which it opens if need be. It writes
+ * to the table: a query is an event. Codes 1 to 8 (of 5, the bib only). Value: the bib's value in
+ * thousandths of a second, 0 for no time. */
+uint64_t silttongs_query(uint8_t *table, size_t length, uint8_t tablet, uint8_t box, uint16_t bib);
+
+/* Closes the tablet's transaction, if it has one. Codes 1, 2. Value: 0. */
+uint64_t silttongs_yield(uint8_t *table, size_t length, uint8_t tablet);
+
+/* Sends a new box off from a box. Codes 1, 3, 4, 7, 10. Value: the new box's number. */
+uint64_t silttongs_fork(uint8_t *table, size_t length, uint8_t box);
+
+/* Hands a box in: the joiner takes over the joinee's updates, behind its own. Codes 1, 3, 4, 7,
+ * 11. Value: how many updates the joiner gained. */
+uint64_t silttongs_join(uint8_t *table, size_t length, uint8_t joiner, uint8_t joinee);
+
+#ifdef __cplusplus
+}
+#endif
+
+#endif

@@ -1,0 +1,112 @@
+//! The calls on lent bytes: the checks of each in ascending order, then what it does.
+
+use calls::Code;
+
+use crate::entry::Entry;
+use crate::numbers::{Bib, Client};
+use crate::order::UPDATES;
+use crate::range::checked;
+use crate::table;
+use crate::update::Kind;
+
+/// Bytes of one entry of a listing.
+pub(crate) const LISTED: usize = 12;
+
+/// A new day, whatever the bytes were.
+pub fn fresh(t: &mut [u8]) -> Result<u32, Code> {
+    table::fresh(t.try_into().map_err(|_| Code::NoTable)?);
+    Ok(0)
+}
+
+/// One entry by a client on a revision; its number.
+pub fn update(
+    t: &mut [u8],
+    client: u8,
+    revision: u8,
+    kind: u8,
+    bib: u16,
+    v: u32,
+) -> Result<u32, Code> {
+    let mut t = checked(t)?;
+    let client = Client::checked(client)?;
+    let revision = t.check_given(revision)?;
+    t.check_out(revision)?;
+    let bib = Bib::checked(bib)?;
+    let kind = Kind::checked(kind)?;
+    t.check_may_enter(client, revision)?;
+    t.check_log()?;
+
+    t.enter(client, revision);
+    Ok(u32::from(t.append(revision, Entry::new(kind, client, bib, v))))
+}
+
+/// A client looks up a bib on a revision; its value.
+pub fn query(t: &mut [u8], client: u8, revision: u8, bib: u16) -> Result<u32, Code> {
+    let mut t = checked(t)?;
+    let client = Client::checked(client)?;
+    let revision = t.check_given(revision)?;
+    t.check_out(revision)?;
+    let bib = Bib::checked(bib)?;
+    t.check_may_enter(client, revision)?;
+
+    t.enter(client, revision);
+    Ok(t.value(revision, bib))
+}
+
+/// A client ends its transaction, if it has one; 0.
+pub fn yield_(t: &mut [u8], client: u8) -> Result<u32, Code> {
+    let mut t = checked(t)?;
+    let client = Client::checked(client)?;
+
+    t.close(client);
+    Ok(0)
+}
+
+/// A new revision starts from this one; its number.
+pub fn fork(t: &mut [u8], revision: u8) -> Result<u32, Code> {
+    let mut t = checked(t)?;
+    let parent = t.check_given(revision)?;
+    t.check_out(parent)?;
+    t.check_idle(parent)?;
+    let child = t.check_left()?;
+
+    t.fork(parent, child);
+    Ok(u32::from(child.0))
+}
+
+/// The joiner takes over the joinee's updates; how many.
+pub fn join(t: &mut [u8], joiner: u8, joinee: u8) -> Result<u32, Code> {
+    let mut t = checked(t)?;
+    let (joiner, joinee) = (t.check_given(joiner)?, t.check_given(joinee)?);
+    t.check_out(joiner)?;
+    t.check_out(joinee)?;
+    t.check_idle(joiner)?;
+    t.check_idle(joinee)?;
+    t.check_joinable(joiner, joinee)?;
+
+    Ok(u32::from(t.join(joiner, joinee)))
+}
+
+/// Writes the visible updates of a revision to the sheet; how many. The table stays as it is.
+pub fn list(t: &mut [u8], revision: u8, sheet: &mut [u8]) -> Result<u32, Code> {
+    let t = checked(t)?;
+    let revision = t.check_given(revision)?;
+    t.check_out(revision)?;
+    t.check_idle(revision)?;
+    let mut numbers = [0; UPDATES];
+    let order = t.order(revision, &mut numbers);
+    if sheet.len() < LISTED * order.len() {
+        return Err(Code::ListingShort);
+    }
+
+    let (places, _) = sheet.as_chunks_mut::<LISTED>();
+    for (place, &u) in places.iter_mut().zip(order) {
+        let Entry { kind, client, bib, v } = Entry::from_bytes(t.entry(u));
+        place[0] = kind as u8;
+        place[1] = client.0;
+        place[2..4].copy_from_slice(&bib.to_le_bytes());
+        place[4..8].copy_from_slice(&v.to_le_bytes());
+        place[8..12].copy_from_slice(&u32::from(u).to_le_bytes());
+    }
+    Ok(order.len() as u32)
+}

@@ -1,0 +1,71 @@
+//! The updates visible at a revision, in listed order: docs/CELLS.md, "What the cells mean".
+
+use crate::entry::Entry;
+use crate::numbers::{Bib, Revision};
+use crate::parts::ROW;
+use crate::table::Table;
+
+/// The whole log holds 4,096 updates.
+pub(crate) const UPDATES: usize = 4_096;
+
+/// Room for the numbers of all updates.
+pub(crate) type Numbers = [u16; UPDATES];
+
+pub(crate) fn has(row: &[u8; ROW], u: u16) -> bool {
+    row[usize::from(u / 8)] >> (u % 8) & 1 == 1
+}
+
+pub(crate) fn insert(row: &mut [u8; ROW], u: u16) {
+    row[usize::from(u / 8)] |= 1 << (u % 8);
+}
+
+impl Table<'_> {
+    /// The own list of a revision, gathered backwards along the links.
+    pub(crate) fn own<'n>(&self, r: Revision, numbers: &'n mut Numbers) -> &'n [u16] {
+        let own = &mut numbers[..usize::from(self.count(r))];
+        let mut u = self.last(r);
+        for place in own.iter_mut().rev() {
+            *place = u;
+            u = self.link(u);
+        }
+        own
+    }
+
+    /// The order of a revision: what it inherited of each list behind it in the layout, last place
+    /// first, then its own list.
+    pub(crate) fn order<'n>(&self, r: Revision, numbers: &'n mut Numbers) -> &'n [u16] {
+        let row = self.row(r);
+        let mut scratch = [0; UPDATES];
+        let mut count = 0;
+        let mut push = |u: u16| {
+            if count < UPDATES {
+                numbers[count] = u;
+                count += 1;
+            }
+        };
+        let outs = &self.layout()[..usize::from(self.out())];
+        let place = outs.iter().position(|&other| other == r.0);
+        let behind = place.map_or(&[][..], |place| &outs[place + 1..]);
+        for &other in behind.iter().rev() {
+            let other = Revision(other);
+            let base = if other == Revision::MAIN { self.base(r) } else { 0 };
+            let own = self.own(other, &mut scratch);
+            let (by_count, others) = own.split_at(own.len().min(usize::from(base)));
+            by_count.iter().for_each(|&u| push(u));
+            others.iter().filter(|&&u| has(&row, u)).for_each(|&u| push(u));
+        }
+        self.own(r, &mut scratch).iter().for_each(|&u| push(u));
+        &numbers[..count]
+    }
+
+    /// The value of a bib at a revision.
+    pub(crate) fn value(&self, r: Revision, bib: Bib) -> u32 {
+        let mut numbers = [0; UPDATES];
+        let order = self.order(r, &mut numbers);
+        order
+            .iter()
+            .map(|&u| Entry::from_bytes(self.entry(u)))
+            .filter(|entry| entry.bib == bib.0)
+            .fold(0, |value, entry| entry.kind.applied(value, entry.v))
+    }
+}

@@ -1,0 +1,101 @@
+//! What each step writes: docs/CELLS.md, "What each step writes".
+
+use crate::entry::Entry;
+use crate::marks::Marks;
+use crate::numbers::{Client, Revision, CLIENTS, REVISIONS};
+use crate::order::{insert, UPDATES};
+use crate::parts::{CLOSED, IS_JOINED, IS_OUT};
+use crate::table::Table;
+
+impl Table<'_> {
+    /// An event: the transaction is open, and its client has caught up with this revision alone.
+    pub(crate) fn enter(&mut self, c: Client, r: Revision) {
+        self.set_caught(c, Marks::only(r));
+        self.set_opened(c, r.0);
+    }
+
+    /// The update goes to the end of a revision's own list; its number.
+    pub(crate) fn append(&mut self, r: Revision, entry: Entry) -> u16 {
+        let u = self.updates();
+        let count = self.count(r);
+        self.set_link(u, self.last(r));
+        self.set_last(r, u);
+        if count == 0 {
+            self.set_first(r, u);
+        }
+        self.set_count(r, count + 1);
+        self.set_updates(u + 1);
+        self.set_entry(u, entry.to_bytes());
+        u
+    }
+
+    pub(crate) fn close(&mut self, c: Client) {
+        self.set_opened(c, CLOSED);
+    }
+
+    /// The parent forks the child.
+    pub(crate) fn fork(&mut self, parent: Revision, child: Revision) {
+        self.inherit(parent, child);
+        self.set_seen(child, self.seen(parent));
+        for number in 0..REVISIONS as u8 {
+            let marks = self.seen(Revision(number)).with(child, number == parent.0);
+            self.set_seen(Revision(number), marks);
+        }
+        for client in (0..CLIENTS as u8).map(Client) {
+            let marks = self.caught(client);
+            self.set_caught(client, marks.with(child, marks.has(parent)));
+        }
+        self.set_state(child, IS_OUT);
+        let layout = self.layout_mut();
+        if let Some(place) = layout.iter().position(|&other| other == parent.0) {
+            layout.copy_within(place..REVISIONS - 1, place + 1);
+            layout[place] = child.0;
+        }
+        self.set_out(self.out() + 1);
+        self.set_given(self.given() + 1);
+    }
+
+    /// From the main revision by count alone, else by count, row and own list.
+    fn inherit(&mut self, parent: Revision, child: Revision) {
+        if parent == Revision::MAIN {
+            self.set_used(child, false);
+            self.set_base(child, self.count(parent));
+        } else {
+            let mut row = self.row(parent);
+            for &u in self.own(parent, &mut [0; UPDATES]) {
+                insert(&mut row, u);
+            }
+            self.set_row(child, &row);
+            self.set_used(child, true);
+            self.set_base(child, self.base(parent));
+        }
+        self.set_count(child, 0);
+    }
+
+    /// The joiner takes over the joinee's own list; how many updates that are.
+    pub(crate) fn join(&mut self, joiner: Revision, joinee: Revision) -> u16 {
+        let (before, gained) = (self.count(joiner), self.count(joinee));
+        if gained != 0 {
+            let first = self.first(joinee);
+            self.set_link(first, self.last(joiner));
+            self.set_last(joiner, self.last(joinee));
+            if before == 0 {
+                self.set_first(joiner, first);
+            }
+        }
+        self.set_count(joiner, before + gained);
+        self.set_seen(joiner, self.seen(joiner).or(self.seen(joinee)));
+        for client in (0..CLIENTS as u8).map(Client) {
+            let marks = self.caught(client);
+            self.set_caught(client, marks.with(joiner, marks.has(joiner) || marks.has(joinee)));
+        }
+        self.set_state(joinee, IS_JOINED);
+        let layout = self.layout_mut();
+        if let Some(place) = layout.iter().position(|&other| other == joinee.0) {
+            layout.copy_within(place + 1.., place);
+            layout[REVISIONS - 1] = 0;
+        }
+        self.set_out(self.out() - 1);
+        gained
+    }
+}

@@ -1,0 +1,164 @@
+//! The static library against `plain`, which keeps the same cells and makes the same checks, in one
+//! process. docs/PERFORMANCE.md has the method and figures.
+//!
+//!     cargo bench --offline --manifest-path rust/Cargo.toml -p silttongs
+//!     cargo bench --offline --manifest-path rust/Cargo.toml -p silttongs -- --plot FILE
+
+mod days;
+mod plot;
+mod sides;
+
+use std::hint::black_box;
+use std::time::Instant;
+
+use calls::Call;
+use days::{chain, update, whole};
+use sides::{made, Side, Work};
+
+/// Each case is timed in so many rounds, between which the others have their turn.
+const ROUNDS: usize = 20;
+/// A round goes on for so many nanoseconds on each side, but has two samples at least.
+const ROUND: u64 = 2_000_000;
+
+/// Nanoseconds of the two sides: the fastest sample, which other work on the machine disturbed least.
+#[derive(Clone, Copy, Debug)]
+pub(crate) struct Times {
+    pub(crate) plain: u64,
+    pub(crate) library: u64,
+}
+
+/// Some work on a table.
+struct Case {
+    name: String,
+    table: Box<[u8]>,
+    work: Work,
+    times: Times,
+}
+
+impl Case {
+    fn new(name: impl Into<String>, table: Box<[u8]>, work: Work) -> Self {
+        let times = Times { plain: u64::MAX, library: u64::MAX };
+        Case { name: name.into(), table, work, times }
+    }
+
+    fn of_calls(name: impl Into<String>, day: &[Call], calls: &[Call]) -> Self {
+        Case::new(name, made(day), Work::Calls(calls.to_vec()))
+    }
+
+    /// Both sides in turn, each sample on a copy of the table; they must leave the same bytes.
+    fn round(&mut self) {
+        let (mut a, mut b) = (self.table.clone(), self.table.clone());
+        let mut spent = 0;
+        let mut samples = 0;
+        while spent < 2 * ROUND || samples < 2 {
+            let plain = sample(&self.table, &mut a, Side::Plain, &self.work);
+            let library = sample(&self.table, &mut b, Side::Library, &self.work);
+            assert!(a == b, "{}: the bytes differ", self.name);
+            self.times.plain = self.times.plain.min(plain);
+            self.times.library = self.times.library.min(library);
+            spent += plain + library;
+            samples += 1;
+        }
+    }
+
+    fn ratio(&self) -> f64 {
+        self.times.library as f64 / self.times.plain as f64
+    }
+}
+
+/// One run of the work on a copy of the table, in nanoseconds.
+fn sample(from: &[u8], t: &mut [u8], side: Side, work: &Work) -> u64 {
+    t.copy_from_slice(from);
+    let start = Instant::now();
+    side.run(black_box(t), work);
+    start.elapsed().as_nanos() as u64
+}
+
+/// The calls that 01's users make, on middling and on full tables, and whole days.
+fn single_calls() -> Vec<Case> {
+    let middle = chain(2_048, 8);
+    let one_box = chain(4_096, 1);
+    let full = chain(4_096, 8);
+    let query = |revision| [Call::Query { client: 0, revision, bib: 7 }];
+    let strange = [Call::Yield { client: 16 }];
+    let pair = [update(0, 7, 7), Call::Yield { client: 0 }];
+    vec![
+        Case::of_calls("range check alone: a yield with code 2", &middle, &strange),
+        Case::of_calls("yield", &middle, &[Call::Yield { client: 0 }]),
+        Case::of_calls("update + yield, 2,048 updates, 8 boxes", &middle, &pair),
+        Case::of_calls("query, 4,096 visible updates, 1 box", &one_box, &query(0)),
+        Case::of_calls("query, 4,096 visible updates, 8 boxes", &full, &query(7)),
+        Case::of_calls("fork of box 0, 4,096 updates", &one_box, &[Call::Fork { revision: 0 }]),
+        Case::of_calls(
+            "fork of box 7, 4,096 updates, 8 boxes",
+            &full,
+            &[Call::Fork { revision: 7 }],
+        ),
+        Case::of_calls(
+            "join of 512 updates, 8 boxes",
+            &full,
+            &[Call::Join { joiner: 6, joinee: 7 }],
+        ),
+        Case::new("fresh", made(&middle), Work::Fresh),
+        Case::of_calls("day of 4,096 updates, 63 forks and joins", &[], &whole(false)),
+        Case::of_calls("the same with 256 queries", &[], &whole(true)),
+    ]
+}
+
+/// The calls on the last box of chains of several sizes: the sizes, and the case of each.
+fn growth(sizes: &[usize], chain_of: impl Fn(usize) -> (usize, usize)) -> Vec<(usize, Case)> {
+    let of_size = |&size: &usize| {
+        let (updates, boxes) = chain_of(size);
+        let day = chain(updates, boxes);
+        let last = boxes as u8 - 1;
+        let entry = Call::Update { client: 0, revision: last, kind: 1, bib: 7, v: 1 };
+        let calls = [
+            ("query", vec![Call::Query { client: 0, revision: last, bib: 7 }]),
+            ("fork", vec![Call::Fork { revision: last }]),
+            ("join", vec![Call::Join { joiner: last - 1, joinee: last }]),
+            ("update + yield", vec![entry, Call::Yield { client: 0 }]),
+        ];
+        calls.map(|(name, calls)| (size, Case::of_calls(name, &day, &calls)))
+    };
+    sizes.iter().flat_map(of_size).collect()
+}
+
+fn main() {
+    let arguments: Vec<String> =
+        std::env::args().skip(1).filter(|word| word != "--bench").collect();
+    let plot = match &arguments[..] {
+        [] => None,
+        [flag, file] if flag == "--plot" => Some(file),
+        _ => panic!("usage: --plot FILE, or nothing"),
+    };
+
+    let mut single = single_calls();
+    let mut by_updates = growth(&[64, 1_024, 2_048, 3_072, 4_080], |updates| (updates, 8));
+    let mut by_boxes = growth(&[2, 8, 16, 32, 48, 63], |boxes| (2_048, boxes));
+    for _ in 0..ROUNDS {
+        single.iter_mut().for_each(Case::round);
+        by_updates.iter_mut().chain(&mut by_boxes).for_each(|(_, case)| case.round());
+    }
+
+    println!("{:<44} {:>10} {:>10} {:>7}", "nanoseconds", "plain", "library", "ratio");
+    for case in &single {
+        print_case(&case.name, case);
+    }
+    for (title, cases) in [("updates, 8 boxes", &by_updates), ("boxes, 2,048 updates", &by_boxes)] {
+        for (size, case) in cases {
+            print_case(&format!("{}, {size} {title}", case.name), case);
+        }
+    }
+    if let Some(file) = plot {
+        let points = |cases: &[(usize, Case)]| {
+            cases.iter().map(|(size, case)| (case.name.clone(), *size, case.times)).collect()
+        };
+        let text = plot::svg(points(&by_updates), points(&by_boxes));
+        std::fs::write(file, text).unwrap_or_else(|error| panic!("{file}: {error}"));
+    }
+}
+
+fn print_case(name: &str, case: &Case) {
+    let Times { plain, library } = case.times;
+    println!("{name:<44} {plain:>10} {library:>10} {:>7.2}", case.ratio());
+}

@@ -1,0 +1,63 @@
+//! The exports of the proved crate, as include/silttongs.h declares them. The call list goes here
+//! once it is exported.
+
+#![allow(unsafe_code)]
+
+use crate::refusal::{answer, Refusal};
+
+extern "C" {
+    fn silttongs_fresh(table: *mut u8, length: usize) -> u64;
+    fn silttongs_update(
+        table: *mut u8,
+        length: usize,
+        client: u8,
+        revision: u8,
+        kind: u8,
+        bib: u16,
+        v: u32,
+    ) -> u64;
+    fn silttongs_query(table: *mut u8, length: usize, client: u8, revision: u8, bib: u16) -> u64;
+    fn silttongs_yield(table: *mut u8, length: usize, client: u8) -> u64;
+    fn silttongs_fork(table: *mut u8, length: usize, revision: u8) -> u64;
+    fn silttongs_join(table: *mut u8, length: usize, joiner: u8, joinee: u8) -> u64;
+}
+
+// Each export takes any bytes and any numbers: it has no precondition, is proved to stay within
+// the slice, and keeps nothing of it. The slice is lent to it alone for as long as it runs.
+
+pub(crate) fn fresh(t: &mut [u8]) -> Result<u32, Refusal> {
+    // SAFETY: as above.
+    answer(unsafe { silttongs_fresh(t.as_mut_ptr(), t.len()) })
+}
+
+pub(crate) fn update(
+    t: &mut [u8],
+    client: u8,
+    revision: u8,
+    kind: u8,
+    bib: u16,
+    v: u32,
+) -> Result<u32, Refusal> {
+    // SAFETY: as above.
+    answer(unsafe { silttongs_update(t.as_mut_ptr(), t.len(), client, revision, kind, bib, v) })
+}
+
+pub(crate) fn query(t: &mut [u8], client: u8, revision: u8, bib: u16) -> Result<u32, Refusal> {
+    // SAFETY: as above.
+    answer(unsafe { silttongs_query(t.as_mut_ptr(), t.len(), client, revision, bib) })
+}
+
+pub(crate) fn yield_(t: &mut [u8], client: u8) -> Result<u32, Refusal> {
+    // SAFETY: as above.
+    answer(unsafe { silttongs_yield(t.as_mut_ptr(), t.len(), client) })
+}
+
+pub(crate) fn fork(t: &mut [u8], revision: u8) -> Result<u32, Refusal> {
+    // SAFETY: as above.
+    answer(unsafe { silttongs_fork(t.as_mut_ptr(), t.len(), revision) })
+}
+
+pub(crate) fn join(t: &mut [u8], joiner: u8, joinee: u8) -> Result<u32, Refusal> {
+    // SAFETY: as above.
+    answer(unsafe { silttongs_join(t.as_mut_ptr(), t.len(), joiner, joinee) })
+}

@@ -1,0 +1,35 @@
+//! The revision table for timing boxes, as a safe library.
+//!
+//! The calls are the exports of the crate `exports`, written in Rattle and proved against their
+//! definitions; this crate lends them a slice and unpacks their answers. It needs no standard
+//! library and no allocator.
+//!
+//! Two boxes, one bib: box 1 is sent off and gets a penalty, meanwhile box 0 gets a corrected time.
+//! What box 1 has comes behind when it is handed in.
+//!
+//! ```
+//! use silttongs::{Kind, Refusal, Table, BYTES};
+//!
+//! let mut table = Table::fresh(vec![0; BYTES])?;
+//! table.update(0, 0, Kind::Time, 7, 61_000)?;
+//! table.yield_(0)?;
+//! let sent = table.fork(0)?;
+//! table.update(1, sent, Kind::Penalty, 7, 5_000)?;
+//! table.yield_(1)?;
+//! table.update(0, 0, Kind::Time, 7, 60_000)?;
+//! table.yield_(0)?;
+//! assert_eq!(table.query(0, sent, 7), Err(Refusal::NotCaughtUp));
+//! assert_eq!(table.join(0, sent), Ok(1));
+//! assert_eq!(table.query(1, 0, 7), Ok(65_000));
+//! # Ok::<(), Refusal>(())
+//! ```
+
+#![no_std]
+#![deny(unsafe_code)]
+
+mod exports;
+mod refusal;
+mod table;
+
+pub use refusal::Refusal;
+pub use table::{Kind, Table, BYTES};

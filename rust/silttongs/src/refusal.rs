@@ -1,0 +1,104 @@
+//! Why a call was refused.
+
+use core::fmt;
+
+/// A code of the desk but 0. The discriminant is its number.
+#[derive(Clone, Copy, Debug, PartialEq, Eq, PartialOrd, Ord, Hash)]
+#[non_exhaustive]
+#[repr(u8)]
+pub enum Refusal {
+    /// The bytes are not 65,536, or a cell is out of its range.
+    NoTable = 1,
+    /// Tablet above 15.
+    StrangeTablet = 2,
+    /// Box number not yet given out.
+    NeverSent = 3,
+    /// The box was joined already.
+    HandedIn = 4,
+    /// Bib above 999, or update kind not 1 to 4.
+    BadEntry = 5,
+    /// The tablet's open transaction is on another box.
+    OtherBoxOpen = 6,
+    /// Another tablet, or for fork and join any tablet, has an open transaction on the box.
+    InUse = 7,
+    /// The box has not seen the tablet's last event.
+    NotCaughtUp = 8,
+    /// 4,096 updates were taken.
+    LogFull = 9,
+    /// 64 boxes were started.
+    NoBoxLeft = 10,
+    /// The joinee is box 0 or the joiner, or the joiner has not seen its fork or has seen its start.
+    NotJoinable = 11,
+}
+
+/// In the order of their numbers, 1 first.
+const ALL: [Refusal; 11] = [
+    Refusal::NoTable,
+    Refusal::StrangeTablet,
+    Refusal::NeverSent,
+    Refusal::HandedIn,
+    Refusal::BadEntry,
+    Refusal::OtherBoxOpen,
+    Refusal::InUse,
+    Refusal::NotCaughtUp,
+    Refusal::LogFull,
+    Refusal::NoBoxLeft,
+    Refusal::NotJoinable,
+];
+
+impl Refusal {
+    /// The number of the code.
+    pub fn code(self) -> u8 {
+        self as u8
+    }
+
+    /// The name of the code.
+    pub fn name(self) -> &'static str {
+        match self {
+            Refusal::NoTable => "no table",
+            Refusal::StrangeTablet => "strange tablet",
+            Refusal::NeverSent => "never sent",
+            Refusal::HandedIn => "handed in",
+            Refusal::BadEntry => "bad entry",
+            Refusal::OtherBoxOpen => "other box open",
+            Refusal::InUse => "in use",
+            Refusal::NotCaughtUp => "not caught up",
+            Refusal::LogFull => "log full",
+            Refusal::NoBoxLeft => "no box left",
+            Refusal::NotJoinable => "not joinable",
+        }
+    }
+}
+
+impl fmt::Display for Refusal {
+    fn fmt(&self, f: &mut fmt::Formatter<'_>) -> fmt::Result {
+        f.write_str(self.name())
+    }
+}
+
+impl core::error::Error for Refusal {}
+
+/// The answer in a packed number: the code in the upper 32 bits, the value in the lower.
+pub(crate) fn answer(packed: u64) -> Result<u32, Refusal> {
+    match (packed >> 32) as usize {
+        0 => Ok(packed as u32),
+        code => {
+            debug_assert_eq!(packed as u32, 0, "a refusal gives value 0");
+            Err(ALL[code - 1])
+        }
+    }
+}
+
+#[cfg(test)]
+mod tests {
+    use super::*;
+
+    #[test]
+    fn numbers_and_names_go_together() {
+        for (place, refusal) in ALL.into_iter().enumerate() {
+            assert_eq!(usize::from(refusal.code()), place + 1);
+            assert_eq!(answer(u64::from(refusal.code()) << 32), Err(refusal));
+        }
+        assert_eq!(answer(4_294_967_295), Ok(u32::MAX));
+    }
+}

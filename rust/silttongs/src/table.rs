@@ -1,0 +1,190 @@
+//! The calls as methods.
+
+use crate::exports;
+use crate::refusal::Refusal;
+
+/// The length of a table in bytes.
+pub const BYTES: usize = 65_536;
+
+/// The kinds of update.
+#[derive(Clone, Copy, Debug, PartialEq, Eq, Hash)]
+#[repr(u8)]
+pub enum Kind {
+    /// The value becomes v.
+    Time = 1,
+    /// The smaller of value and v among those that aren't 0.
+    Earliest = 2,
+    /// v is added modulo 4,294,967,296.
+    Penalty = 3,
+    /// The value becomes 0.
+    Strike = 4,
+}
+
+impl From<Kind> for u8 {
+    fn from(kind: Kind) -> u8 {
+        kind as u8
+    }
+}
+
+/// A table on bytes of its own, as `[u8; BYTES]` or `Box<[u8]>`, or on lent ones, as `&mut [u8]`.
+///
+/// Nothing but the bytes is kept. A refused call changes none of them. A box is a revision of the
+/// table, a tablet is a client.
+#[derive(Clone, Copy, Debug, PartialEq, Eq)]
+pub struct Table<B>(B);
+
+impl<B: AsMut<[u8]>> Table<B> {
+    /// A new day, whatever the bytes were: box 0 alone, 0 for every bib.
+    ///
+    /// ```
+    /// use silttongs::{Refusal, Table, BYTES};
+    ///
+    /// let mut lent = [0; BYTES];
+    /// assert!(Table::fresh(&mut lent).is_ok());
+    /// assert_eq!(Table::fresh(&mut lent[1..]).err(), Some(Refusal::NoTable));
+    /// ```
+    ///
+    /// # Errors
+    ///
+    /// [`Refusal::NoTable`] if there aren't [`BYTES`] bytes.
+    pub fn fresh(mut bytes: B) -> Result<Self, Refusal> {
+        exports::fresh(bytes.as_mut())?;
+        Ok(Table(bytes))
+    }
+
+    /// A table that was made before, as one read from a file. Each call checks the bytes anew and
+    /// refuses what is no table.
+    ///
+    /// ```
+    /// use silttongs::{Refusal, Table, BYTES};
+    ///
+    /// let mut table = Table::from_bytes(vec![0; BYTES]);
+    /// assert_eq!(table.yield_(0), Err(Refusal::NoTable));
+    /// ```
+    pub fn from_bytes(bytes: B) -> Self {
+        Table(bytes)
+    }
+
+    /// Enters an update of a bib on a box, in the tablet's transaction there, which it opens if
+    /// need be. Its number is the answer: the count of updates taken before it.
+    ///
+    /// ```
+    /// use silttongs::{Kind, Refusal, Table, BYTES};
+    ///
+    /// let mut table = Table::fresh([0; BYTES])?;
+    /// assert_eq!(table.update(0, 0, Kind::Time, 7, 61_000), Ok(0));
+    /// assert_eq!(table.update(0, 0, Kind::Penalty, 7, 5_000), Ok(1));
+    /// assert_eq!(table.update(0, 0, Kind::Strike, 1_000, 0), Err(Refusal::BadEntry));
+    /// # Ok::<(), Refusal>(())
+    /// ```
+    ///
+    /// # Errors
+    ///
+    /// Codes 1 to 9.
+    pub fn update(
+        &mut self,
+        client: u8,
+        revision: u8,
+        kind: impl Into<u8>,
+        bib: u16,
+        v: u32,
+    ) -> Result<u32, Refusal> {
+        exports::update(self.0.as_mut(), client, revision, kind.into(), bib, v)
+    }
+
+    /// The value of a bib on a box, in the tablet's transaction there, which it opens if need be.
+    /// A query is an event: the tablet is tied to what it saw.
+    ///
+    /// ```
+    /// use silttongs::{Kind, Refusal, Table, BYTES};
+    ///
+    /// let mut table = Table::fresh([0; BYTES])?;
+    /// table.update(0, 0, Kind::Time, 7, 61_000)?;
+    /// assert_eq!(table.query(0, 0, 7), Ok(61_000));
+    /// assert_eq!(table.query(1, 0, 7), Err(Refusal::InUse));
+    /// # Ok::<(), Refusal>(())
+    /// ```
+    ///
+    /// # Errors
+    ///
+    /// Codes 1 to 8.
+    pub fn query(&mut self, client: u8, revision: u8, bib: u16) -> Result<u32, Refusal> {
+        exports::query(self.0.as_mut(), client, revision, bib)
+    }
+
+    /// The call yield, whose name is a word of the language: closes the tablet's transaction, if it
+    /// has one.
+    ///
+    /// ```
+    /// use silttongs::{Refusal, Table, BYTES};
+    ///
+    /// let mut table = Table::fresh([0; BYTES])?;
+    /// table.query(0, 0, 7)?;
+    /// assert_eq!(table.fork(0), Err(Refusal::InUse));
+    /// table.yield_(0)?;
+    /// assert_eq!(table.fork(0), Ok(1));
+    /// # Ok::<(), Refusal>(())
+    /// ```
+    ///
+    /// # Errors
+    ///
+    /// Codes 1 and 2.
+    pub fn yield_(&mut self, client: u8) -> Result<(), Refusal> {
+        exports::yield_(self.0.as_mut(), client).map(|_| ())
+    }
+
+    /// Sends a new box off from a box. Its number is the answer.
+    ///
+    /// ```
+    /// use silttongs::{Refusal, Table, BYTES};
+    ///
+    /// let mut table = Table::fresh([0; BYTES])?;
+    /// assert_eq!(table.fork(0), Ok(1));
+    /// assert_eq!(table.fork(1), Ok(2));
+    /// assert_eq!(table.fork(3), Err(Refusal::NeverSent));
+    /// # Ok::<(), Refusal>(())
+    /// ```
+    ///
+    /// # Errors
+    ///
+    /// Codes 1, 3, 4, 7 and 10.
+    pub fn fork(&mut self, revision: u8) -> Result<u8, Refusal> {
+        exports::fork(self.0.as_mut(), revision).map(|number| number as u8)
+    }
+
+    /// Hands a box in: the joiner takes over the joinee's updates, behind its own. How many it
+    /// gained is the answer.
+    ///
+    /// ```
+    /// use silttongs::{Kind, Refusal, Table, BYTES};
+    ///
+    /// let mut table = Table::fresh([0; BYTES])?;
+    /// table.fork(0)?;
+    /// table.update(3, 1, Kind::Time, 7, 61_000)?;
+    /// table.yield_(3)?;
+    /// assert_eq!(table.join(1, 0), Err(Refusal::NotJoinable));
+    /// assert_eq!(table.join(0, 1), Ok(1));
+    /// # Ok::<(), Refusal>(())
+    /// ```
+    ///
+    /// # Errors
+    ///
+    /// Codes 1, 3, 4, 7 and 11.
+    pub fn join(&mut self, joiner: u8, joinee: u8) -> Result<u32, Refusal> {
+        exports::join(self.0.as_mut(), joiner, joinee)
+    }
+}
+
+impl<B: AsRef<[u8]>> Table<B> {
+    /// The bytes, to be kept or copied.
+    pub fn bytes(&self) -> &[u8] {
+        self.0.as_ref()
+    }
+}
+
+impl<B> Table<B> {
+    /// The bytes, given back.
+    pub fn into_bytes(self) -> B {
+        self.0
+    }
+}

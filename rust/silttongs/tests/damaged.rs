@@ -1,0 +1,197 @@
+//! Buffers that no day made: every call returns, a refusal changes no byte, two runs give the same,
+//! and code 1 is given exactly if docs/CELLS.md says so.
+
+#[path = "common/cells.rs"]
+mod cells;
+mod common;
+
+use std::collections::BTreeMap;
+
+use calls::{Answer, Call};
+use cells::{cells, is_table, Cell};
+use common::{first_difference, library};
+use days::{random_day, seeds, Profile, Rng};
+use silttongs::{Refusal, Table, BYTES};
+
+/// How many damaged buffers are tried.
+const BUFFERS: u64 = 8_000;
+/// How many calls are made on each.
+const CALLS: usize = 16;
+
+fn fresh() -> Vec<u8> {
+    Table::fresh(vec![0; BYTES]).expect("the length is right").into_bytes()
+}
+
+/// The 796 bytes that docs/CELLS.md names.
+#[test]
+fn the_cells_with_a_range() {
+    let cells = cells();
+    assert_eq!(cells.iter().map(|cell| cell.width).sum::<usize>(), 796);
+    assert!(is_table(&cells, &fresh()));
+}
+
+/// Each cell at the ends of its range and one further.
+#[test]
+fn each_cell_at_its_limits() {
+    for cell in cells() {
+        let (low, high) = (*cell.range.start(), *cell.range.end());
+        let mut values = vec![low, high];
+        values.extend(low.checked_sub(1));
+        values.extend((high < cell.most()).then(|| high + 1));
+        values.push(cell.most());
+        for value in values {
+            let mut t = fresh();
+            cell.set(&mut t, value);
+            let code = if cell.range.contains(&value) { 0 } else { 1 };
+            let answer = library(&mut t, Call::Yield { client: 0 });
+            assert_eq!(answer, Some((code, 0)), "{value} in {cell:?}");
+        }
+    }
+}
+
+/// Every other byte is in range, whatever it is.
+#[test]
+fn the_other_bytes_have_every_value_in_range() {
+    let mut t = fresh();
+    let mut ranged = vec![false; BYTES];
+    for cell in cells() {
+        ranged[cell.at..cell.at + cell.width].fill(true);
+    }
+    for at in (0..BYTES).filter(|&at| !ranged[at]) {
+        t[at] ^= 0xff;
+        assert_eq!(library(&mut t, Call::Yield { client: 0 }), Some((0, 0)), "byte {at}");
+    }
+}
+
+#[test]
+fn wrong_lengths() {
+    let calls = [
+        Call::Update { client: 0, revision: 0, kind: 1, bib: 7, v: 1 },
+        Call::Query { client: 0, revision: 0, bib: 7 },
+        Call::Yield { client: 0 },
+        Call::Fork { revision: 0 },
+        Call::Join { joiner: 0, joinee: 1 },
+    ];
+    for length in [0, 1, 12, 40_959, 40_960, BYTES - 1, BYTES + 1, 2 * BYTES] {
+        let mut t = fresh();
+        t.resize(length, 0);
+        let before = t.clone();
+        for call in calls {
+            assert_eq!(library(&mut t, call), Some((1, 0)), "{length} bytes, `{call}`");
+            assert!(t == before, "{length} bytes, `{call}`: changed");
+        }
+        assert_eq!(Table::fresh(&mut t[..]).err(), Some(Refusal::NoTable), "{length} bytes");
+        assert!(t == before, "{length} bytes: changed");
+    }
+}
+
+/// Fresh looks at the length only, and leaves the same bytes whatever they were.
+#[test]
+fn fresh_on_any_content() {
+    for seed in seeds(100) {
+        let made = Table::fresh(random_bytes(&mut Rng::new(seed))).expect("the length is right");
+        assert!(made.bytes() == fresh(), "seed {seed}");
+        assert!(made.bytes() == plain::Day::fresh().bytes(), "seed {seed}");
+    }
+}
+
+#[test]
+fn random_calls_on_damaged_buffers() {
+    let cells = cells();
+    let mut met: BTreeMap<u8, usize> = BTreeMap::new();
+    for seed in seeds(BUFFERS) {
+        let mut rng = Rng::new(seed);
+        let mut t = damaged(&cells, &mut rng);
+        for step in 0..CALLS {
+            let call = any_call(&mut rng);
+            let code = judged(&cells, &mut t, call)
+                .unwrap_or_else(|fault| panic!("seed {seed}, call {step}, `{call}`: {fault}"));
+            *met.entry(code).or_default() += 1;
+        }
+    }
+    for code in [0, 1, 2, 3, 4, 5, 6, 7, 8, 9, 10, 11] {
+        let times = met.get(&code).copied().unwrap_or(0);
+        assert!(times >= 10, "code {code} was met {times} times");
+    }
+}
+
+/// Makes the call, or says what is wrong with it; its code.
+fn judged(cells: &[Cell], t: &mut Vec<u8>, call: Call) -> Result<u8, String> {
+    let mut again = t.clone();
+    let mut plainly = t.clone();
+    let before = t.clone();
+    let Some(answer) = library(t, call) else { return Err("no such call".to_string()) };
+    if library(&mut again, call) != Some(answer) || again != *t {
+        return Err("a second run differs".to_string());
+    }
+    let (code, value) = answer;
+    if (code == 1) == is_table(cells, &before) {
+        return Err(format!("code {code}, against docs/CELLS.md"));
+    }
+    if code != 0 && (value != 0 || *t != before) {
+        return Err(format!("refused with code {code}, but value {value} or bytes changed"));
+    }
+    let expected = plain::call(&mut plainly, call).unwrap_or_else(Answer::refused);
+    if (expected.code.number(), expected.value) != answer {
+        return Err(format!("{answer:?}, plain has {expected:?}"));
+    }
+    match first_difference(t, &plainly) {
+        Some(at) => Err(format!("byte {at} is {}, plain has {}", t[at], plainly[at])),
+        None => Ok(code),
+    }
+}
+
+fn random_bytes(rng: &mut Rng) -> Vec<u8> {
+    (0..BYTES / 8).flat_map(|_| rng.bits().to_le_bytes()).collect()
+}
+
+/// Random bytes, a fresh table or the table of a random day, each with random cells; most are in
+/// range, so that the calls get past code 1.
+fn damaged(cells: &[Cell], rng: &mut Rng) -> Vec<u8> {
+    let mut t = match rng.below(4) {
+        0 => fresh(),
+        1 => random_bytes(rng),
+        _ => {
+            let mut t = fresh();
+            for call in random_day(&Profile::MIXED, rng.bits()) {
+                library(&mut t, call);
+            }
+            t
+        }
+    };
+    // Random bytes are no table until each cell is put in range.
+    let all_in_range = !is_table(cells, &t) && rng.percent(80);
+    for cell in cells {
+        if all_in_range || rng.percent(5) {
+            let (low, high) = (*cell.range.start(), *cell.range.end());
+            let any = low + rng.below(usize::from(high - low) + 1) as u16;
+            cell.set(&mut t, rng.pick(&[low, high, any, any, any, any]));
+        }
+    }
+    for _ in 0..rng.below(200) {
+        let at = rng.below(BYTES);
+        if !cells.iter().any(|cell| (cell.at..cell.at + cell.width).contains(&at)) {
+            t[at] = rng.bits() as u8;
+        }
+    }
+    if rng.percent(15) {
+        let cell = &cells[rng.below(cells.len())];
+        cell.set(&mut t, rng.bits() as u16 & cell.most());
+    }
+    t
+}
+
+/// Mostly numbers in range.
+fn any_call(rng: &mut Rng) -> Call {
+    let mut below = |n: usize| if rng.percent(3) { rng.below(256) } else { rng.below(n) };
+    let (client, revision, other, kind) = (below(16), below(64), below(64), 1 + below(4));
+    let (client, revision, kind) = (client as u8, revision as u8, kind as u8);
+    let bib = rng.below(1_010) as u16;
+    match rng.below(6) {
+        0 => Call::Query { client, revision, bib },
+        1 => Call::Yield { client },
+        2 => Call::Fork { revision },
+        3 => Call::Join { joiner: revision, joinee: other as u8 },
+        _ => Call::Update { client, revision, kind, bib, v: rng.bits() as u32 },
+    }
+}
