@@ -1,4 +1,4 @@
--- What an export hands back: the answer in one number, beside the bytes that the call leaves.
+-- What an export hands back: the answer in one number, beside the lent bytes as the call leaves them.
 use Prim.Native.Nat.{ℕ, _+_, _*_}
 use mathlib.Core.List.{List}
 use Rattle.table.specs.Answers.{Out}
@@ -9,12 +9,12 @@ packed code value = code * 4294967296 + value
 
 pub record Handed : Type 0 where
   pub result : ℕ
-  pub table : List ℕ
+  pub lent : List ℕ
 
 -- a result, and the bytes at exit
 abbrev pub handed : ℕ → List ℕ → Handed
-handed result table = record { result = result; table = table }
+handed result lent = record { result = result; lent = lent }
 
 -- an answer of 01 as its export hands it back
 unfoldable pub exported : Out → Handed
-exported o = handed (packed (o .code) (o .value)) (o .table)
+exported o = handed (packed (o .code) (o .value)) (o .lent)

@@ -1,7 +1,7 @@
 // The calls of the table for C and Rust: numbers and byte slices alone, the answer packed into one number
-// (specs/Packed.antt). A slice is passed as a pointer and a length. The call list joins these when `table` has it.
+// (specs/Packed.antt). A slice is passed as a pointer and a length.
 ghost use mathlib.Core.Path.{_≡_};
-ghost use Rattle.table.specs.Calls.{forkOut, freshOut, joinOut, queryOut, updateOut, yieldOut};
+ghost use Rattle.table.specs.Calls.{forkOut, freshOut, joinOut, listOut, queryOut, updateOut, yieldOut};
 ghost use Rattle.exports.specs.Packed.{exported, handed, packed};
 
 // The code in the upper 32 bits, the value in the lower.
@@ -63,5 +63,13 @@ pub extern "C" fn silttongs_join(t: &mut [u8], joiner: u8, joinee: u8) -> u64
     ensures { λ r. ⌜ handed r (now (t .exit)) ≡ exported (joinOut (now (t .entry)) joiner joinee) ⌝ }
 {
     let a = table::join::join(t, joiner, joinee);
+    pack(a.code, a.value)
+}
+
+#[no_mangle]
+pub extern "C" fn silttongs_list(t: &[u8], revision: u8, sheet: &mut [u8]) -> u64
+    ensures { λ r. ⌜ handed r (now (sheet .exit)) ≡ exported (listOut (now (t .entry)) revision (now (sheet .entry))) ⌝ }
+{
+    let a = table::list::list(t, revision, sheet);
     pack(a.code, a.value)
 }
