@@ -20,7 +20,8 @@ const ROUNDS: usize = 20;
 /// A round goes on for so many nanoseconds on each side, but has two samples at least.
 const ROUND: u64 = 2_000_000;
 
-/// Nanoseconds of the two sides: the fastest sample, which other work on the machine disturbed least.
+/// Nanoseconds of the two sides: the fastest sample, which other work on the machine disturbed
+/// least, without what reading the clock takes.
 #[derive(Clone, Copy, Debug)]
 pub(crate) struct Times {
     pub(crate) plain: u64,
@@ -72,6 +73,13 @@ fn sample(from: &[u8], t: &mut [u8], side: Side, work: &Work) -> u64 {
     let start = Instant::now();
     side.run(black_box(t), work);
     start.elapsed().as_nanos() as u64
+}
+
+/// What an empty sample takes.
+fn clock() -> u64 {
+    let mut empty = Case::of_calls("nothing", &[], &[]);
+    (0..ROUNDS).for_each(|_| empty.round());
+    empty.times.plain.min(empty.times.library)
 }
 
 /// The calls that 01's users make, on middling and on full tables, and whole days.
@@ -132,12 +140,19 @@ fn main() {
         _ => panic!("usage: --plot FILE, or nothing"),
     };
 
+    let clock = clock();
     let mut single = single_calls();
     let mut by_updates = growth(&[64, 1_024, 2_048, 3_072, 4_080], |updates| (updates, 8));
     let mut by_boxes = growth(&[2, 8, 16, 32, 48, 63], |boxes| (2_048, boxes));
     for _ in 0..ROUNDS {
         single.iter_mut().for_each(Case::round);
         by_updates.iter_mut().chain(&mut by_boxes).for_each(|(_, case)| case.round());
+    }
+
+    let grown = by_updates.iter_mut().chain(&mut by_boxes).map(|(_, case)| case);
+    for case in single.iter_mut().chain(grown) {
+        case.times.plain -= clock;
+        case.times.library -= clock;
     }
 
     println!("{:<44} {:>10} {:>10} {:>7}", "nanoseconds", "plain", "library", "ratio");

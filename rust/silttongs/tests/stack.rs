@@ -1,0 +1,24 @@
+//! The calls run on a stack of 256 KiB, as docs/PERFORMANCE.md says.
+
+use std::thread;
+
+use silttongs::{Kind, Refusal, Table, BYTES};
+
+/// The longest own list, and so the deepest recursion, on box 1: a query walks it, and a fork too.
+#[test]
+fn the_deepest_calls_fit_in_256_kib() {
+    let run = || {
+        let mut table = Table::fresh(vec![0; BYTES])?;
+        table.fork(0)?;
+        for v in 0..4_096 {
+            table.update(0, 1, Kind::Penalty, 7, v)?;
+        }
+        let value = table.query(0, 1, 7)?;
+        table.yield_(0)?;
+        table.fork(1)?;
+        table.join(0, 1)?;
+        Ok::<u32, Refusal>(value)
+    };
+    let thread = thread::Builder::new().stack_size(256 * 1024).spawn(run).unwrap();
+    assert_eq!(thread.join().unwrap(), Ok(4_095 * 4_096 / 2));
+}
