@@ -4,15 +4,41 @@ ghost use mathlib.Core.Bool.{true};
 ghost use lib.ListN.{replicate};
 ghost use Rattle.cells.specs.Sizes.{revisions, clients, closed};
 ghost use Rattle.cells.specs.Range.{signature};
+ghost use Rattle.fields.specs.Numbers.{revisionCheck};
 
 // The table: its sizes, and the parts of a fresh day that are rows or lists and not 0.
 pub struct Table;
 
-// A revision number: 0 to 63.
+// A revision number: 0 to 63. Made by `check_revision`, and for the main revision by `Revision::main`.
 pub struct Revision(pub u8);
 
-// A client number: 0 to 15.
+// A client number: 0 to 15. Made by `check_client` of `revisions`.
 pub struct Client(pub u8);
+
+// What the range check of a revision number finds.
+pub enum RevisionCheck {
+    Known(Revision),
+    Strange,
+}
+
+pub fn check_revision(n: u8) -> RevisionCheck
+    ensures { λ r. ⌜ r ≡ revisionCheck n ⌝ }
+{
+    if n < 64 {
+        RevisionCheck::Known(Revision(n))
+    } else {
+        RevisionCheck::Strange
+    }
+}
+
+impl Revision {
+    // The main revision, which is there from the start.
+    pub fn main() -> Revision
+        ensures { λ r. ⌜ r .0 ≡ 0 ⌝ }
+    {
+        Revision(0)
+    }
+}
 
 // Where each part begins: docs/CELLS.md, "The parts".
 pub const ROWS: usize = 0;

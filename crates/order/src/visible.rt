@@ -16,7 +16,9 @@ ghost use Rattle.order.specs.Added.{Added, offered};
 use crate::links;
 use fields::read;
 use fields::table::Revision;
+use fields::table::RevisionCheck;
 use fields::table::Table;
+use fields::table::check_revision;
 
 // x goes behind the first n, if there is room.
 fn push(out: &mut [u16], n: usize, x: u16) -> usize
@@ -90,12 +92,15 @@ fn base_in(d: &[u8], r: Revision, x: Revision) -> usize
     0
 }
 
-// The revision at a place of the layout: a number in range, as the range check found.
+// The revision at a place of the layout: a number in range on every table in range.
 fn at_place(d: &[u8], i: usize) -> Revision
     requires { ⌜ (length (now d) ≡ bytes) × (inRange (now d) ≡ true) × (i < revisions) ⌝ }
     ensures { λ x. ⌜ (x .0 ≡ byte (cells (now (d .entry)) .layout) i) × (x .0 < revisions) ⌝ }
 {
-    Revision(read::place(d, i) as u8)
+    let RevisionCheck::Known(r) = check_revision(read::place(d, i) as u8) else {
+        return Revision::main();
+    };
+    r
 }
 
 // The place of r among those that are out, or their number.

@@ -10,6 +10,8 @@ use fields::numbers::wide;
 use fields::read;
 use fields::table::Client;
 use fields::table::Revision;
+use fields::table::RevisionCheck;
+use fields::table::check_revision;
 
 // Code 1: every cell in its range.
 pub enum RangeCheck {
@@ -95,13 +97,13 @@ pub fn check_given(d: &[u8], n: u8) -> GivenCheck
     requires { ⌜ length (now d) ≡ bytes ⌝ }
     ensures { λ r. ⌜ r ≡ givenCheck (now (d .entry)) n ⌝ }
 {
-    if n >= 64 {
+    let RevisionCheck::Known(r) = check_revision(n) else {
+        return GivenCheck::Never;
+    };
+    if read::state(d, r) == 0 {
         return GivenCheck::Never;
     }
-    if read::state(d, Revision(n)) == 0 {
-        return GivenCheck::Never;
-    }
-    GivenCheck::Given(Revision(n))
+    GivenCheck::Given(r)
 }
 
 pub fn check_joined(d: &[u8], r: Revision) -> JoinedCheck
@@ -173,11 +175,10 @@ pub fn check_left(d: &[u8]) -> LeftCheck
     requires { ⌜ length (now d) ≡ bytes ⌝ }
     ensures { λ a. ⌜ a ≡ leftCheck (now (d .entry)) ⌝ }
 {
-    let n = read::given(d);
-    if n < 64 {
-        return LeftCheck::Next(Revision(n as u8));
-    }
-    LeftCheck::Exhausted
+    let RevisionCheck::Known(c) = check_revision(read::given(d) as u8) else {
+        return LeftCheck::Exhausted;
+    };
+    LeftCheck::Next(c)
 }
 
 pub fn check_join(d: &[u8], a: Revision, b: Revision) -> JoinCheck

@@ -12,7 +12,7 @@ pub fn fresh(d: &mut [u8])
 {
     fields::fresh::clear(d);
     fields::fresh::caught(d);
-    write::state(d, Revision(0), 1);
+    write::state(d, Revision::main(), 1);
     fields::fresh::opened(d);
     write::out(d, 1);
     write::given(d, 1);

@@ -47,7 +47,7 @@ fn by_count(d: &mut [u8], c: Revision)
     requires { ⌜ (length (now d) ≡ bytes) × (c .0 < revisions) ⌝ }
     ensures { λ _. ⌜ now (d .exit) ≡ glue (inheritParts (split (now (d .entry))) 0 (c .0)) ⌝ }
 {
-    let base = read::count(d, Revision(0));
+    let base = read::count(d, Revision::main());
     write::used(d, c, 0);
     write::base(d, c, base);
     write::count(d, c, 0);

@@ -8,6 +8,8 @@ ghost use Rattle.cells.specs.Sizes.{bytes, clients, revisions};
 ghost use Rattle.cells.specs.Decode.{cells};
 ghost use Rattle.cells.specs.Checks.{busy, busyByOther};
 ghost use Rattle.cells.specs.Steps.{closeBytes, queryBytes};
+use crate::checks::ClientCheck;
+use crate::checks::check_client;
 use fields::numbers::wide;
 use fields::read;
 use fields::table::Client;
@@ -31,6 +33,17 @@ pub fn close(d: &mut [u8], c: Client)
     write::opened(d, c, 64);
 }
 
+// Whether client x's transaction is on revision `at`.
+fn is_on(d: &[u8], x: u8, at: usize) -> bool
+    requires { ⌜ (length (now d) ≡ bytes) × (x < clients) ⌝ }
+    ensures { λ b. ⌜ b ≡ eqb (cells (now (d .entry)) .opened x) at ⌝ }
+{
+    let ClientCheck::Known(c) = check_client(x) else {
+        return false;
+    };
+    read::opened(d, c) == at
+}
+
 // Whether some client has an open transaction on r.
 pub fn is_busy(d: &[u8], r: Revision) -> bool
     requires { ⌜ length (now d) ≡ bytes ⌝ }
@@ -39,7 +52,7 @@ pub fn is_busy(d: &[u8], r: Revision) -> bool
     let at = wide(r.0);
     let mut x: u8 = 0;
     while x < 16 {
-        if read::opened(d, Client(x)) == at {
+        if is_on(d, x, at) {
             return true;
         }
         x += 1;
@@ -55,7 +68,7 @@ fn is_other_on(d: &[u8], x: u8, c: u8, at: usize) -> bool
     if x == c {
         return false;
     }
-    read::opened(d, Client(x)) == at
+    is_on(d, x, at)
 }
 
 // Whether a client other than c has an open transaction on r.

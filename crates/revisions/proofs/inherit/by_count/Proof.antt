@@ -1,4 +1,5 @@
 -- `revisions::inherit::by_count` meets its contract: the writes in a row. Assumes nothing.
+use mathlib.Core.Path.{_∙_, ap}
 use borrow.Author.Needs.{needs}
 use Rattle.cells.specs.Decode.{cells}
 use Rattle.revisions.proofs.Writes.{by-count-done}
@@ -12,12 +13,14 @@ returns c =
     let at-base = at-count2 .before .before .before .before in
     let at-used = at-base .before .before .before .before in
     let at-count = at-used .before .before in
-    let start = at-count .before .before .before in
+    let at-main = at-count .before in
+    let start = at-main .before .before .before in
     let s = start .args in
-    by-count-done (s .d .now) (start .pre .0) _ _ _ (s .c .0) (at-count .count .result) (at-count .count .ensures .0) (at-used .used .ensures) (at-base .base .ensures) (at-count2 .count2 .ensures)
+    by-count-done (s .d .now) (start .pre .0) _ _ _ (s .c .0) (at-count .count .result) (at-count .count .ensures .0 ∙ ap (cells (s .d .now) .count) (at-main .main .ensures)) (at-used .used .ensures) (at-base .base .ensures) (at-count2 .count2 .ensures)
 
 pub by-count-spec : {M : Type 1} → statement M
 by-count-spec = tie.close (tie.spec
+    (λ c κs. search needs)
     (λ c κs. search needs)
     (λ c κs. search needs)
     (λ c κs. search needs)

@@ -5,7 +5,6 @@ use mathlib.Core.Path.{_∙_, _≡_, ap, refl, sym}
 use native.Mathlib.Omega.{arith}
 use lib.Dec.{eqb}
 use borrow.Author.Needs.{needs}
-use borrow.Author.Tests.{eq-eqb, ne-eqb}
 use Rattle.cells.specs.Decode.{cells}
 use Rattle.cells.specs.Tables.{some}
 use Rattle.cells.proofs.Tables.{some-at, some-more}
@@ -24,23 +23,23 @@ loop-holds c = (search needs, refl)
 
 returns : tie.Need-returns Inv-loop μ-loop
 returns c =
-    let at-opened = c .before in
-    let at-loop = at-opened .before .before in
+    let at-on = c .before in
+    let at-loop = at-on .before .before in
     let at-wide = at-loop .before in
     let start = at-wide .before .before in
     let s = start .args in
     let l = at-loop .loop in
     let f : ℕ → Bool = λ y. eqb (cells (s .d .now) .opened y) (at-wide .wide .result) in
-    sym (some-at f 16 (l .x) (omega arith) (eq-eqb _ _ (sym (at-opened .opened .ensures .0) ∙ c .if1 .taken))) ∙ ap (λ a. some (λ y. eqb (cells (s .d .now) .opened y) a) 16) (at-wide .wide .ensures .0)
+    sym (some-at f 16 (l .x) (omega arith) (sym (at-on .is-on .ensures) ∙ c .if1 .taken)) ∙ ap (λ a. some (λ y. eqb (cells (s .d .now) .opened y) a) 16) (at-wide .wide .ensures .0)
 
 loop-again : tie.Need-loop-again Inv-loop μ-loop
 loop-again c =
-    let at-opened = c .before in
-    let at-loop = at-opened .before .before in
+    let at-on = c .before in
+    let at-loop = at-on .before .before in
     let at-wide = at-loop .before in
     let start = at-wide .before .before in
     let l = at-loop .loop in
-    (omega arith, some-more (λ y. eqb (cells (start .args .d .now) .opened y) (at-wide .wide .result)) (l .x) (l .inv .1) (ne-eqb _ _ (λ e. c .if1 .left (at-opened .opened .ensures .0 ∙ e))))
+    (omega arith, some-more (λ y. eqb (cells (start .args .d .now) .opened y) (at-wide .wide .result)) (l .x) (l .inv .1) (sym (at-on .is-on .ensures) ∙ c .if1 .left))
 
 returns-2 : tie.Need-returns-2 Inv-loop μ-loop
 returns-2 c =

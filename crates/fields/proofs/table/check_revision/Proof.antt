@@ -1,0 +1,16 @@
+-- `fields::table::check_revision` meets its contract: the test decides. Assumes nothing.
+use borrow.Author.Tests.{le-ltb, lt-ltb}
+use Rattle.fields.specs.Numbers.{revisionCheck}
+use Rattle.fields.proofs.table.check_revision.Statement.{statement}
+use Rattle.fields.proofs.table.check_revision.Tie as tie
+
+returns : tie.Need-returns
+unfolding revisionCheck
+returns c = simp (lt-ltb _ _ (c .if1 .taken))
+
+returns-2 : tie.Need-returns-2
+unfolding revisionCheck
+returns-2 c = simp (le-ltb _ _ (c .if1 .left))
+
+pub check-revision-spec : {M : Type 1} → statement M
+check-revision-spec = tie.close (tie.spec returns returns-2)

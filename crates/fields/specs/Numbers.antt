@@ -1,0 +1,10 @@
+-- The range check of a revision number: 01, "box numbers 0 to 63".
+use Prim.Native.Nat.{ℕ}
+use mathlib.Core.Bool.{cond}
+use lib.Dec.{ltb}
+use Rattle.cells.specs.Sizes.{revisions}
+use Rattle.fields.specs.declared.table.RevisionCheck.{RevisionCheck}
+use Rattle.fields.specs.declared.table.RevisionCheck.the-variants.{Known, Strange}
+
+unfoldable pub revisionCheck : ℕ → RevisionCheck
+revisionCheck n = cond (ltb n revisions) (Known (record { 0 = n })) Strange

@@ -1,0 +1,70 @@
+-- What the range checks of numbers say, and the checks of the desk that begin with them.
+use Prim.Native.Nat.{ℕ, _<_, _≤_}
+use mathlib.Core.Bool.{Bool, true, false, not, cond, _&&_}
+use mathlib.Core.Path.{_≡_, sym, _∙_, ap}
+use mathlib.Core.List.{List}
+use native.Mathlib.Omega.{arith}
+use lib.Dec.{eqb, ltb}
+use borrow.Author.Tests.{ltb-true, ltb-false, lt-ltb, le-ltb, eq-eqb, ne-eqb}
+use Rattle.lists.proofs.Cases.{cases}
+use Rattle.cells.specs.Sizes.{clients, revisions}
+use Rattle.cells.specs.Decode.{cells}
+use Rattle.fields.specs.Numbers.{revisionCheck}
+use Rattle.fields.specs.declared.table.Client.{Client}
+use Rattle.fields.specs.declared.table.Revision.{Revision}
+use Rattle.fields.specs.declared.table.RevisionCheck.the-variants as revision
+use Rattle.fields.proofs.InRange.{known-revision, strange-revision}
+use Rattle.revisions.specs.Checks.{clientCheck, givenCheck, leftCheck}
+use Rattle.revisions.specs.declared.checks.GivenCheck.the-variants as given
+use Rattle.revisions.specs.declared.checks.LeftCheck.the-variants as left
+use Rattle.revisions.specs.declared.checks.ClientCheck.the-variants.{Known, Strange}
+
+different : (c : Client) → Known c ≡ Strange → ⊥
+different c e = let z : _≡_ {A = ℕ} 0 1 = cc in omega arith
+
+same : (n : ℕ) (c : Client) → Known (record { 0 = n }) ≡ Known c → c .0 ≡ n
+same n c e = let q : record { 0 = n } ≡ c = cc e in cc
+
+pub known-client : (n : ℕ) (c : Client) → clientCheck n ≡ Known c → (c .0 ≡ n) × (n < clients)
+unfolding clientCheck
+known-client n c e =
+    cases (ltb n clients)
+    (λ q. (same n c (sym (rw q) ∙ e), ltb-true n clients q))
+    (λ q. absurd (different c (sym e ∙ rw q)))
+
+pub strange-client : (n : ℕ) → clientCheck n ≡ Strange → clients ≤ n
+unfolding clientCheck
+strange-client n e =
+    cases (ltb n clients)
+    (λ q. absurd (different (record { 0 = n }) (sym (rw q) ∙ e)))
+    (λ q. ltb-false n clients q)
+
+same-revision : (n : ℕ) (r : Revision) → r .0 ≡ n → record { 0 = n } ≡ r
+same-revision n r e = ap (λ (k : ℕ). record { 0 = k }) (sym e)
+
+-- 3: out of range, or in range and never given out
+pub given-strange : (d : List ℕ) (n : ℕ) → revisionCheck n ≡ revision.Strange → given.Never ≡ givenCheck d n
+unfolding givenCheck
+given-strange d n e = rw (le-ltb n revisions (strange-revision n e))
+
+module _ (d : List ℕ) (n : ℕ) (r : Revision) (e : revisionCheck n ≡ revision.Known r) (v : ℕ) (ev : v ≡ cells d .state (r .0)) where
+  at-n : v ≡ cells d .state n
+  at-n = ev ∙ ap (cells d .state) (known-revision n r e .0)
+
+  pub given-never : v ≡ 0 → given.Never ≡ givenCheck d n
+  unfolding givenCheck
+  given-never z = rw (lt-ltb n revisions (known-revision n r e .1), ← at-n, eq-eqb v 0 z)
+
+  pub given-out : (v ≡ 0 → ⊥) → given.Given r ≡ givenCheck d n
+  unfolding givenCheck
+  given-out z = rw (lt-ltb n revisions (known-revision n r e .1), ← at-n, ne-eqb v 0 z) (ap given.Given (sym (same-revision n r (known-revision n r e .0))))
+
+-- 10
+module _ (d : List ℕ) (n : ℕ) (en : n ≡ cells d .given) where
+  pub none-left : revisionCheck n ≡ revision.Strange → left.Exhausted ≡ leftCheck d
+  unfolding leftCheck
+  none-left e = rw (← en, le-ltb n revisions (strange-revision n e))
+
+  pub next-left : (r : Revision) → revisionCheck n ≡ revision.Known r → left.Next r ≡ leftCheck d
+  unfolding leftCheck
+  next-left r e = rw (← en, lt-ltb n revisions (known-revision n r e .1)) (ap left.Next (sym (same-revision n r (known-revision n r e .0))))
