@@ -32,6 +32,19 @@ pub low-lent : (f : List ℕ → List ℕ) (t q : List ℕ) → q ≡ f (midOf 0
 unfolding low high
 low-lent f t q e = front-lent 40960 f t q e
 
+-- the lengths of the halves that are lent
+first-length : (a k : ℕ) (t : List ℕ) → length t ≡ a + k → length (midOf 0 a t) ≡ a
+first-length a k t h = simp length-take (omega arith)
+
+last-length : (a k : ℕ) (t : List ℕ) → length t ≡ a + k → length (midOf a k t) ≡ k
+last-length a k t h = simp (length-take, length-drop) (omega arith)
+
+pub low-length : (t : List ℕ) → length t ≡ bytes → length (midOf 0 40960 t) ≡ Lower.bytes
+low-length t h = first-length 40960 24576 t h
+
+pub high-length : (t : List ℕ) → length t ≡ bytes → length (midOf 40960 24576 t) ≡ Upper.bytes
+high-length t h = last-length 40960 24576 t h
+
 -- both halves were lent, one after the other
 pub both-lent : (n k : ℕ) (t q r : List ℕ) → length t ≡ n + k → length q ≡ length (midOf 0 n t) → putMid n k (putMid 0 n t q) r ≡ q ++ r
 both-lent n k t q r h e =

@@ -4,6 +4,7 @@ use borrow.Author.Needs.{needs}
 use Rattle.cells.proofs.Range.{ranges}
 use Rattle.table.specs.Halves.{low}
 use Rattle.table.specs.Found.{onPair}
+use Rattle.table.proofs.Halves.{low-length}
 use Rattle.table.proofs.Calls.{above, fork-by, same-taken}
 use Rattle.table.proofs.fork.fork_sound.Statement.{statement}
 use Rattle.table.proofs.fork.fork_sound.Tie as tie
@@ -42,7 +43,7 @@ fork-sound-spec = tie.close (tie.spec
     (λ c. search needs)
     (λ c. search needs)
     (λ c. search needs)
-    (λ c κs. search needs)
+    (λ c κs. low-length (c .before .before .before .args .t .now) (c .before .before .before .pre .1))
     (λ c. search needs)
     (λ c. search needs)
     start-requires

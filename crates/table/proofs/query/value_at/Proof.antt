@@ -3,7 +3,7 @@ use mathlib.Core.Path.{refl}
 use borrow.Author.Needs.{needs}
 use Rattle.cells.specs.Order.{order}
 use Rattle.table.specs.Halves.{low, high, cellsOf}
-use Rattle.table.proofs.Halves.{fits, value-along}
+use Rattle.table.proofs.Halves.{fits, high-length, low-length, value-along}
 use Rattle.table.proofs.query.value_at.Statement.{statement}
 use Rattle.table.proofs.query.value_at.Tie as tie
 
@@ -11,14 +11,15 @@ list-requires : tie.Need-list-requires
 unfolding low
 list-requires c κs =
     let start = c .before .before .before in
-    (search needs, start .pre .1, start .pre .2, refl)
+    (low-length (start .args .t .now) (start .pre .0), start .pre .1, start .pre .2, refl)
 
 value-requires : tie.Need-value-requires
 unfolding low
 value-requires c κs =
     let at-list = c .before .before .before in
-    let s = at-list .before .before .before .before .args in
-    (search needs, fits _ (order (cellsOf (s .t .now)) (s .r .0)) _ _ (at-list .list .ensures .0) (at-list .list .ensures .1) .0)
+    let start = at-list .before .before .before .before in
+    let s = start .args in
+    (high-length (s .t .now) (start .pre .0), fits _ (order (cellsOf (s .t .now)) (s .r .0)) _ _ (at-list .list .ensures .0) (at-list .list .ensures .1) .0)
 
 returns : tie.Need-returns
 unfolding low high

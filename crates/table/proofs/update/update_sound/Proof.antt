@@ -2,6 +2,7 @@
 use mathlib.Core.Path.{sym, _∙_}
 use borrow.Author.Needs.{needs}
 use Rattle.table.specs.Halves.{low}
+use Rattle.table.proofs.Halves.{low-length}
 use Rattle.table.proofs.Calls.{onUpdate, update-by, same-taken}
 use Rattle.table.proofs.update.update_sound.Statement.{statement}
 use Rattle.table.proofs.update.update_sound.Tie as tie
@@ -39,7 +40,7 @@ update-sound-spec = tie.close (tie.spec
     (λ c. search needs)
     (λ c. search needs)
     (λ c. search needs)
-    (λ c κs. search needs)
+    (λ c κs. low-length (c .before .before .before .args .t .now) (c .before .before .before .pre .1))
     (λ c. search needs)
     (λ c. search needs)
     put-requires
