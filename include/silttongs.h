@@ -4,8 +4,8 @@
  *
  * A table is a buffer of SILTTONGS_BYTES bytes that the caller lends for each call; nothing else
  * is kept. `table` points to `length` bytes that no one else reads or writes during the call, and
- * is not null. Every content and every number is answered: what is proved of the calls has no
- * precondition besides.
+ * is not null; so does `sheet`, to bytes apart from the table's. Every content and every number is
+ * answered: what is proved of the calls has no precondition besides.
  *
  * Each call hands back its answer in one number: silttongs_code is 0 if the call was taken, else
  * says why it was refused; silttongs_value is the value named below, 0 in a refusal. A refusal
@@ -29,6 +29,10 @@ extern "C" {
 /* The length of a table. */
 #define SILTTONGS_BYTES 65536
 
+/* The length of an entry of a listing, and of a sheet that every listing fits. */
+#define SILTTONGS_ENTRY 12
+#define SILTTONGS_SHEET 49152
+
 /* Why a call was refused. */
 enum {
     SILTTONGS_TAKEN = 0,          /* it was not */
@@ -38,11 +42,12 @@ enum {
     SILTTONGS_HANDED_IN = 4,      /* box already a joinee */
     SILTTONGS_BAD_ENTRY = 5,      /* bib above 999, or update kind not 1 to 4 */
     SILTTONGS_OTHER_BOX_OPEN = 6, /* the tablet's open transaction is on another box */
-    SILTTONGS_IN_USE = 7,         /* another tablet, or for fork and join any, is at work there */
+    SILTTONGS_IN_USE = 7,         /* another tablet, or for fork, join, list any, is at work there */
     SILTTONGS_NOT_CAUGHT_UP = 8,  /* the box has not seen the tablet's last event */
     SILTTONGS_LOG_FULL = 9,       /* 4,096 updates taken */
     SILTTONGS_NO_BOX_LEFT = 10,   /* 64 boxes started */
-    SILTTONGS_NOT_JOINABLE = 11   /* box 0, the joiner itself, its fork unseen, or its start seen */
+    SILTTONGS_NOT_JOINABLE = 11,  /* box 0, the joiner itself, its fork unseen, or its start seen */
+    SILTTONGS_SHEET_SHORT = 12    /* the listing needs more bytes */
 };
 
 /* The kinds of update. */
@@ -82,6 +87,15 @@ uint64_t silttongs_fork(uint8_t *table, size_t length, uint8_t box);
 /* Hands a box in: the joiner takes over the joinee's updates, behind its own. Codes 1, 3, 4, 7,
  * 11. Value: how many updates the joiner gained. */
 uint64_t silttongs_join(uint8_t *table, size_t length, uint8_t joiner, uint8_t joinee);
+
+/* Writes the updates visible on a box to the sheet, in the order in which they apply, whatever
+ * their numbers. Codes 1, 3, 4, 7, 12. Value: their count n.
+ *
+ * An entry has 12 bytes: kind (1), tablet (1), bib (2), v (4) and the update's number (4), each
+ * with its least significant byte first. Bytes of the sheet from 12 n on stay. The table is only
+ * read: a list is no event. */
+uint64_t silttongs_list(const uint8_t *table, size_t length, uint8_t box, uint8_t *sheet,
+                        size_t sheet_length);
 
 #ifdef __cplusplus
 }

@@ -11,10 +11,23 @@
 #include "silttongs.h"
 
 static uint8_t table[SILTTONGS_BYTES];
+static uint8_t sheet[SILTTONGS_SHEET];
 
 static void show(const char *step, uint64_t answer) {
     printf("%-26s code %2u  value %" PRIu32 "\n", step, (unsigned)silttongs_code(answer),
            silttongs_value(answer));
+}
+
+/* The number of so many bytes, the least significant first. */
+static uint32_t number(const uint8_t *bytes, int count) {
+    uint32_t n = 0;
+    while (count-- > 0) n = n << 8 | bytes[count];
+    return n;
+}
+
+static void show_entry(const uint8_t *e) {
+    printf("    kind %u  tablet %u  bib %" PRIu32 "  v %" PRIu32 "  number %" PRIu32 "\n",
+           (unsigned)e[0], (unsigned)e[1], number(e + 2, 2), number(e + 4, 4), number(e + 8, 4));
 }
 
 int main(void) {
@@ -31,6 +44,11 @@ int main(void) {
     show("yield 0", silttongs_yield(table, n, 0));
     show("query 0/1", silttongs_query(table, n, 0, 1, 7));
     show("join 0 with 1", silttongs_join(table, n, 0, 1));
+
+    uint64_t listed = silttongs_list(table, n, 0, sheet, sizeof sheet);
+    show("list box 0", listed);
+    for (uint32_t i = 0; i < silttongs_value(listed); i++) show_entry(sheet + SILTTONGS_ENTRY * i);
+
     show("query 1/0", silttongs_query(table, n, 1, 0, 7));
     show("update 0/1 Strike", silttongs_update(table, n, 0, 1, SILTTONGS_STRIKE, 7, 0));
     return 0;

@@ -40,6 +40,15 @@ impl Line {
             number: u32::from_le_bytes(number),
         }
     }
+
+    /// The bytes in the listing.
+    pub fn to_bytes(self) -> [u8; 12] {
+        let Line { kind, client, bib, v, number } = self;
+        let [bib_low, bib_high] = bib.to_le_bytes();
+        let [v0, v1, v2, v3] = v.to_le_bytes();
+        let [n0, n1, n2, n3] = number.to_le_bytes();
+        [kind, client, bib_low, bib_high, v0, v1, v2, v3, n0, n1, n2, n3]
+    }
 }
 
 impl Answer {
@@ -56,5 +65,18 @@ impl Answer {
     /// An accepted list: its value is the count of its lines.
     pub fn listed(lines: Vec<Line>) -> Self {
         Answer { code: Code::Accepted, value: lines.len() as u32, lines }
+    }
+}
+
+#[cfg(test)]
+mod tests {
+    use super::Line;
+
+    #[test]
+    fn fields_stand_where_01_puts_them() {
+        let bytes = [1, 2, 0xe7, 0x03, 0x0d, 0x0c, 0x0b, 0x0a, 0x04, 0x03, 0x02, 0x01];
+        let line = Line { kind: 1, client: 2, bib: 999, v: 0x0a0b_0c0d, number: 0x0102_0304 };
+        assert_eq!(Line::from_bytes(bytes), line);
+        assert_eq!(line.to_bytes(), bytes);
     }
 }

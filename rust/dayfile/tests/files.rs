@@ -1,18 +1,14 @@
 //! Day files and printed days: 01's cases of a bad file, strange steps, limits, random files.
 
-use calls::{Answer, Call, Code};
+mod common;
+
+use calls::{Call, Code};
+use common::{file, printed_by_literal, random_record};
 use dayfile::{
     answers, drawn_day, printed_day, read_file, read_text, write_file, write_text, BadFile, Record,
     LONGEST, MOST_STEPS,
 };
 use days::{random_day, Profile, Rng};
-
-/// A file with this header and so many bytes in all; what follows the header is 3 everywhere, so
-/// every record is a yield of client 3.
-fn file(count: u32, offset: u32, length: usize) -> Vec<u8> {
-    let header = [count.to_le_bytes(), offset.to_le_bytes()].concat();
-    header.into_iter().chain(std::iter::repeat(3)).take(length).collect()
-}
 
 fn is_bad(bytes: &[u8]) -> bool {
     printed_day(bytes) == "bad file\n"
@@ -128,7 +124,7 @@ fn random_files_print_alike_through_text_and_by_the_literal_replay() {
         assert_eq!(read_file(&bytes).as_ref(), Ok(&records), "seed {seed}");
         assert_eq!(printed_day(&again), printed_day(&bytes), "seed {seed}");
         assert_eq!(write_text(&read_file(&again).unwrap()), text, "seed {seed}");
-        assert_eq!(printed_by_literal(&records), printed_day(&bytes), "seed {seed}");
+        assert_eq!(printed_by_literal(&bytes), printed_day(&bytes), "seed {seed}");
     }
 }
 
@@ -150,42 +146,6 @@ fn random_files_are_drawn_step_by_step() {
         assert_eq!(count(">box "), forks + 1, "seed {seed}");
         assert_eq!(count("</svg>"), 1, "seed {seed}");
     }
-}
-
-/// Small numbers in most fields, so that many steps are taken; any byte in the others.
-fn random_record(rng: &mut Rng) -> Record {
-    let mut field = |small: usize| match rng.percent(90) {
-        true => rng.below(small) as u8,
-        false => rng.bits() as u8,
-    };
-    let bytes = [
-        field(7),
-        field(3),
-        field(4),
-        field(4),
-        field(3),
-        0,
-        field(6),
-        field(255),
-        field(255),
-        field(2),
-        0,
-        field(1),
-    ];
-    Record::from_bytes(bytes)
-}
-
-fn printed_by_literal(records: &[Record]) -> String {
-    let mut day = literal::Day::fresh();
-    let mut text = format!("steps {}\n", records.len());
-    for (index, record) in records.iter().enumerate() {
-        let answer = match record.call() {
-            Some(call) => day.call(call),
-            None => Answer::refused(Code::StrangeStep),
-        };
-        text += &format!("{index} {} {}\n", answer.code.number(), answer.value);
-    }
-    text
 }
 
 /// A random day as text, as a file, and back: nothing is lost.

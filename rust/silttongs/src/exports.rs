@@ -1,5 +1,4 @@
-//! The exports of the proved crate, as include/silttongs.h declares them. The call list goes here
-//! once it is exported.
+//! The exports of the proved crate, as include/silttongs.h declares them.
 
 #![allow(unsafe_code)]
 
@@ -20,10 +19,18 @@ extern "C" {
     fn silttongs_yield(table: *mut u8, length: usize, client: u8) -> u64;
     fn silttongs_fork(table: *mut u8, length: usize, revision: u8) -> u64;
     fn silttongs_join(table: *mut u8, length: usize, joiner: u8, joinee: u8) -> u64;
+    fn silttongs_list(
+        table: *const u8,
+        length: usize,
+        revision: u8,
+        sheet: *mut u8,
+        sheet_length: usize,
+    ) -> u64;
 }
 
 // Each export takes any bytes and any numbers: it has no precondition, is proved to stay within
-// the slice, and keeps nothing of it. The slice is lent to it alone for as long as it runs.
+// its slices, and keeps nothing of them. A slice that it writes is lent to it alone for as long as
+// it runs.
 
 pub(crate) fn fresh(t: &mut [u8]) -> Result<u32, Refusal> {
     // SAFETY: as above.
@@ -60,4 +67,11 @@ pub(crate) fn fork(t: &mut [u8], revision: u8) -> Result<u32, Refusal> {
 pub(crate) fn join(t: &mut [u8], joiner: u8, joinee: u8) -> Result<u32, Refusal> {
     // SAFETY: as above.
     answer(unsafe { silttongs_join(t.as_mut_ptr(), t.len(), joiner, joinee) })
+}
+
+pub(crate) fn list(t: &[u8], revision: u8, sheet: &mut [u8]) -> Result<u32, Refusal> {
+    // SAFETY: as above. The table is only read, and the sheet, lent to be written, lies apart.
+    answer(unsafe {
+        silttongs_list(t.as_ptr(), t.len(), revision, sheet.as_mut_ptr(), sheet.len())
+    })
 }

@@ -27,9 +27,11 @@
 #![no_std]
 #![deny(unsafe_code)]
 
+mod entry;
 mod exports;
 mod refusal;
 mod table;
 
+pub use entry::{entries, Entry, SHEET};
 pub use refusal::Refusal;
 pub use table::{Kind, Table, BYTES};

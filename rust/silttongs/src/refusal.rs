@@ -19,7 +19,7 @@ pub enum Refusal {
     BadEntry = 5,
     /// The tablet's open transaction is on another box.
     OtherBoxOpen = 6,
-    /// Another tablet, or for fork and join any tablet, has an open transaction on the box.
+    /// Another tablet, or for fork, join and list any tablet, has an open transaction on the box.
     InUse = 7,
     /// The box has not seen the tablet's last event.
     NotCaughtUp = 8,
@@ -29,10 +29,12 @@ pub enum Refusal {
     NoBoxLeft = 10,
     /// The joinee is box 0 or the joiner, or the joiner has not seen its fork or has seen its start.
     NotJoinable = 11,
+    /// The listing needs more bytes.
+    SheetShort = 12,
 }
 
 /// In the order of their numbers, 1 first.
-const ALL: [Refusal; 11] = [
+const ALL: [Refusal; 12] = [
     Refusal::NoTable,
     Refusal::StrangeTablet,
     Refusal::NeverSent,
@@ -44,6 +46,7 @@ const ALL: [Refusal; 11] = [
     Refusal::LogFull,
     Refusal::NoBoxLeft,
     Refusal::NotJoinable,
+    Refusal::SheetShort,
 ];
 
 impl Refusal {
@@ -66,6 +69,7 @@ impl Refusal {
             Refusal::LogFull => "log full",
             Refusal::NoBoxLeft => "no box left",
             Refusal::NotJoinable => "not joinable",
+            Refusal::SheetShort => "sheet short",
         }
     }
 }

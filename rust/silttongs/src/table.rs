@@ -26,7 +26,20 @@ impl From<Kind> for u8 {
     }
 }
 
-/// A table on bytes of its own, as `[u8; BYTES]` or `Box<[u8]>`, or on lent ones, as `&mut [u8]`.
+impl TryFrom<u8> for Kind {
+    type Error = Refusal;
+
+    /// Code 5 if the number is not 1 to 4.
+    fn try_from(number: u8) -> Result<Kind, Refusal> {
+        [Kind::Time, Kind::Earliest, Kind::Penalty, Kind::Strike]
+            .into_iter()
+            .find(|&kind| kind as u8 == number)
+            .ok_or(Refusal::BadEntry)
+    }
+}
+
+/// A table on bytes of its own, as `[u8; BYTES]` or `Box<[u8]>`, or on lent ones, as `&mut [u8]`,
+/// or `&[u8]` for lists alone.
 ///
 /// Nothing but the bytes is kept. A refused call changes none of them. A box is a revision of the
 /// table, a tablet is a client.
@@ -50,19 +63,6 @@ impl<B: AsMut<[u8]>> Table<B> {
     pub fn fresh(mut bytes: B) -> Result<Self, Refusal> {
         exports::fresh(bytes.as_mut())?;
         Ok(Table(bytes))
-    }
-
-    /// A table that was made before, as one read from a file. Each call checks the bytes anew and
-    /// refuses what is no table.
-    ///
-    /// ```
-    /// use silttongs::{Refusal, Table, BYTES};
-    ///
-    /// let mut table = Table::from_bytes(vec![0; BYTES]);
-    /// assert_eq!(table.yield_(0), Err(Refusal::NoTable));
-    /// ```
-    pub fn from_bytes(bytes: B) -> Self {
-        Table(bytes)
     }
 
     /// Enters an update of a bib on a box, in the tablet's transaction there, which it opens if
@@ -176,6 +176,38 @@ impl<B: AsMut<[u8]>> Table<B> {
 }
 
 impl<B: AsRef<[u8]>> Table<B> {
+    /// Writes the updates visible on a box to the sheet, [`Entry::BYTES`] each, in the order in
+    /// which they apply, whatever their numbers. How many is the answer. Bytes of the sheet behind
+    /// them stay, and so does the table: a list is no event.
+    ///
+    /// ```
+    /// use silttongs::{entries, Entry, Kind, Refusal, Table, BYTES, SHEET};
+    ///
+    /// let mut table = Table::fresh([0; BYTES])?;
+    /// table.fork(0)?;
+    /// table.update(3, 1, Kind::Penalty, 7, 5_000)?;
+    /// table.yield_(3)?;
+    /// table.update(2, 0, Kind::Time, 7, 60_000)?;
+    /// table.yield_(2)?;
+    /// table.join(0, 1)?;
+    ///
+    /// let mut sheet = [0; SHEET];
+    /// let count = table.list(0, &mut sheet)?;
+    /// let time = Entry { kind: 1, client: 2, bib: 7, v: 60_000, number: 1 };
+    /// let penalty = Entry { kind: 3, client: 3, bib: 7, v: 5_000, number: 0 };
+    /// assert!(entries(&sheet, count).eq([time, penalty]));
+    ///
+    /// assert_eq!(table.list(0, &mut sheet[..23]), Err(Refusal::SheetShort));
+    /// # Ok::<(), Refusal>(())
+    /// ```
+    ///
+    /// # Errors
+    ///
+    /// Codes 1, 3, 4, 7 and 12.
+    pub fn list(&self, revision: u8, sheet: &mut [u8]) -> Result<u32, Refusal> {
+        exports::list(self.0.as_ref(), revision, sheet)
+    }
+
     /// The bytes, to be kept or copied.
     pub fn bytes(&self) -> &[u8] {
         self.0.as_ref()
@@ -183,6 +215,19 @@ impl<B: AsRef<[u8]>> Table<B> {
 }
 
 impl<B> Table<B> {
+    /// A table that was made before, as one read from a file. Each call checks the bytes anew and
+    /// refuses what is no table.
+    ///
+    /// ```
+    /// use silttongs::{Refusal, Table, BYTES};
+    ///
+    /// let mut table = Table::from_bytes(vec![0; BYTES]);
+    /// assert_eq!(table.yield_(0), Err(Refusal::NoTable));
+    /// ```
+    pub fn from_bytes(bytes: B) -> Self {
+        Table(bytes)
+    }
+
     /// The bytes, given back.
     pub fn into_bytes(self) -> B {
         self.0

@@ -1,5 +1,5 @@
-//! Buffers that no day made: every call returns, a refusal changes no byte, two runs give the same,
-//! and code 1 is given exactly if docs/CELLS.md says so.
+//! Buffers that no day made: every call returns, a refusal changes no byte of table and sheet, two
+//! runs give the same, and code 1 is given exactly if docs/CELLS.md says so.
 
 #[path = "common/cells.rs"]
 mod cells;
@@ -7,11 +7,11 @@ mod common;
 
 use std::collections::BTreeMap;
 
-use calls::{Answer, Call};
+use calls::Call;
 use cells::{cells, is_table, Cell};
-use common::{first_difference, library};
+use common::{difference, first_difference, library, plainly, sheet, Given};
 use days::{random_day, seeds, Profile, Rng};
-use silttongs::{Refusal, Table, BYTES};
+use silttongs::{Refusal, Table, BYTES, SHEET};
 
 /// How many damaged buffers are tried.
 const BUFFERS: u64 = 8_000;
@@ -43,8 +43,8 @@ fn each_cell_at_its_limits() {
             let mut t = fresh();
             cell.set(&mut t, value);
             let code = if cell.range.contains(&value) { 0 } else { 1 };
-            let answer = library(&mut t, Call::Yield { client: 0 });
-            assert_eq!(answer, Some((code, 0)), "{value} in {cell:?}");
+            let given = library(&mut t, Call::Yield { client: 0 });
+            assert_eq!((given.code, given.value), (code, 0), "{value} in {cell:?}");
         }
     }
 }
@@ -59,7 +59,7 @@ fn the_other_bytes_have_every_value_in_range() {
     }
     for at in (0..BYTES).filter(|&at| !ranged[at]) {
         t[at] ^= 0xff;
-        assert_eq!(library(&mut t, Call::Yield { client: 0 }), Some((0, 0)), "byte {at}");
+        assert_eq!(library(&mut t, Call::Yield { client: 0 }).code, 0, "byte {at}");
     }
 }
 
@@ -71,13 +71,15 @@ fn wrong_lengths() {
         Call::Yield { client: 0 },
         Call::Fork { revision: 0 },
         Call::Join { joiner: 0, joinee: 1 },
+        Call::List { revision: 0, room: 24 },
     ];
     for length in [0, 1, 12, 40_959, 40_960, BYTES - 1, BYTES + 1, 2 * BYTES] {
         let mut t = fresh();
         t.resize(length, 0);
         let before = t.clone();
         for call in calls {
-            assert_eq!(library(&mut t, call), Some((1, 0)), "{length} bytes, `{call}`");
+            let refused = Given { code: 1, value: 0, sheet: sheet(call) };
+            assert_eq!(library(&mut t, call), refused, "{length} bytes, `{call}`");
             assert!(t == before, "{length} bytes, `{call}`: changed");
         }
         assert_eq!(Table::fresh(&mut t[..]).err(), Some(Refusal::NoTable), "{length} bytes");
@@ -103,41 +105,54 @@ fn random_calls_on_damaged_buffers() {
         let mut rng = Rng::new(seed);
         let mut t = damaged(&cells, &mut rng);
         for step in 0..CALLS {
+            let mut made = |call| {
+                judged(&cells, &mut t, call)
+                    .unwrap_or_else(|fault| panic!("seed {seed}, call {step}, `{call}`: {fault}"))
+            };
             let call = any_call(&mut rng);
-            let code = judged(&cells, &mut t, call)
-                .unwrap_or_else(|fault| panic!("seed {seed}, call {step}, `{call}`: {fault}"));
+            let Given { code, value, .. } = made(call);
             *met.entry(code).or_default() += 1;
+            // A taken list is taken with just the room that it needs, and not with a byte less.
+            if let (Call::List { revision, .. }, 1..) = (call, value) {
+                let needed = 12 * value as usize;
+                for (room, code) in [(needed, 0), (needed - 1, 12)] {
+                    let list = Call::List { revision, room };
+                    assert_eq!(made(list).code, code, "seed {seed}, call {step}, `{list}`");
+                }
+            }
         }
     }
-    for code in [0, 1, 2, 3, 4, 5, 6, 7, 8, 9, 10, 11] {
+    for code in 0..=12 {
         let times = met.get(&code).copied().unwrap_or(0);
         assert!(times >= 10, "code {code} was met {times} times");
     }
 }
 
-/// Makes the call, or says what is wrong with it; its code.
-fn judged(cells: &[Cell], t: &mut Vec<u8>, call: Call) -> Result<u8, String> {
+/// Makes the call, or says what is wrong with it.
+fn judged(cells: &[Cell], t: &mut Vec<u8>, call: Call) -> Result<Given, String> {
     let mut again = t.clone();
-    let mut plainly = t.clone();
+    let mut plain = t.clone();
     let before = t.clone();
-    let Some(answer) = library(t, call) else { return Err("no such call".to_string()) };
-    if library(&mut again, call) != Some(answer) || again != *t {
+    let given = library(t, call);
+    if library(&mut again, call) != given || again != *t {
         return Err("a second run differs".to_string());
     }
-    let (code, value) = answer;
+    let code = given.code;
     if (code == 1) == is_table(cells, &before) {
         return Err(format!("code {code}, against docs/CELLS.md"));
     }
-    if code != 0 && (value != 0 || *t != before) {
-        return Err(format!("refused with code {code}, but value {value} or bytes changed"));
+    if code != 0 && (given.value != 0 || *t != before || given.sheet != sheet(call)) {
+        return Err(format!("refused with code {code}, but with a value or bytes changed"));
     }
-    let expected = plain::call(&mut plainly, call).unwrap_or_else(Answer::refused);
-    if (expected.code.number(), expected.value) != answer {
-        return Err(format!("{answer:?}, plain has {expected:?}"));
+    if matches!(call, Call::List { .. }) && *t != before {
+        return Err("a list changed the table".to_string());
     }
-    match first_difference(t, &plainly) {
-        Some(at) => Err(format!("byte {at} is {}, plain has {}", t[at], plainly[at])),
-        None => Ok(code),
+    if let Some(fault) = difference(&given, &plainly(&mut plain, call)) {
+        return Err(format!("against plain: {fault}"));
+    }
+    match first_difference(t, &plain) {
+        Some(at) => Err(format!("byte {at} is {}, plain has {}", t[at], plain[at])),
+        None => Ok(given),
     }
 }
 
@@ -187,11 +202,13 @@ fn any_call(rng: &mut Rng) -> Call {
     let (client, revision, other, kind) = (below(16), below(64), below(64), 1 + below(4));
     let (client, revision, kind) = (client as u8, revision as u8, kind as u8);
     let bib = rng.below(1_010) as u16;
-    match rng.below(6) {
+    match rng.below(8) {
         0 => Call::Query { client, revision, bib },
         1 => Call::Yield { client },
         2 => Call::Fork { revision },
         3 => Call::Join { joiner: revision, joinee: other as u8 },
+        4 => Call::List { revision, room: SHEET },
+        5 => Call::List { revision, room: rng.below(200) },
         _ => Call::Update { client, revision, kind, bib, v: rng.bits() as u32 },
     }
 }

@@ -1,16 +1,15 @@
-//! Random days: for every call the static library gives the code and value of the literal replay,
-//! and leaves the bytes that the plain implementation leaves.
+//! Random days: for every call the static library gives the code, value and sheet of the literal
+//! replay, and leaves the bytes that the plain implementation leaves.
 
 mod common;
 
 use calls::Call;
-use common::{first_difference, library};
+use common::{as_given, difference, first_difference, library};
 use days::{chain_of_joins, must_pass, random_day, seeds, Profile};
 use silttongs::{Table, BYTES};
 
 /// How many days of each kind are replayed.
-const KINDS: [(Profile, u64); 8] = [
-    (Profile::SMALL, 800),
+const KINDS: [(Profile, u64); 7] = [
     (Profile::MIXED, 400),
     (Profile::NESTED, 400),
     (Profile::STALE, 300),
@@ -24,7 +23,7 @@ const KINDS: [(Profile, u64); 8] = [
 fn days_of_all_kinds() {
     for (profile, count) in KINDS {
         for seed in seeds(count) {
-            must_pass(profile.name, seed, &random_day(&profile, seed), difference);
+            must_pass(profile.name, seed, &random_day(&profile, seed), fault);
         }
     }
 }
@@ -32,26 +31,78 @@ fn days_of_all_kinds() {
 #[test]
 fn chains_of_joins() {
     for seed in seeds(60) {
-        must_pass("chain of joins", seed, &chain_of_joins(seed), difference);
+        must_pass("chain of joins", seed, &chain_of_joins(seed), fault);
     }
 }
 
-/// The first call on which they differ, in words. Lists are left out until the library has them:
-/// they change nothing.
-fn difference(calls: &[Call]) -> Option<String> {
-    let mut table = Table::fresh(vec![0xa5; BYTES]).expect("the length is right").into_bytes();
-    let mut literal = literal::Day::fresh();
-    let mut plain = plain::Day::fresh();
-    let steps = calls.iter().filter(|call| !matches!(call, Call::List { .. }));
-    steps.copied().find_map(|call| {
-        let expected = literal.call(call);
-        let expected = (expected.code.number(), expected.value);
-        plain.call(call);
-        let answer = library(&mut table, call)?;
-        if answer != expected {
-            return Some(format!("`{call}`: literal {expected:?}, library {answer:?}"));
+#[test]
+fn small_days_with_every_listing_after_every_step() {
+    for seed in seeds(800) {
+        must_pass("small", seed, &random_day(&Profile::SMALL, seed), fault_with_listings);
+    }
+    for seed in 0..10 {
+        must_pass("chain of joins", seed, &chain_of_joins(seed), fault_with_listings);
+    }
+}
+
+/// The first call on which they differ, in words.
+fn fault(calls: &[Call]) -> Option<String> {
+    let mut day = Day::fresh();
+    calls.iter().find_map(|&call| day.fault(call))
+}
+
+fn fault_with_listings(calls: &[Call]) -> Option<String> {
+    let mut day = Day::fresh();
+    calls.iter().find_map(|&call| day.fault(call).or_else(|| day.fault_of_a_listing()))
+}
+
+/// A day on all three.
+struct Day {
+    table: Vec<u8>,
+    literal: literal::Day,
+    plain: plain::Day,
+}
+
+impl Day {
+    fn fresh() -> Self {
+        let table = Table::fresh(vec![0xa5; BYTES]).expect("the length is right").into_bytes();
+        Day { table, literal: literal::Day::fresh(), plain: plain::Day::fresh() }
+    }
+
+    /// Makes the call. The plain implementation is not asked to list: its bytes are then the
+    /// table's before the call.
+    fn fault(&mut self, call: Call) -> Option<String> {
+        if !matches!(call, Call::List { .. }) {
+            self.plain.call(call);
         }
-        let at = first_difference(&table, plain.bytes())?;
-        Some(format!("`{call}`: byte {at} is {}, plain has {}", table[at], plain.bytes()[at]))
-    })
+        let fault = self.fault_of_answer(call).or_else(|| self.fault_of_bytes());
+        fault.map(|fault| format!("`{call}`: {fault}"))
+    }
+
+    fn fault_of_answer(&mut self, call: Call) -> Option<String> {
+        let expected = as_given(call, &self.literal.call(call));
+        difference(&library(&mut self.table, call), &expected)
+    }
+
+    fn fault_of_bytes(&self) -> Option<String> {
+        let bytes = self.plain.bytes();
+        let at = first_difference(&self.table, bytes)?;
+        Some(format!("byte {at} is {}, plain has {}", self.table[at], bytes[at]))
+    }
+
+    /// Lists every revision, and the number after the last: with a byte more than it needs, with
+    /// just enough, and with a byte less.
+    fn fault_of_a_listing(&mut self) -> Option<String> {
+        let given = self.literal.revisions().len();
+        (0..=given)
+            .find_map(|number| {
+                let needed =
+                    if number < given { 12 * self.literal.visible(number).len() } else { 0 };
+                [needed + 1, needed, needed.saturating_sub(1)].into_iter().find_map(|room| {
+                    let call = Call::List { revision: number as u8, room };
+                    self.fault_of_answer(call).map(|fault| format!("`{call}`: {fault}"))
+                })
+            })
+            .or_else(|| self.fault_of_bytes().map(|fault| format!("after listings: {fault}")))
+    }
 }

@@ -2,9 +2,9 @@
 
 use std::thread;
 
-use silttongs::{Kind, Refusal, Table, BYTES};
+use silttongs::{Kind, Refusal, Table, BYTES, SHEET};
 
-/// The longest own list, and so the deepest recursion, on box 1: a query walks it, and a fork too.
+/// The longest own list, and so the deepest recursion, on box 1: a query walks it, and a fork and a list too.
 #[test]
 fn the_deepest_calls_fit_in_256_kib() {
     let run = || {
@@ -15,6 +15,7 @@ fn the_deepest_calls_fit_in_256_kib() {
         }
         let value = table.query(0, 1, 7)?;
         table.yield_(0)?;
+        table.list(1, &mut vec![0; SHEET])?;
         table.fork(1)?;
         table.join(0, 1)?;
         Ok::<u32, Refusal>(value)

@@ -14,6 +14,7 @@ use std::time::Instant;
 use calls::Call;
 use days::{chain, update, whole};
 use sides::{made, Side, Work};
+use silttongs::SHEET;
 
 /// Each case is timed in so many rounds, between which the others have their turn.
 const ROUNDS: usize = 20;
@@ -46,9 +47,11 @@ impl Case {
         Case::new(name, made(day), Work::Calls(calls.to_vec()))
     }
 
-    /// Both sides in turn, each sample on a copy of the table; they must leave the same bytes.
+    /// Both sides in turn, each sample on a copy of the table; they must leave the same bytes, of
+    /// the sheet too.
     fn round(&mut self) {
-        let (mut a, mut b) = (self.table.clone(), self.table.clone());
+        let mut a = (self.table.clone(), vec![0; SHEET]);
+        let mut b = a.clone();
         let mut spent = 0;
         let mut samples = 0;
         while spent < 2 * ROUND || samples < 2 {
@@ -68,10 +71,11 @@ impl Case {
 }
 
 /// One run of the work on a copy of the table, in nanoseconds.
-fn sample(from: &[u8], t: &mut [u8], side: Side, work: &Work) -> u64 {
+fn sample(from: &[u8], to: &mut (Box<[u8]>, Vec<u8>), side: Side, work: &Work) -> u64 {
+    let (t, sheet) = to;
     t.copy_from_slice(from);
     let start = Instant::now();
-    side.run(black_box(t), work);
+    side.run(black_box(t), black_box(sheet), work);
     start.elapsed().as_nanos() as u64
 }
 
@@ -88,6 +92,7 @@ fn single_calls() -> Vec<Case> {
     let one_box = chain(4_096, 1);
     let full = chain(4_096, 8);
     let query = |revision| [Call::Query { client: 0, revision, bib: 7 }];
+    let list = |revision| [Call::List { revision, room: SHEET }];
     let strange = [Call::Yield { client: 16 }];
     let pair = [update(0, 7, 7), Call::Yield { client: 0 }];
     vec![
@@ -96,6 +101,8 @@ fn single_calls() -> Vec<Case> {
         Case::of_calls("update + yield, 2,048 updates, 8 boxes", &middle, &pair),
         Case::of_calls("query, 4,096 visible updates, 1 box", &one_box, &query(0)),
         Case::of_calls("query, 4,096 visible updates, 8 boxes", &full, &query(7)),
+        Case::of_calls("list of 4,096 updates, 1 box", &one_box, &list(0)),
+        Case::of_calls("list of 4,096 updates, 8 boxes", &full, &list(7)),
         Case::of_calls("fork of box 0, 4,096 updates", &one_box, &[Call::Fork { revision: 0 }]),
         Case::of_calls(
             "fork of box 7, 4,096 updates, 8 boxes",
@@ -122,6 +129,7 @@ fn growth(sizes: &[usize], chain_of: impl Fn(usize) -> (usize, usize)) -> Vec<(u
         let entry = Call::Update { client: 0, revision: last, kind: 1, bib: 7, v: 1 };
         let calls = [
             ("query", vec![Call::Query { client: 0, revision: last, bib: 7 }]),
+            ("list", vec![Call::List { revision: last, room: SHEET }]),
             ("fork", vec![Call::Fork { revision: last }]),
             ("join", vec![Call::Join { joiner: last - 1, joinee: last }]),
             ("update + yield", vec![entry, Call::Yield { client: 0 }]),

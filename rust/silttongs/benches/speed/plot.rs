@@ -11,8 +11,13 @@ type Point = (String, usize, Times);
 /// The decades of the scale: 100 ns to 100 µs.
 const DECADES: [(f64, &str); 4] = [(2.0, "100 ns"), (3.0, "1 µs"), (4.0, "10 µs"), (5.0, "100 µs")];
 
-const COLOURS: [(&str, &str); 4] =
-    [("query", "#0b6e99"), ("fork", "#b5482a"), ("join", "#5b7f2b"), ("update + yield", "#6b4fa0")];
+const COLOURS: [(&str, &str); 5] = [
+    ("list", "#c08a00"),
+    ("query", "#0b6e99"),
+    ("fork", "#b5482a"),
+    ("join", "#5b7f2b"),
+    ("update + yield", "#6b4fa0"),
+];
 
 const WIDTH: f64 = 340.0;
 const HEIGHT: f64 = 280.0;

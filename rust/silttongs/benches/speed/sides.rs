@@ -25,15 +25,15 @@ pub(crate) enum Side {
 }
 
 impl Side {
-    /// Runs the work on a table. Nothing is made of the answers, and none is left out.
-    pub(crate) fn run(self, t: &mut [u8], work: &Work) {
+    /// Runs the work on a table and a sheet. Nothing is made of the answers, and none is left out.
+    pub(crate) fn run(self, t: &mut [u8], sheet: &mut [u8], work: &Work) {
         match work {
             Work::Fresh => {
                 black_box(self.fresh(t));
             }
             Work::Calls(calls) => {
                 for &call in calls {
-                    black_box(self.call(t, black_box(call)));
+                    black_box(self.call(t, sheet, black_box(call)));
                 }
             }
         }
@@ -47,7 +47,7 @@ impl Side {
     }
 
     /// Makes one call.
-    pub(crate) fn call(self, t: &mut [u8], call: Call) -> Given {
+    pub(crate) fn call(self, t: &mut [u8], sheet: &mut [u8], call: Call) -> Given {
         match self {
             Side::Plain => by_plain(match call {
                 Call::Update { client, revision, kind, bib, v } => {
@@ -57,7 +57,7 @@ impl Side {
                 Call::Yield { client } => plain::yield_(t, client),
                 Call::Fork { revision } => plain::fork(t, revision),
                 Call::Join { joiner, joinee } => plain::join(t, joiner, joinee),
-                Call::List { .. } => panic!("the library has no list yet"),
+                Call::List { revision, room } => plain::list(t, revision, &mut sheet[..room]),
             }),
             Side::Library => {
                 let mut t = Table::from_bytes(t);
@@ -69,7 +69,7 @@ impl Side {
                     Call::Yield { client } => t.yield_(client).map(|()| 0),
                     Call::Fork { revision } => t.fork(revision).map(u32::from),
                     Call::Join { joiner, joinee } => t.join(joiner, joinee),
-                    Call::List { .. } => panic!("the library has no list yet"),
+                    Call::List { revision, room } => t.list(revision, &mut sheet[..room]),
                 })
             }
         }
@@ -84,12 +84,12 @@ fn by_library(answer: Result<u32, silttongs::Refusal>) -> Given {
     answer.map_or_else(|refusal| (refusal.code(), 0), |value| (0, value))
 }
 
-/// The table after these calls, all accepted.
+/// The table after these calls, all accepted and none a list.
 pub(crate) fn made(calls: &[Call]) -> Box<[u8]> {
     let mut t = vec![0; BYTES].into_boxed_slice();
     Side::Library.fresh(&mut t);
     for &call in calls {
-        assert_eq!(Side::Library.call(&mut t, call).0, 0, "`{call}`");
+        assert_eq!(Side::Library.call(&mut t, &mut [], call).0, 0, "`{call}`");
     }
     t
 }

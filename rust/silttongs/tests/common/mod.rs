@@ -1,11 +1,32 @@
-//! The library's calls as values.
+//! The library's calls as values, and what they are compared with.
 
-use calls::Call;
+use calls::{Answer, Call};
 use silttongs::Table;
 
-/// The code and value that the library answers; none for a list, which it does not have yet.
-pub(crate) fn library(bytes: &mut [u8], call: Call) -> Option<(u8, u32)> {
+/// What a call left, but for the table.
+#[derive(Clone, Debug, PartialEq, Eq)]
+pub(crate) struct Given {
+    pub(crate) code: u8,
+    pub(crate) value: u32,
+    /// Of a list, every byte of its sheet; empty for other calls.
+    pub(crate) sheet: Vec<u8>,
+}
+
+/// The sheet of a list before the call: as long as the call says, up to more than any listing
+/// needs, and no byte like its neighbours.
+pub(crate) fn sheet(call: Call) -> Vec<u8> {
+    match call {
+        Call::List { room, .. } => {
+            (0..room.min(50_000)).map(|at| (at * 167 + at / 256) as u8).collect()
+        }
+        _ => Vec::new(),
+    }
+}
+
+/// What the library gives.
+pub(crate) fn library(bytes: &mut [u8], call: Call) -> Given {
     let mut table = Table::from_bytes(bytes);
+    let mut sheet = sheet(call);
     let answer = match call {
         Call::Update { client, revision, kind, bib, v } => {
             table.update(client, revision, kind, bib, v)
@@ -14,9 +35,44 @@ pub(crate) fn library(bytes: &mut [u8], call: Call) -> Option<(u8, u32)> {
         Call::Yield { client } => table.yield_(client).map(|()| 0),
         Call::Fork { revision } => table.fork(revision).map(u32::from),
         Call::Join { joiner, joinee } => table.join(joiner, joinee),
-        Call::List { .. } => return None,
+        Call::List { revision, .. } => table.list(revision, &mut sheet),
     };
-    Some(answer.map_or_else(|refusal| (refusal.code(), 0), |value| (0, value)))
+    let (code, value) = answer.map_or_else(|refusal| (refusal.code(), 0), |value| (0, value));
+    Given { code, value, sheet }
+}
+
+/// What the plain implementation gives.
+#[allow(dead_code, reason = "for the damaged buffers alone")]
+pub(crate) fn plainly(bytes: &mut [u8], call: Call) -> Given {
+    let mut sheet = sheet(call);
+    let answer = match call {
+        Call::List { revision, .. } => {
+            plain::list(bytes, revision, &mut sheet).map(Answer::accepted)
+        }
+        _ => plain::call(bytes, call),
+    };
+    let Answer { code, value, .. } = answer.unwrap_or_else(Answer::refused);
+    Given { code: code.number(), value, sheet }
+}
+
+/// What the literal replay's answer comes to: its lines, and behind them the sheet as it was.
+#[allow(dead_code, reason = "for the random days alone")]
+pub(crate) fn as_given(call: Call, answer: &Answer) -> Given {
+    let mut sheet = sheet(call);
+    for (place, line) in sheet.chunks_exact_mut(12).zip(&answer.lines) {
+        place.copy_from_slice(&line.to_bytes());
+    }
+    Given { code: answer.code.number(), value: answer.value, sheet }
+}
+
+/// What is other than expected, in words.
+pub(crate) fn difference(given: &Given, expected: &Given) -> Option<String> {
+    let pair = |given: &Given| (given.code, given.value);
+    if pair(given) != pair(expected) {
+        return Some(format!("code and value {:?}, not {:?}", pair(given), pair(expected)));
+    }
+    let at = first_difference(&given.sheet, &expected.sheet)?;
+    Some(format!("byte {at} of the sheet is {}, not {}", given.sheet[at], expected.sheet[at]))
 }
 
 /// Where two buffers first differ.

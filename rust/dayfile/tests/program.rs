@@ -1,0 +1,197 @@
+//! The proved program `day` on random and malformed day files: every byte that it prints is the
+//! literal replay's.
+
+mod common;
+
+use std::io::Write;
+use std::path::Path;
+use std::process::{Command, Stdio};
+
+use calls::Call;
+use common::{file, printed_by_literal, random_record};
+use dayfile::{read_file, Record, LONGEST};
+use days::{chain_of_joins, random_day, seeds, Profile, Rng};
+
+/// What the program prints of a file on standard input.
+fn printed(bytes: &[u8]) -> String {
+    let program = Path::new(env!("CARGO_MANIFEST_DIR")).join("../../target/bin/day");
+    assert!(
+        program.is_file(),
+        "{} is missing: run `rt check day` in the repository's folder",
+        program.display()
+    );
+    let mut child = Command::new(program)
+        .stdin(Stdio::piped())
+        .stdout(Stdio::piped())
+        .stderr(Stdio::piped())
+        .spawn()
+        .unwrap();
+    // Of a file that is too long it may leave the rest unread.
+    let _ = child.stdin.take().unwrap().write_all(bytes);
+    let output = child.wait_with_output().unwrap();
+    assert!(output.status.success(), "{}", output.status);
+    assert_eq!(output.stderr, b"");
+    String::from_utf8(output.stdout).unwrap()
+}
+
+#[track_caller]
+fn must_print(bytes: &[u8], what: &str) {
+    let (printed, expected) = (printed(bytes), printed_by_literal(bytes));
+    if printed != expected {
+        let mut lines = printed.lines().zip(expected.lines());
+        let differ = lines.find(|(line, other)| line != other);
+        panic!("{what}: {} bytes of {}, {differ:?}", printed.len(), expected.len());
+    }
+}
+
+/// A record of a step, with any bytes in the fields that the step doesn't use.
+fn record(call: Call, rng: &mut Rng) -> Option<Record> {
+    let any = Record::from_bytes(std::array::from_fn(|_| rng.bits() as u8));
+    Some(match call {
+        Call::Update { client, revision, kind, bib, v } => {
+            Record { step: 1, client, revision, kind, bib, v, ..any }
+        }
+        Call::Query { client, revision, bib } => Record { step: 2, client, revision, bib, ..any },
+        Call::Yield { client } => Record { step: 3, client, ..any },
+        Call::Fork { revision } => Record { step: 4, revision, ..any },
+        Call::Join { joiner, joinee } => {
+            Record { step: 5, revision: joiner, second: joinee, ..any }
+        }
+        Call::List { .. } => return None,
+    })
+}
+
+/// The file of some records, with any bytes between header and records.
+fn with_gap(records: &[Record], gap: usize, rng: &mut Rng) -> Vec<u8> {
+    let mut bytes = file(records.len() as u32, 8 + gap as u32, 8);
+    bytes.extend((0..gap).map(|_| rng.bits() as u8));
+    bytes.extend(records.iter().flat_map(|record| record.to_bytes()));
+    bytes
+}
+
+/// A day, as far as it fits a file, with strange steps in it.
+fn day_file(calls: &[Call], rng: &mut Rng) -> Vec<u8> {
+    let mut records = Vec::new();
+    for &call in calls {
+        if rng.percent(3) {
+            let any = 6 + rng.below(250) as u8;
+            records.push(Record { step: rng.pick(&[0, 6, 255, any]), ..random_record(rng) });
+        }
+        records.extend(record(call, rng));
+    }
+    records.truncate(LONGEST / Record::SIZE - 20);
+    let gap = rng.pick(&[0, 0, 1, 11, 12, 200]);
+    with_gap(&records, gap, rng)
+}
+
+#[test]
+fn random_days() {
+    let kinds = [
+        (Profile::SMALL, 60),
+        (Profile::MIXED, 60),
+        (Profile::NESTED, 60),
+        (Profile::STALE, 40),
+        (Profile::QUERIES, 40),
+        (Profile::FORKS, 30),
+        (Profile::STRANGE, 60),
+        (Profile::FULL, 4),
+    ];
+    for (profile, count) in kinds {
+        for seed in seeds(count) {
+            let bytes = day_file(&random_day(&profile, seed), &mut Rng::new(seed));
+            must_print(&bytes, &format!("day `{}`, seed {seed}", profile.name));
+        }
+    }
+    for seed in seeds(20) {
+        let bytes = day_file(&chain_of_joins(seed), &mut Rng::new(seed));
+        must_print(&bytes, &format!("chain of joins, seed {seed}"));
+    }
+}
+
+#[test]
+fn random_records() {
+    for seed in seeds(200) {
+        let mut rng = Rng::new(seed);
+        let records: Vec<Record> = (0..rng.below(200)).map(|_| random_record(&mut rng)).collect();
+        let gap = rng.below(40);
+        must_print(&with_gap(&records, gap, &mut rng), &format!("random records, seed {seed}"));
+    }
+}
+
+/// Good files with a wrong header or length, and some that are good again.
+#[test]
+fn malformed_files() {
+    let mut bad = 0;
+    for seed in seeds(300) {
+        let mut rng = Rng::new(seed);
+        let records: Vec<Record> = (0..rng.below(20)).map(|_| random_record(&mut rng)).collect();
+        let (n, gap) = (records.len() as u32, rng.below(30));
+        let mut bytes = with_gap(&records, gap, &mut rng);
+        let any = rng.bits() as u32;
+        // 12 times 2^30 is 0 modulo 2^32.
+        let count = rng.pick(&[n, n, n + 1, n.wrapping_sub(1), n + (1 << 30), any]);
+        let count = rng.pick(&[count, count, count | 3 << 30, (1 << 30) - 1, 0x1555_5556]);
+        let offset = 8 + gap as u32;
+        let fit = (bytes.len() as u32).wrapping_sub(count.wrapping_mul(12));
+        let offset = rng.pick(&[offset, offset, fit, fit, offset - 8, offset + 12, 7, 8, any]);
+        bytes[..4].copy_from_slice(&count.to_le_bytes());
+        bytes[4..8].copy_from_slice(&offset.to_le_bytes());
+        match rng.below(6) {
+            0 => bytes.truncate(rng.below(bytes.len() + 1)),
+            1 => bytes.extend((0..1 + rng.below(24)).map(|_| 3)),
+            _ => {}
+        }
+        must_print(&bytes, &format!("malformed file, seed {seed}"));
+        bad += u64::from(read_file(&bytes).is_err());
+    }
+    assert!((150..280).contains(&(bad * 300 / seeds(300).end)), "{bad} bad files");
+}
+
+/// 01's limits, and each length that is too short for a header.
+#[test]
+fn edges_of_a_file() {
+    for length in 0..8 {
+        must_print(&file(0, 8, length), &format!("length {length}"));
+    }
+    for offset in 0..10 {
+        must_print(&file(0, offset, 8), &format!("no step, offset {offset}"));
+        must_print(&file(1, offset, offset as usize + 12), &format!("a step, offset {offset}"));
+    }
+    let cases = [
+        (5_460, 16, 65_536),
+        (5_460, 17, 65_537),
+        (5_461, 8, 65_536),
+        (5_461, 8, 65_540),
+        (0, 65_536, 65_536),
+        (0, 65_537, 65_537),
+        (0, 8, 65_536),
+        (5_460, 16, 65_537),
+        (0, 200_000, 200_000),
+        ((1 << 30) + 1, 8, 20),
+        (1 << 30, 8, 8),
+        (1 << 31, 8, 8),
+        (3 << 30, 8, 8),
+        ((1 << 30) - 1, 20, 8),
+        (0x1555_5555, 12, 8),
+        (u32::MAX, 20, 8),
+        (0, u32::MAX, 8),
+        (1, u32::MAX - 3, 8),
+    ];
+    for (count, offset, length) in cases {
+        must_print(&file(count, offset, length), &format!("{count} {offset} {length}"));
+    }
+}
+
+/// The longest file in which every line is as long as it gets: penalties up to 2^32 - 1 and
+/// queries of them.
+#[test]
+fn the_longest_printed_day() {
+    let mut rng = Rng::new(0);
+    let penalty = Call::Update { client: 0, revision: 0, kind: 3, bib: 7, v: u32::MAX };
+    let query = Call::Query { client: 0, revision: 0, bib: 7 };
+    let calls = std::iter::once(penalty).chain(std::iter::repeat_n(query, 5_459));
+    let records: Vec<Record> = calls.filter_map(|call| record(call, &mut rng)).collect();
+    let bytes = with_gap(&records, 8, &mut rng);
+    assert_eq!(bytes.len(), LONGEST);
+    must_print(&bytes, "the longest printed day");
+}
