@@ -13,7 +13,7 @@ use std::time::Instant;
 
 use calls::Call;
 use days::{chain, update, whole};
-use sides::{made, Side, Work};
+use sides::{first_difference, made, Side, Work};
 
 /// Each case is timed in so many rounds, between which the others have their turn.
 const ROUNDS: usize = 20;
@@ -42,11 +42,18 @@ impl Case {
         Case { name: name.into(), table, work, times }
     }
 
+    /// Some calls after a day. Both sides must answer them alike.
     fn of_calls(name: impl Into<String>, day: &[Call], calls: &[Call]) -> Self {
-        Case::new(name, made(day), Work::Calls(calls.to_vec()))
+        let table = made(day);
+        let (mut a, mut b) = (table.clone(), table.clone());
+        for &call in calls {
+            let answers = (Side::Plain.call(&mut a, call), Side::Library.call(&mut b, call));
+            assert_eq!(answers.0, answers.1, "`{call}`");
+        }
+        Case::new(name, table, Work::Calls(calls.to_vec()))
     }
 
-    /// Both sides in turn, each sample on a copy of the table; they must leave the same bytes.
+    /// Both sides in turn, each sample on a copy of the table. They must leave the same bytes.
     fn round(&mut self) {
         let (mut a, mut b) = (self.table.clone(), self.table.clone());
         let mut spent = 0;
@@ -54,7 +61,7 @@ impl Case {
         while spent < 2 * ROUND || samples < 2 {
             let plain = sample(&self.table, &mut a, Side::Plain, &self.work);
             let library = sample(&self.table, &mut b, Side::Library, &self.work);
-            assert!(a == b, "{}: the bytes differ", self.name);
+            assert_eq!(first_difference(&a, &b), None, "{}: a byte that differs", self.name);
             self.times.plain = self.times.plain.min(plain);
             self.times.library = self.times.library.min(library);
             spent += plain + library;

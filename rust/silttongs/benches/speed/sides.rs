@@ -1,12 +1,19 @@
 //! The two sides that are compared, and what is run on both.
 
+#[path = "../../tests/common/mod.rs"]
+mod common;
+
 use std::hint::black_box;
 
 use calls::Call;
 use silttongs::{Table, BYTES};
 
+pub(crate) use common::first_difference;
+
 /// Code and value.
 type Given = (u8, u32);
+
+const NO_LIST: &str = "the library has no list yet";
 
 /// What is timed.
 #[derive(Clone, Debug)]
@@ -42,7 +49,7 @@ impl Side {
     fn fresh(self, t: &mut [u8]) -> Given {
         match self {
             Side::Plain => by_plain(plain::fresh(t)),
-            Side::Library => by_library(Table::fresh(t).map(|_| 0)),
+            Side::Library => Table::fresh(t).map_or_else(|refusal| (refusal.code(), 0), |_| (0, 0)),
         }
     }
 
@@ -57,31 +64,15 @@ impl Side {
                 Call::Yield { client } => plain::yield_(t, client),
                 Call::Fork { revision } => plain::fork(t, revision),
                 Call::Join { joiner, joinee } => plain::join(t, joiner, joinee),
-                Call::List { .. } => panic!("the library has no list yet"),
+                Call::List { .. } => panic!("{NO_LIST}"),
             }),
-            Side::Library => {
-                let mut t = Table::from_bytes(t);
-                by_library(match call {
-                    Call::Update { client, revision, kind, bib, v } => {
-                        t.update(client, revision, kind, bib, v)
-                    }
-                    Call::Query { client, revision, bib } => t.query(client, revision, bib),
-                    Call::Yield { client } => t.yield_(client).map(|()| 0),
-                    Call::Fork { revision } => t.fork(revision).map(u32::from),
-                    Call::Join { joiner, joinee } => t.join(joiner, joinee),
-                    Call::List { .. } => panic!("the library has no list yet"),
-                })
-            }
+            Side::Library => common::library(t, call).expect(NO_LIST),
         }
     }
 }
 
 fn by_plain(answer: Result<u32, calls::Code>) -> Given {
     answer.map_or_else(|code| (code.number(), 0), |value| (0, value))
-}
-
-fn by_library(answer: Result<u32, silttongs::Refusal>) -> Given {
-    answer.map_or_else(|refusal| (refusal.code(), 0), |value| (0, value))
 }
 
 /// The table after these calls, all accepted.
