@@ -1,6 +1,6 @@
 -- What a good file is: its header and its length fit, and each of its records is whole.
 use Prim.Native.Nat.{ℕ, _+_, _*_, _≤_, _<_}
-use mathlib.Core.Bool.{Bool, true, false, cond, not}
+use mathlib.Core.Bool.{Bool, false, cond}
 use mathlib.Core.Path.{_≡_, sym, _∙_, ap}
 use mathlib.Core.List.{List}
 use native.Mathlib.Omega.{arith}
@@ -10,7 +10,6 @@ use borrow.Author.Tests.{ltb-false, eqb-true, not-false, le-leb}
 use Rattle.lists.proofs.Cases.{cases, or-false}
 use Rattle.records.specs.File.{count, offset, isBad, fileCheck}
 use Rattle.records.specs.Record.{stepAt, stepOf}
-use Rattle.records.specs.declared.file.FileCheck.{FileCheck}
 use Rattle.records.specs.declared.file.FileCheck.the-variants.{Good, Bad}
 
 bad-not-good : (n : ℕ) → Bad ≡ Good n → ⊥

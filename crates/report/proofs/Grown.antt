@@ -1,6 +1,6 @@
 -- The lines and the table, one record further.
 use Prim.Native.Nat.{ℕ, _+_}
-use mathlib.Core.Path.{_≡_, refl, sym, _∙_, ap}
+use mathlib.Core.Path.{_≡_, refl, ap}
 use mathlib.Core.List.{List, [], _++_}
 use native.Mathlib.Numerals.{add-one}
 use Rattle.table.specs.declared.answer.Answer.{Answer}

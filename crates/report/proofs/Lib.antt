@@ -3,3 +3,4 @@ pub mod Bounds
 pub mod Grown
 pub mod Fresh
 pub mod Shown
+pub mod Examples

@@ -32,7 +32,11 @@ loop-holds c =
     (omega arith, omega arith, refl, refl, sym (table-none t f), rw none (omega arith), rw none (sym (placed-none (s .out .now) (s .at))))
 
 line-requires : tie.Need-line-requires Inv-loop μ-loop
-line-requires c κs = let l = c .before .before .before .before .before .before .before .loop in let s = c .before .before .before .before .before .before .before .before .before .before .before in (omega (arith, s .pre .0, l .inv .0, c .before .before .before .before .before .before .loop-test .taken), omega (arith, s .pre .1, l .inv .1, l .inv .3, c .before .before .before .before .before .before .loop-test .taken))
+line-requires c κs =
+    let turn = c .before .before .before .before .before .before .loop-test .taken in
+    let l = c .before .before .before .before .before .before .before .loop in
+    let s = c .before .before .before .before .before .before .before .before .before .before .before in
+    (omega (arith, s .pre .0, turn), omega (arith, s .pre .1, l .inv .1, l .inv .3, turn))
 
 loop-again : tie.Need-loop-again Inv-loop μ-loop
 loop-again c =

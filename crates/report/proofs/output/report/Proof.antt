@@ -1,7 +1,6 @@
 -- `report::output::report` meets its contract: nothing, `bad file` or the day. Assumes nothing.
 use Prim.Native.Nat.{ℕ}
-use mathlib.Core.Path.{_≡_, sym, _∙_, ap, subst}
-use mathlib.Core.List.{List, []}
+use mathlib.Core.Path.{sym, _∙_, ap}
 use native.Mathlib.Omega.{arith}
 use lib.ListN.{length}
 use borrow.Author.Needs.{needs}
@@ -15,7 +14,7 @@ use Rattle.report.proofs.output.report.Tie as tie
 returns : tie.Need-returns
 returns c =
     let s = c .before .before .before .args in
-    let e = sym (shown-none (s .f .now) (s .out .now) (c .if1 .taken)) in
+    let e = sym (shown-none (s .f .now) (s .out .now) (omega (arith, c .if1 .taken))) in
     (ap (length {A = ℕ}) e, sym (placed-none (s .out .now) 0) ∙ ap (placed (s .out .now) 0) e)
 
 returns-2 : tie.Need-returns-2

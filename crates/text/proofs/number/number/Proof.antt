@@ -1,11 +1,11 @@
 -- `text::number::number` meets its contract: the fewest digits, and then the mark. Assumes nothing.
-use Prim.Native.Nat.{_+_, _≤_}
+use Prim.Native.Nat.{_+_}
 use mathlib.Core.Path.{_≡_, _∙_, subst}
 use mathlib.Core.List.{[], _∷_}
 use native.Mathlib.Omega.{arith}
 use lib.ListN.{length, take}
 use borrow.Author.Needs.{needs}
-use Rattle.text.specs.Decimal.{decimal, ended}
+use Rattle.text.specs.Decimal.{decimal}
 use Rattle.text.specs.Placed.{placed}
 use Rattle.text.proofs.Places.{first-fits, next-fits, both-put}
 use Rattle.text.proofs.Digits.{fewest-decimal}
