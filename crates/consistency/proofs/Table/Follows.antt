@@ -46,7 +46,7 @@ filled : (a : List ℕ) (n m k : ℕ) → length a ≡ n → n + m ≡ k → len
 filled a n m k e f = length-append a (replicate m 0) ∙ rw (e, length-replicate {A = ℕ} m 0) f
 
 -- a fresh table stands for the fresh day
-fresh-stands : (t : List ℕ) → length t ≡ bytes → Stands freshDay (freshOut t .lent)
+pub fresh-stands : (t : List ℕ) → length t ≡ bytes → Stands freshDay (freshOut t .lent)
 unfolding freshOut bytesAfter bytesFrom run runFrom
 fresh-stands t h =
     rw (eq-eqb (length t) bytes h)

@@ -1,0 +1,53 @@
+-- Record by record, the table stands for the day on paper, and each line is the same.
+use Prim.Native.Nat.{ℕ, zero, suc}
+use mathlib.Core.Path.{_≡_, refl, sym, _∙_, ap}
+use mathlib.Core.List.{List, _++_}
+use lib.ListN.{replicate, length-replicate}
+use Rattle.text.specs.Placed.{ascii}
+use Rattle.text.specs.Decimal.{ended}
+use Rattle.records.specs.File.{fileCheck}
+use Rattle.records.specs.Record.{stepAt}
+use Rattle.records.specs.declared.file.FileCheck.{FileCheck}
+use Rattle.records.specs.declared.file.FileCheck.the-variants.{Good, Bad}
+use Rattle.records.specs.declared.step.Step.{Step}
+use Rattle.records.specs.declared.step.Step.the-variants.{Update, Query, Yield, Fork, Join, Strange}
+use Rattle.plain.specs.Calls as Call
+use Rattle.plain.specs.Calls.{Answer}
+use Rattle.plain.specs.Record.{PlainDay}
+use Rattle.table.specs.Halves.{bytes}
+use Rattle.consistency.proofs.Table.Stands.{Stands}
+use Rattle.consistency.proofs.Table.Same.{Same}
+use Rattle.consistency.proofs.Table.Calls.{OnTable, update-same, query-same, yield-same, fork-same, join-same}
+use Rattle.consistency.proofs.Table.Follows.{fresh-stands}
+use Rattle.report.specs.Run.{stepOut, tableAfter}
+use Rattle.report.specs.Printed.{line, lines, lineFeed, freshTable, day, printed, printedAs}
+use Rattle.printed.specs.Paper.{outcome, paperAfter, answerAt, paperLines, paperAs, paper, PrintedIsPaper}
+
+step-same : (p : PlainDay) (t : List ℕ) (S : Stands p t) (s : Step) → Same (OnTable p t S) (outcome p s) (stepOut t s)
+step-same p t S (Update c n k bib v) = update-same p t S c n k bib v
+step-same p t S (Query c n bib) = query-same p t S c n bib
+step-same p t S (Yield c) = yield-same p t S c
+step-same p t S (Fork n) = fork-same p t S n
+step-same p t S (Join n m) = join-same p t S n m
+step-same p t S Strange = record { code = refl; value = refl; lent = S }
+
+stands : (f : List ℕ) (i : ℕ) → Stands (paperAfter f i) (tableAfter freshTable f i)
+unfolding paperAfter tableAfter freshTable
+stands f zero = fresh-stands (replicate bytes 0) (length-replicate {A = ℕ} bytes 0)
+stands f (suc i) = step-same (paperAfter f i) (tableAfter freshTable f i) (stands f i) (stepAt f i) .lent
+
+lines-same : (f : List ℕ) (n : ℕ) → lines freshTable f n ≡ paperLines f n
+unfolding lines paperLines
+lines-same f zero = refl
+lines-same f (suc i) =
+    let h = step-same (paperAfter f i) (tableAfter freshTable f i) (stands f i) (stepAt f i) in
+    rw (h .code, h .value, lines-same f i)
+
+same-text : (c : FileCheck) (f : List ℕ) → printedAs c f ≡ paperAs c f
+unfolding day
+same-text Bad f = refl
+same-text (Good n) f = ap (λ l. ascii "steps " ++ ended n lineFeed ++ l) (lines-same f n)
+
+pub printed-is-paper : PrintedIsPaper
+unfolding printed paper
+printed-is-paper f = same-text (fileCheck f) f

@@ -1,0 +1,3 @@
+-- The theorem, and 01's example.
+pub mod Agree
+pub mod Example

@@ -1,0 +1,3 @@
+-- The printed day on paper, and the claim that the report prints it.
+pub mod Paper
+pub mod Example

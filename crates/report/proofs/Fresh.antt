@@ -1,0 +1,24 @@
+-- A table made fresh is the same whatever the bytes were.
+use Prim.Native.Nat.{ℕ}
+use mathlib.Core.Bool.{Bool, not}
+use mathlib.Core.Path.{_≡_, sym, _∙_, ap}
+use mathlib.Core.List.{List, _++_}
+use lib.ListN.{length, replicate, length-replicate}
+use borrow.Author.Tests.{eq-eqb}
+use Rattle.cells.specs.Steps.{freshBytes}
+use Rattle.entries.specs.Sizes as Upper
+use Rattle.table.specs.Halves.{bytes}
+use Rattle.table.specs.Answers.{Out, check, taken}
+use Rattle.table.specs.Calls.{freshOut}
+use Rattle.report.specs.Printed.{freshTable}
+
+abbrev made : Out
+made = taken (freshBytes ++ replicate Upper.bytes 0) 0
+
+fresh-made : (t : List ℕ) → length t ≡ bytes → freshOut t ≡ made
+unfolding freshOut
+fresh-made t h = ap (λ (b : Bool). check (not b) 1 t made) (eq-eqb (length t) bytes h)
+
+pub fresh-table : (t : List ℕ) → length t ≡ bytes → freshOut t .lent ≡ freshTable
+unfolding freshTable
+fresh-table t h = ap (λ (o : Out). o .lent) (fresh-made t h ∙ sym (fresh-made (replicate bytes 0) (length-replicate {A = ℕ} bytes 0)))

@@ -1,0 +1,80 @@
+-- `report::lines::lines` meets its contract: the lines of the first i records are in place, and the table is as they leave it. Assumes nothing.
+use Prim.Native.Nat.{_+_, _*_, _-_, _≤_}
+use mathlib.Core.Path.{_≡_, refl, sym, _∙_, ap, subst}
+use mathlib.Core.List.{_++_}
+use native.Mathlib.Omega.{arith}
+use lib.ListN.{length, length-append}
+use borrow.Author.Needs.{needs}
+use Rattle.text.specs.Placed.{placed}
+use Rattle.text.proofs.Places.{placed-none, both-put}
+use Rattle.report.proofs.Grown.{table-none, lines-none, table-more, lines-more}
+use Rattle.records.specs.Record.{stepAt}
+use Rattle.table.specs.Answers.{left}
+use Rattle.report.specs.Run.{outAt, stepOut, tableAfter}
+use Rattle.report.specs.Printed.{line as lineOf, lines as linesOf}
+use Rattle.report.proofs.lines.lines.Statement.{statement}
+use Rattle.report.proofs.lines.lines.Tie as tie
+
+abbrev Inv-loop : tie.InvT-loop
+Inv-loop f n t₀ out₀ at end₀ i₀ t out end i =
+    (i ≤ n) × (end ≤ at + 20 * i) × (length t ≡ length t₀) × (length out ≡ length out₀)
+    × (t ≡ tableAfter t₀ f i) × (end ≡ at + length (linesOf t₀ f i)) × (out ≡ placed out₀ at (linesOf t₀ f i))
+
+abbrev μ-loop : tie.MeasureT-loop
+μ-loop f n t₀ out₀ at end₀ i₀ t out end i = n - i
+
+loop-holds : tie.Need-loop-holds Inv-loop μ-loop
+loop-holds c =
+    let s = c .before .before .before .args in
+    let t = s .t .now in
+    let f = s .f .now in
+    let none = lines-none t f in
+    (omega arith, omega arith, refl, refl, sym (table-none t f), rw none (omega arith), rw none (sym (placed-none (s .out .now) (s .at))))
+
+line-requires : tie.Need-line-requires Inv-loop μ-loop
+line-requires c κs =
+    let turn = c .before .before .before .before .before .before .loop-test .taken in
+    let l = c .before .before .before .before .before .before .before .loop in
+    let s = c .before .before .before .before .before .before .before .before .before .before .before in
+    (omega (arith, s .pre .0, turn), omega (arith, s .pre .1, l .inv .1, l .inv .3, turn))
+
+loop-again : tie.Need-loop-again Inv-loop μ-loop
+loop-again c =
+    let q = c .before .before in
+    let l = c .before .before .before .before .before .before .before .before .before .before .loop in
+    let s = c .before .before .before .before .before .before .before .before .before .before .before .before .before .before in
+    let t = s .args .t .now in
+    let f = s .args .f .now in
+    let p = c .before .before .before .before .before .before in
+    let turn = c .before .before .before .before .before .before .before .before .before .loop-test .taken in
+    let made : left (p .run .result) (p .run .last .0) ≡ outAt t f (l .i) = p .run .ensures ∙ ap (stepOut (l .t)) (p .before .step-at .ensures) ∙ ap (λ b. stepOut b (stepAt f (l .i))) (l .inv .4) in
+    let line = lineOf (l .i) (p .run .result .code) (p .run .result .value) in
+    let grown = lines-more t f (l .i) (p .run .result) (p .run .last .0) made in
+    let fits : s .args .at + length (linesOf t f (l .i) ++ line) ≤ length (s .args .out .now) = omega (arith, length-append (linesOf t f (l .i)) line, q .line .ensures .0, q .line .ensures .1, l .inv .1, l .inv .5, s .pre .1, turn) in
+    let both = both-put (s .args .out .now) (linesOf t f (l .i)) line (s .args .at) fits (l .out) (l .end) (l .inv .5, l .inv .6) (q .line .result) (q .line .last .0) (q .line .ensures .1, q .line .ensures .2) in
+    let both′ = subst (λ x. (q .line .result ≡ s .args .at + length x) × (q .line .last .0 ≡ placed (s .args .out .now) (s .args .at) x)) grown both in
+    (omega (arith, turn), omega (arith, q .line .ensures .0, l .inv .1), omega (arith, p .run .kept .0, l .inv .2), omega (arith, q .line .kept .0, l .inv .3), table-more t f (l .i) (p .run .result) (p .run .last .0) made, both′ .0, both′ .1)
+
+returns : tie.Need-returns Inv-loop μ-loop
+returns c =
+    let s = c .before .before .before .before .before .args in
+    let l = c .before .loop in
+    let e : l .i ≡ s .n = omega arith in
+    subst (λ n. (l .end ≤ s .at + 20 * n) × (l .end ≡ s .at + length (linesOf (s .t .now) (s .f .now) n)) × (l .out ≡ placed (s .out .now) (s .at) (linesOf (s .t .now) (s .f .now) n))) e (l .inv .1, l .inv .5, l .inv .6)
+
+pub lines-spec : {M : Type 1} → statement M
+lines-spec =
+    tie.close
+    (tie.spec
+    Inv-loop
+    μ-loop
+    loop-holds
+    (λ c κs. search needs)
+    (λ c κs. search needs)
+    line-requires
+    (λ c. search needs)
+    (λ c. search needs)
+    loop-again
+    (λ c. search needs)
+    (λ c. search needs)
+    returns)

@@ -1,0 +1,49 @@
+-- `report::step::run` meets its contract: each step is its call. Assumes nothing.
+use borrow.Author.Needs.{needs}
+use Rattle.report.proofs.step.run.Statement.{statement}
+use Rattle.report.proofs.step.run.Tie as tie
+
+returns : tie.Need-returns
+returns c = let q = c .before .before in rw (q .before .before .before .step .given .1) (q .update .ensures)
+
+returns-2 : tie.Need-returns-2
+returns-2 c = let q = c .before .before in rw (q .before .before .before .step2 .given .1) (q .query .ensures)
+
+returns-3 : tie.Need-returns-3
+returns-3 c = let q = c .before .before in rw (q .before .before .before .step3 .given .1) (q .yields .ensures)
+
+returns-4 : tie.Need-returns-4
+returns-4 c = let q = c .before .before in rw (q .before .before .before .step4 .given .1) (q .fork .ensures)
+
+returns-5 : tie.Need-returns-5
+returns-5 c = let q = c .before .before in rw (q .before .before .before .step5 .given .1) (q .join .ensures)
+
+returns-6 : tie.Need-returns-6
+returns-6 c = rw (c .enum-told .given .1)
+
+pub run-spec : {M : Type 1} → statement M
+run-spec =
+    tie.close
+    (tie.spec
+    (λ c. search needs)
+    (λ c κs. search needs)
+    (λ c. search needs)
+    (λ c κs. search needs)
+    (λ c. search needs)
+    (λ c κs. search needs)
+    (λ c. search needs)
+    (λ c κs. search needs)
+    (λ c. search needs)
+    (λ c κs. search needs)
+    (λ c. search needs)
+    (λ c. search needs)
+    returns
+    (λ c. search needs)
+    returns-2
+    (λ c. search needs)
+    returns-3
+    (λ c. search needs)
+    returns-4
+    (λ c. search needs)
+    returns-5
+    returns-6)

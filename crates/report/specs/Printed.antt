@@ -1,0 +1,52 @@
+-- The printed day: 01, "Day file and printed day". Every line ends in a line feed.
+use Prim.Native.Nat.{ℕ, zero, suc}
+use mathlib.Core.Bool.{cond}
+use mathlib.Core.List.{List, [], _++_}
+use lib.Dec.{ltb}
+use lib.ListN.{length, replicate}
+use Rattle.text.specs.Placed.{ascii}
+use Rattle.text.specs.Decimal.{ended}
+use Rattle.records.specs.File.{fileCheck}
+use Rattle.records.specs.declared.file.FileCheck.{FileCheck}
+use Rattle.records.specs.declared.file.FileCheck.the-variants.{Good, Bad}
+use Rattle.table.specs.Halves.{bytes}
+use Rattle.table.specs.Calls.{freshOut}
+use Rattle.report.specs.Run.{outAt}
+
+abbrev pub blank : ℕ
+blank = 32
+
+abbrev pub lineFeed : ℕ
+lineFeed = 10
+
+-- "one line a record: index from 0, code, value"
+unfoldable pub line : ℕ → ℕ → ℕ → List ℕ
+line index code value = ended index blank ++ ended code blank ++ ended value lineFeed
+
+-- the lines of the first n records
+unfoldable pub lines : List ℕ → List ℕ → ℕ → List ℕ
+lines t f zero = []
+lines t f (suc i) = lines t f i ++ line i (outAt t f i .code) (outAt t f i .value)
+
+unfoldable pub freshTable : List ℕ
+freshTable = freshOut (replicate bytes 0) .lent
+
+-- "Otherwise it makes a table fresh and prints `steps n`, then one line a record"
+unfoldable pub day : List ℕ → ℕ → List ℕ
+day f n = ascii "steps " ++ ended n lineFeed ++ lines freshTable f n
+
+-- "the program prints `bad file` alone"
+abbrev pub printedAs : FileCheck → List ℕ → List ℕ
+printedAs Bad f = ascii "bad file\n"
+printedAs (Good n) f = day f n
+
+unfoldable pub printed : List ℕ → List ℕ
+printed f = printedAs (fileCheck f) f
+
+-- as long as the longest day: 11 bytes for `steps 5460` and 20 for each of 5,460 lines
+abbrev pub room : ℕ
+room = 109211
+
+-- what is put into a buffer: nothing, where it is shorter
+unfoldable pub shown : List ℕ → List ℕ → List ℕ
+shown f out = cond (ltb (length out) room) [] (printed f)

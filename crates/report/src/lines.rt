@@ -1,0 +1,35 @@
+// One line a record, put into a buffer from a place on.
+ghost use mathlib.Core.Path.{_≡_};
+ghost use Prim.Native.Nat.{_+_, _*_, _≤_, _<_};
+ghost use lib.ListN.{length};
+ghost use Rattle.text.specs.Placed.{placed};
+ghost use Rattle.report.specs.Printed.{line as lineOf};
+ghost use Rattle.report.specs.Printed.{lines as linesOf};
+use crate::step::run;
+use records::step::step_at;
+use text::number::number;
+
+// At most 20 bytes: 4 digits, 3 and 10, each with a mark behind.
+fn line(out: &mut [u8], at: usize, index: u32, code: u8, value: u32) -> usize
+    requires { ⌜ (index < 10000) × (at + 20 ≤ length (now out)) ⌝ }
+    ensures { λ r. ⌜ (r ≤ at + 20) × (r ≡ at + length (lineOf index code value)) × (now (out .exit) ≡ placed (now (out .entry)) at (lineOf index code value)) ⌝ }
+{
+    let a = number(out, at, index as u64, b' ');
+    let b = number(out, a, code as u64, b' ');
+    number(out, b, value as u64, b'\n')
+}
+
+// The first n records of f, run on the table t.
+pub fn lines(f: &[u8], n: u32, t: &mut [u8], out: &mut [u8], at: usize) -> usize
+    requires { ⌜ (n ≤ 5460) × (at + 20 * n ≤ length (now out)) ⌝ }
+    ensures { λ r. ⌜ (r ≤ at + 20 * n) × (r ≡ at + length (linesOf (now (t .entry)) (now (f .entry)) n)) × (now (out .exit) ≡ placed (now (out .entry)) at (linesOf (now (t .entry)) (now (f .entry)) n)) ⌝ }
+{
+    let mut end = at;
+    let mut i: u32 = 0;
+    while i < n {
+        let a = run(t, step_at(f, i));
+        end = line(out, end, i, a.code, a.value);
+        i += 1;
+    }
+    end
+}
