@@ -12,6 +12,32 @@ ghost use Rattle.cells.specs.Range.{inRange};
 use fields::read;
 use fields::table::Revision;
 
+// How many of n entries are left to the next call: all but 64, or none.
+fn rest(n: usize) -> usize
+    requires { ⌜ 0 < n ⌝ }
+    ensures { λ m. ⌜ m < n ⌝ }
+{
+    if n < 64 {
+        return 0;
+    }
+    n - 64
+}
+
+// Of the n updates that end at `at` all but the first m, in their places; the last of those m.
+fn gather_some(d: &[u8], at: usize, n: usize, m: usize, out: &mut [u16]) -> usize
+    requires { ⌜ (length (now d) ≡ bytes) × (at < updates) × (m ≤ n) × (n ≤ length (now out)) ⌝ }
+    ensures { λ u. ⌜ (u < updates) × (chain (cells (now (d .entry)) .link) u m ++ drop m (now (out .exit)) ≡ chain (cells (now (d .entry)) .link) at n ++ drop n (now (out .entry))) ⌝ }
+{
+    let mut u = at;
+    let mut i = n;
+    while m < i {
+        i -= 1;
+        out[i] = u as u16;
+        u = read::link(d, u);
+    }
+    u
+}
+
 // The n updates that end at `at`, in the first n places.
 pub fn gather(d: &[u8], at: usize, n: usize, out: &mut [u16])
     requires { ⌜ (length (now d) ≡ bytes) × (at < updates) × (n ≤ length (now out)) ⌝ }
@@ -20,10 +46,9 @@ pub fn gather(d: &[u8], at: usize, n: usize, out: &mut [u16])
     if n == 0 {
         return;
     }
-    let m = n - 1;
-    out[m] = at as u16;
-    let next = read::link(d, at);
-    gather(d, next, m, out);
+    let m = rest(n);
+    let u = gather_some(d, at, n, m, out);
+    gather(d, u, m, out);
 }
 
 // The own list of r; how many it has.

@@ -1,5 +1,6 @@
 // Every cell in its range: fixed numbers, and no scan of rows, links or marks.
 ghost use mathlib.Core.Path.{_≡_};
+ghost use mathlib.Core.Bool.{_&&_};
 ghost use Prim.Native.Nat.{_+_, _*_, _≤_};
 ghost use lib.Dec.{ltb};
 ghost use lib.ListN.{length};
@@ -23,19 +24,28 @@ use fields::table::STATE;
 use fields::table::Table;
 use fields::table::USED;
 
+// ok, and v is below a limit. The loops below go on to their ends, which lets the compiler take many cells at a time.
+fn also(ok: bool, v: usize, limit: usize) -> bool
+    ensures { λ r. ⌜ r ≡ (ok && ltb v limit) ⌝ }
+{
+    if v < limit {
+        return ok;
+    }
+    false
+}
+
 // n bytes from `at` on, each below a limit.
 fn bytes_below(d: &[u8], at: usize, n: usize, limit: usize) -> bool
     requires { ⌜ at + n ≤ length (now d) ⌝ }
     ensures { λ r. ⌜ r ≡ every (λ j. ltb (byte (now (d .entry)) (at + j)) limit) n ⌝ }
 {
+    let mut ok = true;
     let mut i: usize = 0;
     while i < n {
-        if byte_at(d, at + i) >= limit {
-            return false;
-        }
+        ok = also(ok, byte_at(d, at + i), limit);
         i += 1;
     }
-    true
+    ok
 }
 
 // n words from `at` on, each below a limit.
@@ -43,16 +53,15 @@ fn words_below(d: &[u8], at: usize, n: usize, limit: usize) -> bool
     requires { ⌜ at + 2 * n ≤ length (now d) ⌝ }
     ensures { λ r. ⌜ r ≡ every (λ j. ltb (byte (now (d .entry)) (at + 2 * j) + 256 * byte (now (d .entry)) (at + (2 * j + 1))) limit) n ⌝ }
 {
+    let mut ok = true;
     let mut i: usize = 0;
     while i < n {
         let low = byte_at(d, at + 2 * i);
         let high = byte_at(d, at + (2 * i + 1));
-        if low + 256 * high >= limit {
-            return false;
-        }
+        ok = also(ok, low + 256 * high, limit);
         i += 1;
     }
-    true
+    ok
 }
 
 // The signature at the end of the bytes.
