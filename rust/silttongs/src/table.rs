@@ -176,9 +176,9 @@ impl<B: AsMut<[u8]>> Table<B> {
 }
 
 impl<B: AsRef<[u8]>> Table<B> {
-    /// Writes the updates visible on a box to the sheet, [`Entry::BYTES`] each, in the order in
-    /// which they apply, whatever their numbers. How many is the answer. Bytes of the sheet behind
-    /// them stay, and so does the table: a list is no event.
+    /// Writes the updates visible on a box to the sheet, an [`Entry`](crate::Entry) of 12 bytes
+    /// each, in the order in which they apply, whatever their numbers. How many is the answer. Bytes
+    /// of the sheet behind them stay, and so does the table: a list is no event.
     ///
     /// ```
     /// use silttongs::{entries, Entry, Kind, Refusal, Table, BYTES, SHEET};
@@ -198,6 +198,7 @@ impl<B: AsRef<[u8]>> Table<B> {
     /// assert!(entries(&sheet, count).eq([time, penalty]));
     ///
     /// assert_eq!(table.list(0, &mut sheet[..23]), Err(Refusal::SheetShort));
+    /// assert_eq!(Table::from_bytes(table.bytes()).list(0, &mut sheet), Ok(2));
     /// # Ok::<(), Refusal>(())
     /// ```
     ///
