@@ -39,7 +39,7 @@ fn query(p: &[u8]) -> Step
 }
 
 // Fields that a step does not use are not looked at.
-pub fn decode(p: &[u8]) -> Step
+pub(crate) fn decode(p: &[u8]) -> Step
     requires { ⌜ length (now p) ≡ 12 ⌝ }
     ensures { λ s. ⌜ s ≡ stepOf (now (p .entry)) ⌝ }
 {

@@ -20,7 +20,7 @@ fn line(out: &mut [u8], at: usize, index: u32, code: u8, value: u32) -> usize
 }
 
 // The first n records of f, run on the table t.
-pub fn lines(f: &[u8], n: u32, t: &mut [u8], out: &mut [u8], at: usize) -> usize
+pub(crate) fn lines(f: &[u8], n: u32, t: &mut [u8], out: &mut [u8], at: usize) -> usize
     requires { ⌜ (n ≤ 5460) × (at + 20 * n ≤ length (now out)) ⌝ }
     ensures { λ r. ⌜ (r ≤ at + 20 * n) × (r ≡ at + length (linesOf (now (t .entry)) (now (f .entry)) n)) × (now (out .exit) ≡ placed (now (out .entry)) at (linesOf (now (t .entry)) (now (f .entry)) n)) ⌝ }
 {

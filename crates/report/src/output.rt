@@ -1,6 +1,6 @@
 // The size of the output, and the whole text.
 ghost use mathlib.Core.Path.{_≡_};
-ghost use Prim.Native.Nat.{_+_, _≤_};
+ghost use Prim.Native.Nat.{_≤_};
 ghost use lib.ListN.{length};
 ghost use Rattle.text.specs.Placed.{placed};
 ghost use Rattle.report.specs.Printed.{day, room, shown};

@@ -6,7 +6,7 @@ use records::step::Step;
 use table::answer::Answer;
 
 // Code 13 is the program's own: a strange step changes nothing.
-pub fn run(t: &mut [u8], step: Step) -> Answer
+pub(crate) fn run(t: &mut [u8], step: Step) -> Answer
     ensures { λ a. ⌜ left a (now (t .exit)) ≡ stepOut (now (t .entry)) step ⌝ }
 {
     match step {
