@@ -11,6 +11,10 @@ none : decimal 0 ≡ ascii "0"
 unfolding decimal places
 none = refl
 
+nine : decimal 9 ≡ ascii "9"
+unfolding decimal places
+nine = refl
+
 ten : decimal 10 ≡ ascii "10"
 unfolding decimal places
 ten = refl
