@@ -11,7 +11,7 @@
  * says why it was refused; silttongs_value is the value named below, 0 in a refusal. A refusal
  * changes no byte. The checks run in ascending order of their codes.
  *
- * Nothing is allocated. A call needs up to 210 KiB of stack.
+ * Nothing is allocated. A call needs up to 48 KiB of stack.
  *
  * A box is a revision of the table, a tablet is a client. Boxes are 0 to 63, tablets 0 to 15,
  * bibs 0 to 999, and a day takes 4,096 updates.

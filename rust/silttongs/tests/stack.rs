@@ -1,4 +1,4 @@
-//! The calls run on a stack of 256 KiB, as docs/PERFORMANCE.md says.
+//! The calls run on a stack of 48 KiB, as docs/PERFORMANCE.md says.
 
 use std::thread;
 
@@ -6,7 +6,7 @@ use silttongs::{Kind, Refusal, Table, BYTES, SHEET};
 
 /// The longest own list, and so the deepest recursion, on box 1: a query walks it, and a fork and a list too.
 #[test]
-fn the_deepest_calls_fit_in_256_kib() {
+fn the_deepest_calls_fit_in_48_kib() {
     let run = || {
         let mut table = Table::fresh(vec![0; BYTES])?;
         table.fork(0)?;
@@ -20,6 +20,6 @@ fn the_deepest_calls_fit_in_256_kib() {
         table.join(0, 1)?;
         Ok::<u32, Refusal>(value)
     };
-    let thread = thread::Builder::new().stack_size(256 * 1024).spawn(run).unwrap();
+    let thread = thread::Builder::new().stack_size(48 * 1024).spawn(run).unwrap();
     assert_eq!(thread.join().unwrap(), Ok(4_095 * 4_096 / 2));
 }
