@@ -9,7 +9,7 @@ use crate::calls::yields;
 use crate::say;
 
 pub fn one(short: &mut [u8], t: &mut [u8]) {
-    say::title(b"1 no table: a byte short; cells out of range");
+    say::title(b"1 no table: 4,096 bytes; cells out of range");
     fresh(short);
     yields(short, 0);
     yields(t, 0);

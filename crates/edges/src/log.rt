@@ -45,11 +45,10 @@ pub fn beyond(t: &mut [u8]) {
     yields(t, 1);
 }
 
-pub fn joined(t: &mut [u8], sheet: &mut [u8], short: &mut [u8]) {
+pub fn joined(t: &mut [u8], sheet: &mut [u8]) {
     say::title(b"lists and a join with a full log");
     list(t, 1, sheet);
     join(t, 0, 1);
     list(t, 0, sheet);
-    list(t, 0, short);
     query(t, 2, 0, 999);
 }

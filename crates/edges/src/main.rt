@@ -7,21 +7,20 @@ mod log; // log.rt: 4,096 updates, and no more
 mod say; // say.rt: lines on standard output
 
 fn log_full() {
-    let mut t = [0u8; 65536];
-    let mut sheet = [0u8; 49152];
-    let mut short = [0u8; 49151];
+    let mut t = io::large_buffer();
+    let mut sheet = io::large_buffer();
     log::fill_up(&mut t);
     log::beyond(&mut t);
-    log::joined(&mut t, &mut sheet, &mut short);
+    log::joined(&mut t, &mut sheet);
 }
 
 fn all_forks() {
-    let mut t = [0u8; 65536];
+    let mut t = io::large_buffer();
     forks::all(&mut t);
 }
 
 fn around_a_join() {
-    let mut t = [0u8; 65536];
+    let mut t = io::large_buffer();
     let mut none = [0u8; 0];
     let mut sheet = [9u8; 26];
     let mut short = [9u8; 23];
@@ -32,8 +31,8 @@ fn around_a_join() {
 }
 
 fn each_code() {
-    let mut short = [0u8; 65535];
-    let mut t = [255u8; 65536];
+    let mut short = io::buffer();
+    let mut t = io::large_buffer();
     let mut sheet = [0u8; 11];
     codes::one(&mut short, &mut t);
     codes::two_to_four(&mut t);

@@ -1,7 +1,6 @@
 -- A line at the ends of its ranges, and a sheet of two lines with bytes left over, computed.
-use Prim.Native.Nat.{ℕ}
 use mathlib.Core.Path.{_≡_, refl}
-use mathlib.Core.List.{List, [], _∷_, _++_}
+use mathlib.Core.List.{[], _∷_, _++_}
 use lib.ListN.{replicate}
 use Rattle.updates.specs.Kinds.{kindNumber}
 use Rattle.updates.specs.declared.kind.Kind.the-variants.{Time, Strike}

@@ -1,10 +1,10 @@
 -- A sheet with one line more.
-use Prim.Native.Nat.{ℕ, _+_, _*_, _-_, _<_, _≤_}
+use Prim.Native.Nat.{ℕ, _+_, _*_, _-_, _<_}
 use mathlib.Core.Path.{_≡_, refl, sym, _∙_, ap}
 use mathlib.Core.List.{List, [], _∷_, _++_, append-assoc, append-nil}
 use native.Mathlib.Omega.{arith}
 use native.Mathlib.Numerals.{add-one}
-use lib.ListN.{length, set, take, drop, getD, length-append, length-take, drop-of-length-le}
+use lib.ListN.{length, set, take, drop, getD, length-append, drop-of-length-le}
 use lib.Seq.{sets-eq, take-at, drop-at, drop-drop, take-suc, length-take-le}
 use Rattle.entries.specs.declared.entry.Entry.{Entry}
 use Rattle.listing.specs.Lines.{line, lines, sheet}

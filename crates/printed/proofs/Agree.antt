@@ -1,6 +1,6 @@
 -- Record by record, the table stands for the day on paper, and each line is the same.
 use Prim.Native.Nat.{ℕ, zero, suc}
-use mathlib.Core.Path.{_≡_, refl, sym, _∙_, ap}
+use mathlib.Core.Path.{_≡_, refl, ap}
 use mathlib.Core.List.{List, _++_}
 use lib.ListN.{replicate, length-replicate}
 use Rattle.text.specs.Placed.{ascii}
@@ -11,8 +11,6 @@ use Rattle.records.specs.declared.file.FileCheck.{FileCheck}
 use Rattle.records.specs.declared.file.FileCheck.the-variants.{Good, Bad}
 use Rattle.records.specs.declared.step.Step.{Step}
 use Rattle.records.specs.declared.step.Step.the-variants.{Update, Query, Yield, Fork, Join, Strange}
-use Rattle.plain.specs.Calls as Call
-use Rattle.plain.specs.Calls.{Answer}
 use Rattle.plain.specs.Record.{PlainDay}
 use Rattle.table.specs.Halves.{bytes}
 use Rattle.consistency.proofs.Table.Stands.{Stands}
@@ -20,8 +18,8 @@ use Rattle.consistency.proofs.Table.Same.{Same}
 use Rattle.consistency.proofs.Table.Calls.{OnTable, update-same, query-same, yield-same, fork-same, join-same}
 use Rattle.consistency.proofs.Table.Follows.{fresh-stands}
 use Rattle.report.specs.Run.{stepOut, tableAfter}
-use Rattle.report.specs.Printed.{line, lines, lineFeed, freshTable, day, printed, printedAs}
-use Rattle.printed.specs.Paper.{outcome, paperAfter, answerAt, paperLines, paperAs, paper, PrintedIsPaper}
+use Rattle.report.specs.Printed.{lines, lineFeed, freshTable, day, printed, printedAs}
+use Rattle.printed.specs.Paper.{outcome, paperAfter, paperLines, paperAs, paper, PrintedIsPaper}
 
 step-same : (p : PlainDay) (t : List ℕ) (S : Stands p t) (s : Step) → Same (OnTable p t S) (outcome p s) (stepOut t s)
 step-same p t S (Update c n k bib v) = update-same p t S c n k bib v

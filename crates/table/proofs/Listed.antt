@@ -1,22 +1,21 @@
 -- The end of a list: too short a sheet, or the lines of what was listed.
 use Prim.Native.Nat.{ℕ, _*_, _≤_}
-use mathlib.Core.Bool.{Bool, true, false, cond}
+use mathlib.Core.Bool.{true, false, cond}
 use mathlib.Core.Path.{_≡_, sym, _∙_, ap}
 use mathlib.Core.List.{List, _++_}
 use native.Mathlib.Omega.{arith}
 use lib.Dec.{ltb}
 use lib.ListN.{length, take}
-use borrow.Author.Tests.{lt-ltb, le-ltb, ltb-false}
+use borrow.Author.Tests.{ltb-false}
 use Rattle.lists.proofs.Cases.{cases}
 use Rattle.cells.specs.Order.{order}
 use Rattle.entries.specs.Sizes as Upper
 use Rattle.entries.specs.Entries.{entryAt}
 use Rattle.listing.specs.Lines.{sheet}
 use Rattle.table.specs.Halves.{bytes, high, cellsOf}
-use Rattle.table.specs.Answers.{Out, refused, taken}
+use Rattle.table.specs.Answers.{refused, taken}
 use Rattle.table.specs.Calls.{shownOut}
 use Rattle.table.specs.Checks.{sheetCheck}
-use Rattle.table.specs.declared.list.SheetCheck.{SheetCheck}
 use Rattle.table.specs.declared.list.SheetCheck.the-variants.{Fits, Short}
 use Rattle.table.proofs.Halves.{fits, high-whole}
 use Rattle.table.proofs.Calls.{same-taken}

@@ -3,25 +3,23 @@ use Prim.Native.Nat.{ℕ, _<_, _+_, _*_, suc}
 use mathlib.Core.Bool.{Bool, true, false, not, _||_, Bool·not-not}
 use mathlib.Core.Path.{_≡_, refl, sym, _∙_, ap, subst}
 use mathlib.Core.Option.{Option, none, some}
-use mathlib.Core.List.{List, [], _∷_, _++_}
+use mathlib.Core.List.{List, _++_}
 use native.Mathlib.Omega.{arith}
 use lib.Dec.{eqb, ltb}
-use lib.ListN.{length, length-append, replicate, length-replicate}
-use borrow.Author.Tests.{eq-eqb, eqb-false, ltb-true, not-false}
+use lib.ListN.{length}
+use borrow.Author.Tests.{eqb-false, ltb-true, not-false}
 use Rattle.lists.specs.Lists.{changed}
 use Rattle.lists.proofs.Cases.{cases, or-false}
 use Rattle.updates.specs.declared.kind.Kind.{Kind}
-use Rattle.updates.specs.declared.kind.KindCheck.{KindCheck}
-use Rattle.updates.specs.declared.kind.KindCheck.the-variants.{Known, Unknown}
 use Rattle.updates.specs.Kinds.{kindCheck}
 use Rattle.diagram.specs.Day.{Day, meant, nextNumber}
 use Rattle.diagram.specs.Checks as Day
 use Rattle.diagram.specs.Steps as Steps
-use Rattle.diagram.specs.Steps.{Step, accepted, after, run, runFrom}
+use Rattle.diagram.specs.Steps.{Step, accepted, after}
 use Rattle.diagram.proofs.Days.Accepting.{meant-given, meant-same, accept-event, accept-yield, accept-fork, accept-join}
 use Rattle.cells.specs.Sizes as Lower
 use Rattle.cells.specs.Checks as Asked
-use Rattle.cells.specs.Steps.{forkBytes, freshBytes, joinBytes, queryBytes}
+use Rattle.cells.specs.Steps.{forkBytes, joinBytes, queryBytes}
 use Rattle.diagram.specs.Effects.{view}
 use Rattle.entries.specs.Sizes as Upper
 use Rattle.entries.specs.Stored.{entry}
@@ -29,18 +27,16 @@ use Rattle.entries.specs.Entries.{entryAt, wrote}
 use Rattle.entries.proofs.Entries.{entry-wrote, wrote-length}
 use Rattle.plain.specs.Calls as Paper
 use Rattle.plain.specs.Calls.{Line}
-use Rattle.plain.specs.Record.{PlainDay, freshDay, noted}
+use Rattle.plain.specs.Record.{PlainDay, noted}
 use Rattle.plain.specs.Answers as Plain
-use Rattle.plain.specs.Answers.{Outcome, called, stepped, answers, answersFrom}
-use Rattle.table.specs.Halves.{bytes, low, high, cellsOf, isTable}
+use Rattle.plain.specs.Answers.{Outcome, called, stepped}
+use Rattle.table.specs.Halves.{low, high, cellsOf}
 use Rattle.table.specs.Answers as Table
 use Rattle.table.specs.Answers.{Out}
-use Rattle.table.specs.Calls.{freshOut, updateOut, queryOut, yieldOut, forkOut, joinOut, listOut, shownOut}
-use Rattle.consistency.specs.Reached.{bytesAfter, bytesFrom, stepBytes}
-use Rattle.consistency.specs.Numbers.{isGiven, Number}
+use Rattle.table.specs.Calls.{updateOut, queryOut, yieldOut, forkOut, joinOut, listOut, shownOut}
+use Rattle.consistency.specs.Reached.{stepBytes}
+use Rattle.consistency.specs.Numbers.{Number}
 use Rattle.consistency.specs.Table.{sheetWith}
-use Rattle.table.proofs.Halves.{low-of}
-use Rattle.consistency.proofs.Follow.{bytes-follow}
 use Rattle.consistency.proofs.Cells.Passing.{client-is, known}
 use Rattle.consistency.proofs.Table.Stands.{Stands, asEntered, bytes-are, high-size, numbers-are, stands-next}
 use Rattle.consistency.proofs.Table.Same.{Same, by-check, by-table, by-given, by-named}

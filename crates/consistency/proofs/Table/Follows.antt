@@ -1,6 +1,6 @@
 -- The theorem: every call answers as on the plain day and leaves a table that stands for the day it leaves, and so does every list of calls.
 use Prim.Native.Nat.{ℕ, _+_}
-use mathlib.Core.Path.{_≡_, refl, _∙_, ap}
+use mathlib.Core.Path.{_≡_, refl, _∙_}
 use mathlib.Core.List.{List, [], _∷_, _++_}
 use native.Mathlib.Omega.{arith}
 use lib.ListN.{length, length-append, replicate, length-replicate}
@@ -16,11 +16,11 @@ use Rattle.table.specs.Answers.{Out}
 use Rattle.table.specs.Calls.{freshOut}
 use Rattle.table.proofs.Halves.{low-of}
 use Rattle.consistency.specs.Reached.{bytesAfter, bytesFrom}
-use Rattle.consistency.specs.Table.{Request, Update, Query, Yield, Fork, Join, Show, Reply, Served, onPaper, calls, onTable, onSheet, served, repliesOn, said, replies, sheetWith, TableFollowsDays}
+use Rattle.consistency.specs.Table.{Request, Update, Query, Yield, Fork, Join, Show, Reply, onPaper, calls, onTable, served, repliesOn, said, replies, TableFollowsDays}
 use Rattle.consistency.proofs.Follow.{bytes-follow}
 use Rattle.consistency.proofs.Table.Stands.{Stands}
 use Rattle.consistency.proofs.Table.Same.{Same}
-use Rattle.consistency.proofs.Table.Calls.{OnTable, OnSheet, update-same, query-same, yield-same, fork-same, join-same, list-same}
+use Rattle.consistency.proofs.Table.Calls.{OnTable, update-same, query-same, yield-same, fork-same, join-same, list-same}
 
 same-reply : (c d v w : ℕ) (s z : List ℕ) → c ≡ d → v ≡ w → s ≡ z → _≡_ {A = Reply} (record { code = c; value = v; sheet = s }) (record { code = d; value = w; sheet = z })
 same-reply c d v w s z e f g = rw (e, f, g)

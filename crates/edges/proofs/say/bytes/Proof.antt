@@ -1,6 +1,5 @@
 -- `edges::say::bytes` is safe and ends. Assumes nothing.
 use Prim.Native.Nat.{_-_, _≤_}
-use native.Mathlib.Omega.{arith}
 use lib.ListN.{length}
 use borrow.Author.Needs.{needs}
 use Rattle.edges.proofs.say.bytes.Statement.{statement}

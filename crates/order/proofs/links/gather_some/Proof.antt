@@ -1,6 +1,6 @@
 -- `order::links::gather_some` meets its contract: at each turn what is left to do makes the whole with what is done. Assumes nothing.
 use Prim.Native.Nat.{_<_, _-_, _≤_}
-use mathlib.Core.Path.{_≡_, _∙_, ap, refl}
+use mathlib.Core.Path.{_≡_, _∙_, refl}
 use mathlib.Core.List.{_++_}
 use native.Mathlib.Omega.{arith}
 use lib.ListN.{drop, length, length-set}

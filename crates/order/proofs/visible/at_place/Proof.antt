@@ -1,9 +1,7 @@
 -- `order::visible::at_place` meets its contract: a place holds a revision's number, by the range of its cell. Assumes nothing.
-use Prim.Native.Nat.{_<_}
 use mathlib.Core.Path.{sym, _∙_}
 use native.Mathlib.Omega.{arith}
 use borrow.Author.Needs.{needs}
-use Rattle.cells.specs.Sizes.{revisions}
 use Rattle.cells.proofs.Range.{ranges}
 use Rattle.fields.proofs.InRange.{known-revision, strange-revision}
 use Rattle.order.proofs.visible.at_place.Statement.{statement}

@@ -1,7 +1,5 @@
 -- `table::list::show` meets its contract: the order of r, the check of the sheet, then the lines. Assumes nothing.
-use Prim.Native.Nat.{_≤_}
-use mathlib.Core.Path.{_≡_, refl, sym, _∙_}
-use native.Mathlib.Omega.{arith}
+use mathlib.Core.Path.{refl, sym, _∙_}
 use borrow.Author.Needs.{needs}
 use Rattle.cells.specs.Order.{order}
 use Rattle.table.specs.Halves.{low, high, cellsOf}
