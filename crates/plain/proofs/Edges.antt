@@ -1,5 +1,9 @@
--- Every row of the tables of edges and codes holds, by computing the plain day.
+-- Every row of the tables of edges and codes holds, by computing the plain day; so do a full log, all boxes sent, and the
+-- lines of a list.
+use Prim.Native.Nat.{ℕ}
 use mathlib.Core.Path.{_≡_, refl}
+use mathlib.Core.List.{List, [], _∷_}
+use Rattle.updates.specs.declared.kind.Kind.the-variants.{Time, Penalty, Strike}
 use Rattle.updates.specs.Kinds.{kindCheck}
 use Rattle.updates.specs.Effect.{earliest, effect}
 use Rattle.updates.specs.Applied.{applied}
@@ -9,8 +13,11 @@ use Rattle.diagram.specs.Effects.{tabulate}
 use Rattle.diagram.specs.Day.{meant, nextNumber}
 use Rattle.diagram.specs.Checks.{unknownClient, openElsewhere, busyByOther, busy, stale, logFull, noneLeft, notJoinable}
 use Rattle.diagram.specs.Steps.{after}
-use Rattle.plain.specs.Answers.{called, answersFrom, answers}
-use Rattle.plain.specs.Edges.{edges, codes, expected, computed}
+use Rattle.diagram.specs.Examples.{withCounts}
+use Rattle.plain.specs.Calls.{Call, Update, Query, Yield, Fork, Join, Show, Entry, Line}
+use Rattle.plain.specs.Record.{PlainDay, freshDay}
+use Rattle.plain.specs.Answers.{called, dayFrom, dayAfter, answersFrom, answers}
+use Rattle.plain.specs.Edges.{edges, codes, said, expected, computed}
 
 pub edges-hold : computed edges ≡ expected edges
 unfolding called answersFrom answers after leads tabulate meant nextNumber unknownClient openElsewhere busyByOther busy stale logFull noneLeft notJoinable revisionLimit clientLimit updateLimit kindCheck effect earliest applied
@@ -19,3 +26,35 @@ edges-hold = refl
 pub codes-hold : computed codes ≡ expected codes
 unfolding called answersFrom answers after leads tabulate meant nextNumber unknownClient openElsewhere busyByOther busy stale logFull noneLeft notJoinable revisionLimit clientLimit updateLimit kindCheck effect earliest applied
 codes-hold = refl
+
+-- the fresh day, but with this many updates taken and boxes sent
+abbrev counted : ℕ → ℕ → PlainDay
+counted updates revisions = record { day = withCounts updates revisions; entries = freshDay .entries }
+
+-- 9 once 4,096 updates are taken, after 8; and not before
+log-full : said (answersFrom (counted 4095 1) (Fork 0 ∷ Update 0 0 1 7 5 ∷ Yield 0 ∷ Update 0 1 1 7 5 ∷ Update 0 0 1 7 5 ∷ Query 0 0 8 ∷ []))
+    ≡ (0, 1) ∷ (0, 4095) ∷ (0, 0) ∷ (8, 0) ∷ (9, 0) ∷ (0, 0) ∷ []
+unfolding called answersFrom answers after leads tabulate meant nextNumber unknownClient openElsewhere busyByOther busy stale logFull noneLeft notJoinable revisionLimit clientLimit updateLimit kindCheck effect earliest applied
+log-full = refl
+
+-- 10 once 64 boxes are started, after 3 and 7; and not before
+none-left : said (answersFrom (counted 0 63) (Fork 0 ∷ Fork 64 ∷ Query 0 0 7 ∷ Fork 0 ∷ Yield 0 ∷ Fork 0 ∷ []))
+    ≡ (0, 63) ∷ (3, 0) ∷ (0, 0) ∷ (7, 0) ∷ (0, 0) ∷ (10, 0) ∷ []
+unfolding called answersFrom answers after leads tabulate meant nextNumber unknownClient openElsewhere busyByOther busy stale logFull noneLeft notJoinable revisionLimit clientLimit updateLimit kindCheck effect earliest applied
+none-left = refl
+
+-- the joinee's update 1 is listed behind the joiner's update 2, each with its number and as it was entered
+abbrev joining : List Call
+joining =
+    Update 2 0 1 7 61000 ∷ Yield 2 ∷ Fork 0 ∷ Update 1 1 3 999 5 ∷ Yield 1 ∷ Update 3 0 4 8 6 ∷ Yield 3 ∷ Join 0 1 ∷ []
+
+abbrev entered : Entry → ℕ → Line
+entered e n = record { entry = e; number = n }
+
+lines-listed : called (dayAfter joining) (Show 0 36) .answer .lines
+    ≡ entered (record { kind = Time; client = 2; bib = 7; v = 61000 }) 0
+    ∷ entered (record { kind = Strike; client = 3; bib = 8; v = 6 }) 2
+    ∷ entered (record { kind = Penalty; client = 1; bib = 999; v = 5 }) 1
+    ∷ []
+unfolding called answersFrom answers after leads tabulate meant nextNumber unknownClient openElsewhere busyByOther busy stale logFull noneLeft notJoinable revisionLimit clientLimit updateLimit kindCheck effect earliest applied dayFrom dayAfter
+lines-listed = refl

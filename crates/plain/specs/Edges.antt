@@ -67,6 +67,15 @@ codes =
     (Fork 0 ∷ Update 0 0 time 7 5 ∷ Update 1 1 time 7 6 ∷ Update 0 1 time 7 6 ∷ Update 2 1 time 7 6 ∷ Show 1 0 ∷ Fork 1 ∷ Join 0 1
     ∷ Yield 0 ∷ Yield 1 ∷ Update 0 1 time 7 6 ∷ Show 1 11 ∷ Show 1 12 ∷ Join 0 1 ∷ [])
     ((0, 1) ∷ (0, 0) ∷ (0, 1) ∷ (6, 0) ∷ (7, 0) ∷ (7, 0) ∷ (7, 0) ∷ (7, 0) ∷ (0, 0) ∷ (0, 0) ∷ (8, 0) ∷ (12, 0) ∷ (0, 1) ∷ (0, 1) ∷ [])
+    -- the calls other than update: 2, 3 and 4; a joinee that was never sent before a joiner that is handed in, and 4 before 11
+    ∷ edge
+    (Query 16 1 1000 ∷ Query 0 1 1000 ∷ Yield 16 ∷ Yield 15 ∷ Fork 1 ∷ Join 1 0 ∷ Join 0 1 ∷ Show 1 0 ∷ Fork 0 ∷ Join 0 1 ∷ Fork 1 ∷ Join 1 2
+    ∷ Join 1 0 ∷ [])
+    ((2, 0) ∷ (3, 0) ∷ (2, 0) ∷ (0, 0) ∷ (3, 0) ∷ (3, 0) ∷ (3, 0) ∷ (3, 0) ∷ (0, 1) ∷ (0, 0) ∷ (4, 0) ∷ (3, 0) ∷ (4, 0) ∷ [])
+    -- join: 7 of either box; query: 6, 7 and 8, each before the next
+    ∷ edge
+    (Fork 0 ∷ Query 0 0 7 ∷ Join 0 1 ∷ Join 1 0 ∷ Query 1 0 7 ∷ Query 1 1 7 ∷ Query 0 1 1000 ∷ Query 0 1 7 ∷ Yield 0 ∷ Query 0 1 7 ∷ Yield 1 ∷ Query 0 1 7 ∷ [])
+    ((0, 1) ∷ (0, 0) ∷ (7, 0) ∷ (7, 0) ∷ (7, 0) ∷ (0, 0) ∷ (5, 0) ∷ (6, 0) ∷ (0, 0) ∷ (7, 0) ∷ (0, 0) ∷ (8, 0) ∷ [])
     ∷ edge (Update 0 0 time 7 5 ∷ Update 0 0 time 8 6 ∷ Query 0 0 7 ∷ Query 0 0 8 ∷ Query 0 0 9 ∷ []) ((0, 0) ∷ (0, 1) ∷ (0, 5) ∷ (0, 6) ∷ (0, 0) ∷ [])
     ∷ []
 

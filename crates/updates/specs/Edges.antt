@@ -19,8 +19,10 @@ edge updates value = record { updates = updates; value = value }
 
 abbrev pub edges : List Edge
 edges =
+    -- "A fresh table has 0 for every bib."
+    edge [] 0
     -- E5 "Penalty 4,294,967,295 on value 1 gives 0."
-    edge (update Time 1 ∷ update Penalty 4294967295 ∷ []) 0
+    ∷ edge (update Time 1 ∷ update Penalty 4294967295 ∷ []) 0
     -- E6 "Earliest: 0 and 9 give 9; 9 and 0 give 9; 9 and 9 give 9."
     ∷ edge (update Time 0 ∷ update Earliest 9 ∷ []) 9
     ∷ edge (update Time 9 ∷ update Earliest 0 ∷ []) 9
