@@ -1,22 +1,19 @@
 -- The lids add up to the updates accepted, after every list of calls (02, U1).
-use Prim.Native.Nat.{ℕ, suc, _+_, _<_}
-use mathlib.Core.Bool.{false, true}
+use Prim.Native.Nat.{ℕ, suc, _+_, _<_, _≤_}
 use mathlib.Core.Path.{_≡_, refl, _∙_, ap, sym}
 use mathlib.Core.Option.{Option, none, some}
 use mathlib.Core.List.{List, [], _∷_}
 use native.Mathlib.Omega.{arith}
-use lib.Dec.{ltb}
-use borrow.Author.Tests.{lt-ltb, ne-eqb}
+use borrow.Author.Tests.{le-ltb, lt-ltb, ne-eqb}
 use Rattle.lists.proofs.Cases.{cases}
-use Rattle.diagram.specs.Counts.{OwnAddsUp, ownIfOut, sumBelow}
+use Rattle.diagram.specs.Counts.{OwnAddsUp, ownIfOut}
 use Rattle.diagram.specs.Day.{Day, meant}
-use Rattle.diagram.specs.Steps as Steps
 use Rattle.diagram.specs.Steps.{after, yield}
 use Rattle.diagram.proofs.Order.Counted.{own-adds-up, sum-same}
 use Rattle.plain.specs.Calls.{Call, Update, Query, Yield, Fork, Join, Show, Fill}
 use Rattle.plain.specs.Record.{PlainDay, freshDay}
 use Rattle.plain.specs.Answers.{Outcome, called, dayFrom, dayAfter, answersFrom, answers}
-use Rattle.plain.specs.Lids.{lids, countsOne, acceptedIn, LidsAddUp}
+use Rattle.plain.specs.Lids.{countsOne, acceptedIn, LidsAddUp}
 use Rattle.plain.specs.Taken.{stepsAfter}
 use Rattle.plain.proofs.Ends.{Ends, no, yes, was-taken, update-ends, query-ends, yield-ends, fork-ends, join-ends, show-ends, fill-ends}
 use Rattle.plain.proofs.LineUp.{lined-up}
@@ -75,11 +72,16 @@ lid-is : (p : PlainDay) (n : ℕ) → n < p .day .revisions → called p (Fill n
 unfolding called meant
 lid-is p n l = rw (lt-ltb n (p .day .revisions) l) (cases (p .day .joined n) (λ e. rw e) (λ e. rw e))
 
+-- and a number not given out has none
+pub no-lid : (p : PlainDay) (n : ℕ) → p .day .revisions ≤ n → called p (Fill n) .answer .value ≡ 0
+unfolding called meant
+no-lid p n l = rw (le-ltb n (p .day .revisions) l)
+
 adds-up : (cs : List Call) → OwnAddsUp (dayAfter cs .day)
 adds-up cs = let L = lined-up cs in rw (L .steps) (own-adds-up (stepsAfter cs) (L .accepted))
 
-pub lids-add-up : (cs : List Call) → LidsAddUp cs
-lids-add-up cs = record {
+pub on-paper : (cs : List Call) → LidsAddUp cs
+on-paper cs = record {
   sum = sum-same (p .day .revisions) _ (ownIfOut (p .day)) (lid-is p) ∙ adds-up cs ∙ counted cs;
   total = λ n e. let h = was-taken (fill-ends p n) e in ap (λ o. o .answer .total) (h .is) ∙ counted cs;
 }

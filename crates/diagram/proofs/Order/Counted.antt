@@ -1,7 +1,7 @@
 -- After every run of accepted steps, every update taken is the own update of one revision that is out (02, U1).
 use Prim.Native.Nat.{_+_, _<_, _≤_, suc, zero, ℕ}
 use mathlib.Core.Bool.{Bool, false, true}
-use mathlib.Core.Path.{_∙_, _≡_, ap, refl, sym}
+use mathlib.Core.Path.{_≡_, refl, sym}
 use mathlib.Core.Option.{Option, none, some}
 use mathlib.Core.List.{List, [], _∷_}
 use native.Mathlib.Omega.{arith}
@@ -14,7 +14,7 @@ use Rattle.diagram.proofs.Order.Growth.{Fine, fine-fresh}
 use Rattle.diagram.proofs.Order.Runs.{along, fine-step}
 use Rattle.diagram.specs.Counts.{OwnAddsUp, ownIfOut, sumBelow}
 use Rattle.diagram.specs.Day.{Day, fresh}
-use Rattle.diagram.specs.Diagram.{Diagram, Vertex, event, fork, join, start}
+use Rattle.diagram.specs.Diagram.{Vertex, event, fork, join, start}
 use Rattle.diagram.specs.Effects.{entry, own, ownStep, tabulate}
 use Rattle.diagram.specs.Steps.{Accepted, Step, accepted, after, enter, forkAt, joinInto, newUpdate, run, yield}
 use Rattle.lists.proofs.Cases.{cases}
