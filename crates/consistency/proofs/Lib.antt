@@ -5,4 +5,5 @@ pub mod Bytes
 pub mod Follow
 pub mod Table
 pub mod Demand
+pub mod Lids
 mod Examples

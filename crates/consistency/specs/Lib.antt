@@ -5,3 +5,4 @@ pub mod Follow
 pub mod Numbers
 pub mod Table
 pub mod Demand
+pub mod Lids

@@ -11,7 +11,8 @@ use Rattle.plain.specs.Calls.{Call, Entry, Line, Answer}
 use Rattle.plain.specs.Answers.{answers}
 use Rattle.table.specs.Halves.{bytes}
 use Rattle.table.specs.Answers.{Out}
-use Rattle.table.specs.Calls.{freshOut, updateOut, queryOut, yieldOut, forkOut, joinOut, listOut}
+use Rattle.table.specs.Calls.{freshOut, updateOut, queryOut, yieldOut, forkOut, joinOut, listOut, fillOut}
+use Rattle.table.specs.declared.fill.Level.{Level}
 
 -- a call as it is made at a table: a list has the bytes of its sheet
 pub data Request : Type 0 where
@@ -21,6 +22,7 @@ pub data Request : Type 0 where
   Fork : (revision : ℕ) → Request
   Join : (joiner joinee : ℕ) → Request
   Show : (revision : ℕ) (sheet : List ℕ) → Request
+  Fill : (revision : ℕ) → Request
 
 -- the same call on paper: "(of a sheet only the length)"
 abbrev pub onPaper : Request → Call
@@ -30,27 +32,33 @@ onPaper (Yield c) = Paper.Yield c
 onPaper (Fork n) = Paper.Fork n
 onPaper (Join n m) = Paper.Join n m
 onPaper (Show n sheet) = Paper.Show n (length sheet)
+onPaper (Fill n) = Paper.Fill n
 
 abbrev pub calls : List Request → List Call
 calls [] = []
 calls (q ∷ qs) = onPaper q ∷ calls qs
 
--- what a caller has of a call: its code, its value, and the bytes of the sheet, if one was lent
+-- what a caller has of a call: its code, its value, of a fill the whole table's number besides, and the bytes of the sheet, if
+-- one was lent
 pub record Reply : Type 0 where
   pub code : ℕ
   pub value : ℕ
+  pub total : ℕ
   pub sheet : List ℕ
 
 pub record Served : Type 0 where
   pub reply : Reply
   pub table : List ℕ
 
--- a call that has the table lent, and one that has a sheet lent
+-- a call that has the table lent to be written, one that has a sheet lent, and a fill
 abbrev pub onTable : Out → Served
-onTable u = record { reply = record { code = u .code; value = u .value; sheet = [] }; table = u .lent }
+onTable u = record { reply = record { code = u .code; value = u .value; total = 0; sheet = [] }; table = u .lent }
 
 abbrev pub onSheet : List ℕ → Out → Served
-onSheet t u = record { reply = record { code = u .code; value = u .value; sheet = u .lent }; table = t }
+onSheet t u = record { reply = record { code = u .code; value = u .value; total = 0; sheet = u .lent }; table = t }
+
+abbrev pub onLevel : List ℕ → Level → Served
+onLevel t f = record { reply = record { code = f .code; value = f .own; total = f .total; sheet = [] }; table = t }
 
 abbrev pub served : List ℕ → Request → Served
 served t (Update c n k bib v) = onTable (updateOut t c n k bib v)
@@ -59,11 +67,17 @@ served t (Yield c) = onTable (yieldOut t c)
 served t (Fork n) = onTable (forkOut t n)
 served t (Join n m) = onTable (joinOut t n m)
 served t (Show n sheet) = onSheet t (listOut t n sheet)
+served t (Fill n) = onLevel t (fillOut t n)
 
 -- the replies of a table to a list of calls, each getting it as the last one left it
 unfoldable pub repliesOn : List ℕ → List Request → List Reply
 repliesOn t [] = []
 repliesOn t (q ∷ qs) = served t q .reply ∷ repliesOn (served t q .table) qs
+
+-- the table as a list of calls leaves it
+unfoldable pub tableAfter : List ℕ → List Request → List ℕ
+tableAfter t [] = t
+tableAfter t (q ∷ qs) = tableAfter (served t q .table) qs
 
 -- the lines of a listing on paper, "n entries of 12 bytes"
 abbrev pub stored : Entry → Stored.Entry
@@ -85,9 +99,10 @@ sheetAfter (Yield c) a = []
 sheetAfter (Fork n) a = []
 sheetAfter (Join n m) a = []
 sheetAfter (Show n sheet) a = sheetWith (a .lines) sheet
+sheetAfter (Fill n) a = []
 
 abbrev pub said : Request → Answer → Reply
-said q a = record { code = a .code; value = a .value; sheet = sheetAfter q a }
+said q a = record { code = a .code; value = a .value; total = a .total; sheet = sheetAfter q a }
 
 unfoldable pub replies : List Request → List Answer → List Reply
 replies [] more = []

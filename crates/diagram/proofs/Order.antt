@@ -3,6 +3,7 @@ pub mod Numbered
 pub mod Inherited
 pub mod Growth
 pub mod Runs
+pub mod Counted
 pub mod History
 pub mod Theorem
 pub mod Constructed

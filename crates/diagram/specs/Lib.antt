@@ -7,6 +7,7 @@ pub mod Construction
 pub mod Day
 pub mod Checks
 pub mod Steps
+pub mod Counts
 pub mod Arbitration
 pub mod Witness
 pub mod Examples

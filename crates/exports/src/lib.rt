@@ -1,8 +1,8 @@
 // The calls of the table for C and Rust: numbers and byte slices alone, the answer packed into one number
 // (specs/Packed.antt). A slice is passed as a pointer and a length.
 ghost use mathlib.Core.Path.{_≡_};
-ghost use Rattle.table.specs.Calls.{forkOut, freshOut, joinOut, listOut, queryOut, updateOut, yieldOut};
-ghost use Rattle.exports.specs.Packed.{exported, handed, packed};
+ghost use Rattle.table.specs.Calls.{fillOut, forkOut, freshOut, joinOut, listOut, queryOut, updateOut, yieldOut};
+ghost use Rattle.exports.specs.Packed.{exported, exportedLevel, handed, packed};
 
 // The code in the upper 32 bits, the value in the lower.
 fn pack(code: u8, value: u32) -> u64
@@ -72,4 +72,12 @@ pub extern "C" fn silttongs_list(t: &[u8], revision: u8, sheet: &mut [u8]) -> u6
 {
     let a = table::list::list(t, revision, sheet);
     pack(a.code, a.value)
+}
+
+#[no_mangle]
+pub extern "C" fn silttongs_fill(t: &[u8], revision: u8) -> u64
+    ensures { λ r. ⌜ r ≡ exportedLevel (fillOut (now (t .entry)) revision) ⌝ }
+{
+    let f = table::fill::fill(t, revision);
+    pack(f.code, (f.total as u32) * 65536 + (f.own as u32))
 }

@@ -2,7 +2,7 @@
 -- lines of a list.
 use Prim.Native.Nat.{ℕ}
 use mathlib.Core.Path.{_≡_, refl}
-use mathlib.Core.List.{List, [], _∷_}
+use mathlib.Core.List.{List, [], _∷_, _++_}
 use Rattle.updates.specs.declared.kind.Kind.the-variants.{Time, Penalty, Strike}
 use Rattle.updates.specs.Kinds.{kindCheck}
 use Rattle.updates.specs.Effect.{earliest, effect}
@@ -14,7 +14,7 @@ use Rattle.diagram.specs.Day.{meant, nextNumber}
 use Rattle.diagram.specs.Checks.{unknownClient, openElsewhere, busyByOther, busy, stale, logFull, noneLeft, notJoinable}
 use Rattle.diagram.specs.Steps.{after}
 use Rattle.diagram.specs.Examples.{withCounts}
-use Rattle.plain.specs.Calls.{Call, Update, Query, Yield, Fork, Join, Show, Entry, Line}
+use Rattle.plain.specs.Calls.{Call, Update, Query, Yield, Fork, Join, Show, Fill, Entry, Line}
 use Rattle.plain.specs.Record.{PlainDay, freshDay}
 use Rattle.plain.specs.Answers.{called, dayFrom, dayAfter, answersFrom, answers}
 use Rattle.plain.specs.Edges.{edges, codes, said, expected, computed}
@@ -44,9 +44,11 @@ unfolding called answersFrom answers after leads tabulate meant nextNumber unkno
 none-left = refl
 
 -- the joinee's update 1 is listed behind the joiner's update 2, each with its number and as it was entered
+abbrev apart : List Call
+apart = Update 2 0 1 7 61000 ∷ Yield 2 ∷ Fork 0 ∷ Update 1 1 3 999 5 ∷ Yield 1 ∷ Update 3 0 4 8 6 ∷ Yield 3 ∷ []
+
 abbrev joining : List Call
-joining =
-    Update 2 0 1 7 61000 ∷ Yield 2 ∷ Fork 0 ∷ Update 1 1 3 999 5 ∷ Yield 1 ∷ Update 3 0 4 8 6 ∷ Yield 3 ∷ Join 0 1 ∷ []
+joining = apart ++ (Join 0 1 ∷ [])
 
 abbrev entered : Entry → ℕ → Line
 entered e n = record { entry = e; number = n }
@@ -58,3 +60,9 @@ lines-listed : called (dayAfter joining) (Show 0 36) .answer .lines
     ∷ []
 unfolding called answersFrom answers after leads tabulate meant nextNumber unknownClient openElsewhere busyByOther busy stale logFull noneLeft notJoinable revisionLimit clientLimit updateLimit kindCheck effect earliest applied dayFrom dayAfter
 lines-listed = refl
+
+-- before that join: each box's own updates, and those of the whole table
+fills-told : (called (dayAfter apart) (Fill 0) .answer ≡ record { code = 0; value = 2; total = 3; lines = [] })
+    × (called (dayAfter apart) (Fill 1) .answer ≡ record { code = 0; value = 1; total = 3; lines = [] })
+unfolding called answersFrom answers after leads tabulate meant nextNumber unknownClient openElsewhere busyByOther busy stale logFull noneLeft notJoinable revisionLimit clientLimit updateLimit kindCheck effect earliest applied dayFrom dayAfter
+fills-told = (refl, refl)

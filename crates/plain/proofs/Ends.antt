@@ -18,9 +18,9 @@ use Rattle.diagram.specs.Checks.{unknownClient, openElsewhere, busyByOther, bus
 use Rattle.diagram.specs.Steps as Steps
 use Rattle.diagram.specs.Steps.{accepted}
 use Rattle.diagram.proofs.Days.Accepting.{meant-given, accept-event, accept-yield, accept-fork, accept-join}
-use Rattle.plain.specs.Calls.{Update, Query, Yield, Fork, Join, Show}
+use Rattle.plain.specs.Calls.{Update, Query, Yield, Fork, Join, Show, Fill}
 use Rattle.plain.specs.Record.{PlainDay, pathResult, noted}
-use Rattle.plain.specs.Answers.{Outcome, refused, taken, shown, check, given, badBib, named, stepped, called}
+use Rattle.plain.specs.Answers.{Outcome, refused, taken, shown, told, check, given, badBib, named, stepped, called}
 
 pub data Ends (p : PlainDay) (Yes : Outcome → Type 0) : Outcome → Type 0 where
   no : (k : ℕ) → Ends p Yes (refused p (suc (suc k)))
@@ -150,3 +150,15 @@ show-ends p n room =
     by-check (busy (p .day) r) 5 _ λ e7.
     by-check (ltb room (12 * length (view (p .day .diagram) (p .day .terminal r)))) 10 _ λ e12.
     yes (record { revision = r; means = e3; out = e4; idle = e7; is = refl })
+
+pub record FillTaken (p : PlainDay) (n : ℕ) (o : Outcome) : Type 0 where
+  pub revision : ℕ
+  pub means : meant (p .day) n ≡ some revision
+  pub is : o ≡ told p (length (own (p .day .diagram) (p .day .terminal revision))) (p .day .updates)
+
+pub fill-ends : (p : PlainDay) (n : ℕ) → Ends p (FillTaken p n) (called p (Fill n))
+unfolding called
+fill-ends p n =
+    by-given (meant (p .day) n) _ λ r e3.
+    by-check (p .day .joined r) 2 _ λ e4.
+    yes (record { revision = r; means = e3; is = refl })

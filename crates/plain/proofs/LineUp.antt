@@ -27,7 +27,7 @@ use Rattle.plain.proofs.Ends.{QueryTaken, ShowTaken, UpdateTaken, query
 use Rattle.plain.proofs.Steps.{day-both, did, ran, steps-both}
 use Rattle.plain.specs.Taken.{ifTaken, onRevision, stepOf, stepsAfter, stepsFrom, stepsOf}
 use Rattle.plain.specs.Answers.{called, dayAfter, dayFrom, shown}
-use Rattle.plain.specs.Calls.{Call, Entry, Fork, Join, Query, Show, Update, Yield}
+use Rattle.plain.specs.Calls.{Call, Entry, Fill, Fork, Join, Query, Show, Update, Yield}
 use Rattle.plain.specs.LineUp.{Answers, GrowsEach, LineUp, Lists, Taken, endOf}
 use Rattle.plain.specs.Record.{PlainDay, freshDay, linesOf, noted, ofBib, valueOf}
 use Rattle.updates.specs.Applied.{applied, freshValue}
@@ -76,6 +76,7 @@ short-step p (Yield c) = one-of _
 short-step p (Fork n) = short-on (meant (p .day) n) _ (λ r. one-of _)
 short-step p (Join n m) = short-on (meant (p .day) n) _ (λ a. short-on (meant (p .day) m) _ (λ b. one-of _))
 short-step p (Show n room) = none-of
+short-step p (Fill n) = none-of
 
 short-if : (k : ℕ) (ss : List Step) → Short ss → Short (ifTaken k ss)
 short-if zero ss h = h

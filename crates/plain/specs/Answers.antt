@@ -15,7 +15,7 @@ use Rattle.diagram.specs.Day.{meant, nextNumber}
 use Rattle.diagram.specs.Checks.{unknownClient, openElsewhere, busyByOther, busy, stale, logFull, noneLeft, notJoinable}
 use Rattle.diagram.specs.Steps as Steps
 use Rattle.diagram.specs.Steps.{after}
-use Rattle.plain.specs.Calls.{Call, Update, Query, Yield, Fork, Join, Show, Answer}
+use Rattle.plain.specs.Calls.{Call, Update, Query, Yield, Fork, Join, Show, Fill, Answer}
 use Rattle.plain.specs.Record.{PlainDay, freshDay, pathResult, linesOf, noted}
 
 pub record Outcome : Type 0 where
@@ -24,14 +24,18 @@ pub record Outcome : Type 0 where
 
 -- "a refused one changes nothing" and "A refusal gives value 0"
 abbrev pub refused : PlainDay → ℕ → Outcome
-refused p code = record { next = p; answer = record { code = code; value = 0; lines = [] } }
+refused p code = record { next = p; answer = record { code = code; value = 0; total = 0; lines = [] } }
 
 abbrev pub taken : PlainDay → ℕ → Outcome
-taken p value = record { next = p; answer = record { code = 0; value = value; lines = [] } }
+taken p value = record { next = p; answer = record { code = 0; value = value; total = 0; lines = [] } }
 
 -- "List: nothing" happens to the day; the numbers of the updates are shown, each with what it was
 abbrev pub shown : PlainDay → List ℕ → Outcome
-shown p numbers = record { next = p; answer = record { code = 0; value = length numbers; lines = linesOf (p .entries) numbers } }
+shown p numbers = record { next = p; answer = record { code = 0; value = length numbers; total = 0; lines = linesOf (p .entries) numbers } }
+
+-- a fill is no event: the day stays
+abbrev pub told : PlainDay → ℕ → ℕ → Outcome
+told p own total = record { next = p; answer = record { code = 0; value = own; total = total; lines = [] } }
 
 -- a check that applies ends the call
 abbrev pub check : Bool → ℕ → PlainDay → Outcome → Outcome
@@ -105,6 +109,12 @@ called p (Show n room) =
     check (busy (p .day) r) 7 p (
     check (ltb room (12 * length (view (p .day .diagram) (p .day .terminal r)))) 12 p (
     shown p (view (p .day .diagram) (p .day .terminal r))))))
+-- 02, U1, fill: "Checks: 1, 3, 4"; its value: "its own updates: those it took itself plus those of boxes joined into it", busy
+-- or not; "Also tell the number taken by the whole table"
+called p (Fill n) =
+    given (meant (p .day) n) p (λ r.
+    check (p .day .joined r) 4 p (
+    told p (length (own (p .day .diagram) (p .day .terminal r))) (p .day .updates)))
 
 -- the day after a list of calls, each getting it "as the last one left it"; and what they answer
 unfoldable pub dayFrom : PlainDay → List Call → PlainDay

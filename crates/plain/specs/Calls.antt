@@ -1,4 +1,4 @@
--- The calls of a day and what they answer with: 01, "Codes of the desk" and "Listing a box".
+-- The calls of a day and what they answer with: 01, "Codes of the desk" and "Listing a box"; 02, U1.
 use Prim.Native.Nat.{ℕ}
 use mathlib.Core.List.{List}
 use Rattle.updates.specs.declared.kind.Kind.{Kind}
@@ -11,6 +11,7 @@ pub data Call : Type 0 where
   Fork : (revision : ℕ) → Call
   Join : (joiner joinee : ℕ) → Call
   Show : (revision room : ℕ) → Call
+  Fill : (revision : ℕ) → Call
 
 -- an update as it was entered
 pub record Entry : Type 0 where
@@ -28,4 +29,6 @@ pub record Line : Type 0 where
 pub record Answer : Type 0 where
   pub code : ℕ
   pub value : ℕ
+  -- of a fill, besides its value: "the number taken by the whole table"
+  pub total : ℕ
   pub lines : List Line

@@ -1,7 +1,7 @@
 -- 01, "Edges of a race day": the starred edges E1 to E9 as one table of calls with the code and value that each gives.
 use Prim.Native.Nat.{ℕ}
 use mathlib.Core.List.{List, [], _∷_}
-use Rattle.plain.specs.Calls.{Call, Update, Query, Yield, Fork, Join, Show, Answer}
+use Rattle.plain.specs.Calls.{Call, Update, Query, Yield, Fork, Join, Show, Fill, Answer}
 use Rattle.plain.specs.Answers.{answers}
 
 pub record Edge : Type 0 where
@@ -76,6 +76,12 @@ codes =
     ∷ edge
     (Fork 0 ∷ Query 0 0 7 ∷ Join 0 1 ∷ Join 1 0 ∷ Query 1 0 7 ∷ Query 1 1 7 ∷ Query 0 1 1000 ∷ Query 0 1 7 ∷ Yield 0 ∷ Query 0 1 7 ∷ Yield 1 ∷ Query 0 1 7 ∷ [])
     ((0, 1) ∷ (0, 0) ∷ (7, 0) ∷ (7, 0) ∷ (7, 0) ∷ (0, 0) ∷ (5, 0) ∷ (6, 0) ∷ (0, 0) ∷ (7, 0) ∷ (0, 0) ∷ (8, 0) ∷ [])
+    -- fill (02, U1): 3 and 4; what was inherited does not count, what was joined in does, through others too, and a busy box is told
+    ∷ edge
+    (Update 0 0 time 7 5 ∷ Yield 0 ∷ Fork 0 ∷ Fork 1 ∷ Update 1 1 time 7 6 ∷ Update 2 2 time 7 7 ∷ Fill 0 ∷ Fill 1 ∷ Fill 2 ∷ Fill 3
+    ∷ Yield 1 ∷ Yield 2 ∷ Join 1 2 ∷ Fill 1 ∷ Fill 2 ∷ Join 0 1 ∷ Fill 0 ∷ Fill 1 ∷ [])
+    ((0, 0) ∷ (0, 0) ∷ (0, 1) ∷ (0, 2) ∷ (0, 1) ∷ (0, 2) ∷ (0, 1) ∷ (0, 1) ∷ (0, 1) ∷ (3, 0)
+    ∷ (0, 0) ∷ (0, 0) ∷ (0, 1) ∷ (0, 2) ∷ (4, 0) ∷ (0, 2) ∷ (0, 3) ∷ (4, 0) ∷ [])
     ∷ edge (Update 0 0 time 7 5 ∷ Update 0 0 time 8 6 ∷ Query 0 0 7 ∷ Query 0 0 8 ∷ Query 0 0 9 ∷ []) ((0, 0) ∷ (0, 1) ∷ (0, 5) ∷ (0, 6) ∷ (0, 0) ∷ [])
     ∷ []
 

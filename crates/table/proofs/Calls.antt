@@ -9,7 +9,7 @@ use Rattle.updates.specs.declared.kind.KindCheck.{KindCheck}
 use Rattle.updates.specs.declared.kind.KindCheck.the-variants as kinds
 use Rattle.cells.specs.Decode.{cells}
 use Rattle.cells.specs.Steps.{updateBytes, queryBytes, closeBytes, forkBytes, joinBytes}
-use Rattle.cells.specs.Checks.{isClient, givenOut, noneLeft}
+use Rattle.cells.specs.Checks.{isClient, givenOut, joined, noneLeft}
 use Rattle.entries.specs.Stored.{entry}
 use Rattle.entries.specs.Entries.{wrote}
 use Rattle.fields.specs.declared.table.Client.{Client}
@@ -17,11 +17,12 @@ use Rattle.fields.specs.declared.table.Revision.{Revision}
 use Rattle.revisions.specs.Checks.{clientCheck, givenCheck, leftCheck}
 use Rattle.revisions.specs.declared.checks.ClientCheck.{ClientCheck}
 use Rattle.revisions.specs.declared.checks.ClientCheck.the-variants as client
+use Rattle.revisions.specs.declared.checks.GivenCheck.{GivenCheck}
 use Rattle.revisions.specs.declared.checks.GivenCheck.the-variants as given
 use Rattle.revisions.specs.declared.checks.LeftCheck.the-variants as left
 use Rattle.table.specs.Halves.{low, high, cellsOf, isTable}
 use Rattle.table.specs.Answers.{Out, refused, taken, named}
-use Rattle.table.specs.Calls.{updateOut, queryOut, yieldOut, forkOut, joinOut, listOut, shownOut, valueAt}
+use Rattle.table.specs.Calls.{updateOut, queryOut, yieldOut, forkOut, joinOut, listOut, shownOut, fillOut, fillIn, noFill, told, valueAt}
 use Rattle.table.specs.Found.{onClient, onGiven, onLeft, onKind, onQuiet, onEvent, onPair}
 use Rattle.table.specs.Checks.{quietCheck, forkCheck, bothCheck, meetCheck, joinCheck, placeCheck, turnCheck, queryCheck, updateCheck}
 use Rattle.table.specs.declared.quiet.QuietCheck.{QuietCheck}
@@ -129,6 +130,10 @@ module _ (t : List ℕ) (h : isTable t ≡ false) where
   unfolding joinOut
   no-join n m = rw h
 
+  pub no-fill : (n : ℕ) → noFill 1 ≡ fillOut t n
+  unfolding fillOut
+  no-fill n = rw h
+
   pub no-list : (n : ℕ) (s : List ℕ) → refused s 1 ≡ listOut t n s
   unfolding listOut
   no-list n s = rw h
@@ -162,6 +167,28 @@ module _ (t : List ℕ) (h : isTable t ≡ true) where
   pub list-by : (n : ℕ) (s : List ℕ) (z : QuietCheck) → quietCheck (low t) n ≡ z → onQuiet z (refused s) (λ r. shownOut t (r .0) s) ≡ listOut t n s
   unfolding quietCheck listOut onQuiet
   list-by n s z e = rw (← e) (simp (given-is, quiet-cond, h))
+
+-- a fill on the lower half, from what its checks find; and of bytes that are a table
+module _ (d : List ℕ) (n : ℕ) where
+  fill-by : (z : GivenCheck) → givenCheck d n ≡ z → onGiven z (noFill 3) (λ r. cond (joined (cells d) (r .0)) (noFill 4) (told (cells d) (r .0))) ≡ fillIn (cells d) n
+  unfolding fillIn
+  fill-by z e = rw (← e) (given-is d n _ _)
+
+  pub fill-never : givenCheck d n ≡ given.Never → noFill 3 ≡ fillIn (cells d) n
+  unfolding onGiven
+  fill-never e = fill-by given.Never e
+
+  pub fill-joined : (r : Revision) → givenCheck d n ≡ given.Given r → joined (cells d) (r .0) ≡ true → noFill 4 ≡ fillIn (cells d) n
+  unfolding onGiven
+  fill-joined r e f = rw f at (fill-by (given.Given r) e)
+
+  pub fill-told : (r : Revision) → givenCheck d n ≡ given.Given r → joined (cells d) (r .0) ≡ false → told (cells d) (r .0) ≡ fillIn (cells d) n
+  unfolding onGiven
+  fill-told r e f = rw f at (fill-by (given.Given r) e)
+
+pub fill-of : (t : List ℕ) (n : ℕ) → isTable t ≡ true → fillIn (cells (low t)) n ≡ fillOut t n
+unfolding fillOut
+fill-of t n h = rw h
 
 pub same-taken : (a b : List ℕ) (v w : ℕ) → a ≡ b → v ≡ w → taken a v ≡ taken b w
 same-taken a b v w e f = rw (e, f)

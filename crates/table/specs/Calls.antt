@@ -1,10 +1,11 @@
 -- Each call, check by check in 01's order: 01, "Codes of the desk". A list has its sheet lent; the table is only read.
 use Prim.Native.Nat.{ℕ, _*_}
-use mathlib.Core.Bool.{Bool, not, _||_}
+use mathlib.Core.Bool.{Bool, not, cond, _||_}
 use mathlib.Core.List.{List, _++_}
 use lib.Dec.{eqb, ltb}
 use lib.ListN.{length, replicate}
 use Rattle.updates.specs.Kinds.{kindCheck}
+use Rattle.cells.specs.Cells.{Cells}
 use Rattle.cells.specs.Order.{order}
 use Rattle.cells.specs.Checks.{isClient, givenOut, joined, openElsewhere, busy, busyByOther, stale, logFull, noneLeft, joinable}
 use Rattle.cells.specs.Steps.{freshBytes, updateBytes, queryBytes, closeBytes, forkBytes, joinBytes}
@@ -15,6 +16,7 @@ use Rattle.entries.specs.Folded.{valueOf}
 use Rattle.listing.specs.Lines.{sheet}
 use Rattle.table.specs.Halves.{bytes, low, high, cellsOf, isTable}
 use Rattle.table.specs.Answers.{Out, taken, check, named}
+use Rattle.table.specs.declared.fill.Level.{Level}
 
 -- 5: "bib above 999"
 abbrev pub badBib : ℕ → Bool
@@ -98,3 +100,22 @@ listOut t n s =
     check (joined (cellsOf t) n) 4 s (
     check (busy (cellsOf t) n) 7 s (
     shownOut t n s))))
+
+-- 02, U1: "in a refusal both are 0"
+abbrev pub noFill : ℕ → Level
+noFill code = record { code = code; own = 0; total = 0 }
+
+-- the two numbers of a fill
+abbrev pub told : Cells → ℕ → Level
+told k n = record { code = 0; own = k .count n; total = k .updates }
+
+-- 3, 4 of a fill, and its end
+unfoldable pub fillIn : Cells → ℕ → Level
+fillIn k n =
+    cond (not (givenOut k n)) (noFill 3) (
+    cond (joined k n) (noFill 4) (
+    told k n))
+
+-- "Checks: 1, 3, 4"
+unfoldable pub fillOut : List ℕ → ℕ → Level
+fillOut t n = cond (not (isTable t)) (noFill 1) (fillIn (cellsOf t) n)

@@ -2,6 +2,7 @@
 pub mod answer; // answer.rt: what a call answers
 pub mod bib; // bib.rt: the check of a bib
 pub mod event; // event.rt: the checks that update and query share
+pub mod fill; // fill.rt: the call fill
 pub mod fork; // fork.rt: the call fork
 pub mod fresh; // fresh.rt: the call fresh
 pub mod join; // join.rt: the call join

@@ -1,6 +1,6 @@
 -- Every call ends on the table as on the plain day.
 use Prim.Native.Nat.{ℕ, _<_, _+_, _*_, suc}
-use mathlib.Core.Bool.{Bool, true, false, not, _||_, Bool·not-not}
+use mathlib.Core.Bool.{Bool, true, false, cond, not, _||_, Bool·not-not}
 use mathlib.Core.Path.{_≡_, refl, sym, _∙_, ap, subst}
 use mathlib.Core.Option.{Option, none, some}
 use mathlib.Core.List.{List, _++_}
@@ -20,7 +20,7 @@ use Rattle.diagram.proofs.Days.Accepting.{meant-given, meant-same, accept-event
 use Rattle.cells.specs.Sizes as Lower
 use Rattle.cells.specs.Checks as Asked
 use Rattle.cells.specs.Steps.{forkBytes, joinBytes, queryBytes}
-use Rattle.diagram.specs.Effects.{view}
+use Rattle.diagram.specs.Effects.{own, view}
 use Rattle.entries.specs.Sizes as Upper
 use Rattle.entries.specs.Stored.{entry}
 use Rattle.entries.specs.Entries.{entryAt, wrote}
@@ -33,12 +33,13 @@ use Rattle.plain.specs.Answers.{Outcome, called, stepped}
 use Rattle.table.specs.Halves.{low, high, cellsOf}
 use Rattle.table.specs.Answers as Table
 use Rattle.table.specs.Answers.{Out}
-use Rattle.table.specs.Calls.{updateOut, queryOut, yieldOut, forkOut, joinOut, listOut, shownOut}
+use Rattle.table.specs.Calls.{updateOut, queryOut, yieldOut, forkOut, joinOut, listOut, shownOut, fillOut, fillIn, noFill, told}
+use Rattle.table.specs.declared.fill.Level.{Level}
 use Rattle.consistency.specs.Reached.{stepBytes}
-use Rattle.consistency.specs.Numbers.{Number}
+use Rattle.consistency.specs.Numbers.{Number, isGiven}
 use Rattle.consistency.specs.Table.{sheetWith}
 use Rattle.consistency.proofs.Cells.Passing.{client-is, known}
-use Rattle.consistency.proofs.Table.Stands.{Stands, asEntered, bytes-are, high-size, numbers-are, stands-next}
+use Rattle.consistency.proofs.Table.Stands.{Stands, asEntered, bytes-are, high-size, is-table, numbers-are, stands-next}
 use Rattle.consistency.proofs.Table.Same.{Same, by-check, by-table, by-given, by-named}
 use Rattle.consistency.proofs.Table.Values.{same-order, same-sheet, same-value}
 
@@ -69,6 +70,7 @@ module _ (p : PlainDay) (t : List ℕ) (S : Stands p t) where
   by-step s e q value w z b x = record {
     code = refl;
     value = z;
+    total = refl;
     lent = subst (λ k. Stands (stepped p s) (k ++ high t)) (sym x) (stands-next p t S s e (stepped p s) refl (high t) (high-size p t S) (λ n h. S .entries-are n (subst (λ k. n < k) q h)));
   }
 
@@ -87,6 +89,7 @@ module _ (p : PlainDay) (t : List ℕ) (S : Stands p t) where
   noted-same c r kind bib v e e5 e9 = record {
     code = refl;
     value = is;
+    total = refl;
     lent = stands-next p t S (Steps.Event c r true) e (noted p c r kind bib v) refl (wrote (high t) (cellsOf t .updates) (entry kind c bib v)) (wrote-length (high t) (cellsOf t .updates) (entry kind c bib v) (high-size p t S) (room e9)) kept;
   }
     where
@@ -176,4 +179,24 @@ module _ (p : PlainDay) (t : List ℕ) (S : Stands p t) where
       by-check p t S (OnSheet s) s (S, refl) _ (Day.busy y r) 7 _ _ (number n r e3 .same-busy) λ e7.
       let same = same-order p t S n r e3 e4 in
       by-check p t S (OnSheet s) s (S, refl) _ (ltb (length s) (12 * length (view (y .diagram) (y .terminal r)))) 12 _ _ (ap (λ z. ltb (length s) (12 * length z)) same) λ e12.
-      record { code = refl; value = ap length same; lent = (S, same-sheet p t S n r e3 e4 s) })
+      record { code = refl; value = ap length same; total = refl; lent = (S, same-sheet p t S n r e3 e4 s) })
+
+  -- a fill's end: the same numbers, and the day stays
+  pub record SameLevel (o : Outcome) (f : Level) : Type 0 where
+    pub code : f .code ≡ o .answer .code
+    pub own : f .own ≡ o .answer .value
+    pub total : f .total ≡ o .answer .total
+    pub next : o .next ≡ p
+
+  pub fill-same : (n : ℕ) → SameLevel (called p (Paper.Fill n)) (fillOut t n)
+  unfolding called fillOut fillIn
+  fill-same n = rw (is-table p t S, numbers-are p t S .same-given n) (pick (meant y n) refl)
+    where
+      out : (r : ℕ) → meant y n ≡ some r → (b : Bool) → y .joined r ≡ b → SameLevel (Plain.check b 4 p (Plain.told p (length (own (y .diagram) (y .terminal r))) (y .updates))) (cond b (noFill 4) (told (cellsOf t) n))
+      out r e true j = record { code = refl; own = refl; total = refl; next = refl }
+      out r e false j = record { code = refl; own = number n r e .out j .same-gain; total = bytes-are p t S .follow .same-updates; next = refl }
+
+      pick : (m : Option ℕ) → meant y n ≡ m
+          → SameLevel (Plain.given m p (λ r. Plain.check (y .joined r) 4 p (Plain.told p (length (own (y .diagram) (y .terminal r))) (y .updates)))) (cond (not (isGiven m)) (noFill 3) (cond (Asked.joined (cellsOf t) n) (noFill 4) (told (cellsOf t) n)))
+      pick none e = record { code = refl; own = refl; total = refl; next = refl }
+      pick (some r) e = rw (number n r e .same-joined) (out r e (y .joined r) refl)

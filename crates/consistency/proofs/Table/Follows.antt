@@ -1,6 +1,6 @@
 -- The theorem: every call answers as on the plain day and leaves a table that stands for the day it leaves, and so does every list of calls.
 use Prim.Native.Nat.{ℕ, _+_}
-use mathlib.Core.Path.{_≡_, refl, _∙_}
+use mathlib.Core.Path.{_≡_, refl, sym, subst, _∙_}
 use mathlib.Core.List.{List, [], _∷_, _++_}
 use native.Mathlib.Omega.{arith}
 use lib.ListN.{length, length-append, replicate, length-replicate}
@@ -10,20 +10,20 @@ use Rattle.cells.specs.Sizes as Lower
 use Rattle.cells.specs.Steps.{freshBytes}
 use Rattle.entries.specs.Sizes as Upper
 use Rattle.plain.specs.Record.{PlainDay, freshDay}
-use Rattle.plain.specs.Answers.{Outcome, called, answers, answersFrom}
+use Rattle.plain.specs.Answers.{Outcome, called, answers, answersFrom, dayFrom}
 use Rattle.table.specs.Halves.{bytes}
 use Rattle.table.specs.Answers.{Out}
 use Rattle.table.specs.Calls.{freshOut}
 use Rattle.table.proofs.Halves.{low-of}
 use Rattle.consistency.specs.Reached.{bytesAfter, bytesFrom}
-use Rattle.consistency.specs.Table.{Request, Update, Query, Yield, Fork, Join, Show, Reply, onPaper, calls, onTable, served, repliesOn, said, replies, TableFollowsDays}
+use Rattle.consistency.specs.Table.{Request, Update, Query, Yield, Fork, Join, Show, Fill, Reply, onPaper, calls, onTable, served, repliesOn, tableAfter, said, replies, TableFollowsDays}
 use Rattle.consistency.proofs.Follow.{bytes-follow}
 use Rattle.consistency.proofs.Table.Stands.{Stands}
 use Rattle.consistency.proofs.Table.Same.{Same}
-use Rattle.consistency.proofs.Table.Calls.{OnTable, update-same, query-same, yield-same, fork-same, join-same, list-same}
+use Rattle.consistency.proofs.Table.Calls.{OnTable, update-same, query-same, yield-same, fork-same, join-same, list-same, fill-same}
 
-same-reply : (c d v w : ℕ) (s z : List ℕ) → c ≡ d → v ≡ w → s ≡ z → _≡_ {A = Reply} (record { code = c; value = v; sheet = s }) (record { code = d; value = w; sheet = z })
-same-reply c d v w s z e f g = rw (e, f, g)
+same-reply : (c d v w i j : ℕ) (s z : List ℕ) → c ≡ d → v ≡ w → i ≡ j → s ≡ z → _≡_ {A = Reply} (record { code = c; value = v; total = i; sheet = s }) (record { code = d; value = w; total = j; sheet = z })
+same-reply c d v w i j s z e f g h = rw (e, f, g, h)
 
 module _ (p : PlainDay) (t : List ℕ) (S : Stands p t) where
   -- the reply, and the table left
@@ -31,8 +31,8 @@ module _ (p : PlainDay) (t : List ℕ) (S : Stands p t) where
     reply : served t q .reply ≡ said q (called p (onPaper q) .answer)
     stands : Stands (called p (onPaper q) .next) (served t q .table)
 
-  on-table : (o : Outcome) (u : Out) → Same (OnTable p t S) o u → (onTable u .reply ≡ record { code = o .answer .code; value = o .answer .value; sheet = [] }) × Stands (o .next) (u .lent)
-  on-table o u h = (same-reply _ _ _ _ [] [] (h .code) (h .value) refl, h .lent)
+  on-table : (o : Outcome) (u : Out) → Same (OnTable p t S) o u → (onTable u .reply ≡ record { code = o .answer .code; value = o .answer .value; total = o .answer .total; sheet = [] }) × Stands (o .next) (u .lent)
+  on-table o u h = (same-reply _ _ _ _ _ _ [] [] (h .code) (h .value) (h .total) refl, h .lent)
 
   call-same : (q : Request) → SameCall q
   call-same (Update c n k bib v) = let h = on-table _ _ (update-same p t S c n k bib v) in record { reply = h .0; stands = h .1 }
@@ -40,7 +40,8 @@ module _ (p : PlainDay) (t : List ℕ) (S : Stands p t) where
   call-same (Yield c) = let h = on-table _ _ (yield-same p t S c) in record { reply = h .0; stands = h .1 }
   call-same (Fork n) = let h = on-table _ _ (fork-same p t S n) in record { reply = h .0; stands = h .1 }
   call-same (Join n m) = let h = on-table _ _ (join-same p t S n m) in record { reply = h .0; stands = h .1 }
-  call-same (Show n s) = let h = list-same p t S n s in record { reply = same-reply _ _ _ _ _ _ (h .code) (h .value) (h .lent .1); stands = h .lent .0 }
+  call-same (Show n s) = let h = list-same p t S n s in record { reply = same-reply _ _ _ _ _ _ _ _ (h .code) (h .value) (h .total) (h .lent .1); stands = h .lent .0 }
+  call-same (Fill n) = let h = fill-same p t S n in record { reply = same-reply _ _ _ _ _ _ [] [] (h .code) (h .own) (h .total) refl; stands = subst (λ q. Stands q t) (sym (h .next)) S }
 
 filled : (a : List ℕ) (n m k : ℕ) → length a ≡ n → n + m ≡ k → length (a ++ replicate m 0) ≡ k
 filled a n m k e f = length-append a (replicate m 0) ∙ rw (e, length-replicate {A = ℕ} m 0) f
@@ -70,6 +71,12 @@ replies-from (q ∷ qs) p t S =
     let first = h .reply in
     let rest = replies-from qs (called p (onPaper q) .next) (served t q .table) (h .stands) in
     λ i. first i ∷ rest i
+
+-- the table that a list of calls leaves stands for the day that it leaves
+pub stands-after : (qs : List Request) (p : PlainDay) (t : List ℕ) → Stands p t → Stands (dayFrom p (calls qs)) (tableAfter t qs)
+unfolding tableAfter dayFrom
+stands-after [] p t S = S
+stands-after (q ∷ qs) p t S = stands-after qs (called p (onPaper q) .next) (served t q .table) (call-same p t S q .stands)
 
 pub table-follows : TableFollowsDays
 unfolding answers freshOut
