@@ -5,5 +5,5 @@ pub mod Bytes
 pub mod Follow
 pub mod Table
 pub mod Demand
-pub mod Lids
+pub mod Fills
 mod Examples

@@ -5,4 +5,4 @@ pub mod Follow
 pub mod Numbers
 pub mod Table
 pub mod Demand
-pub mod Lids
+pub mod Fills

@@ -1,15 +1,12 @@
 -- 02, U1: "own updates, summed over all boxes out". A revision's own updates are those it took itself and those of
 -- revisions joined into it; what it inherited at its start does not count.
-use Prim.Native.Nat.{ℕ, zero, suc, _+_}
+use Prim.Native.Nat.{ℕ}
 use mathlib.Core.Bool.{cond}
 use mathlib.Core.Path.{_≡_}
 use lib.ListN.{length}
+use Rattle.lists.specs.Sums.{sumBelow}
 use Rattle.diagram.specs.Effects.{own}
 use Rattle.diagram.specs.Day.{Day}
-
-abbrev pub sumBelow : ℕ → (ℕ → ℕ) → ℕ
-sumBelow zero f = 0
-sumBelow (suc n) f = sumBelow n f + f n
 
 -- a revision that is joined (01: handed in) has nothing of its own any more
 abbrev pub ownIfOut : Day → ℕ → ℕ

@@ -7,3 +7,4 @@ pub mod Blocks
 pub mod Keep
 pub mod Counts
 pub mod Grown
+pub mod Sums

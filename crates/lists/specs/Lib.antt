@@ -1,2 +1,3 @@
 -- Words for lists of numbers. Knows no revision, no client and no bytes.
 pub mod Lists
+pub mod Sums

@@ -4,4 +4,4 @@ pub mod Ends
 pub mod Steps
 pub mod LineUp
 pub mod Never
-pub mod Lids
+pub mod Fills

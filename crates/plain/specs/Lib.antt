@@ -6,4 +6,4 @@ pub mod Answers
 pub mod Edges
 pub mod Taken
 pub mod LineUp
-pub mod Lids
+pub mod Fills

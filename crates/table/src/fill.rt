@@ -2,9 +2,10 @@
 ghost use mathlib.Core.Path.{_≡_};
 ghost use Prim.Native.Nat.{_<_};
 ghost use lib.ListN.{length};
-ghost use Rattle.cells.specs.Sizes.{bytes, revisions};
+ghost use Rattle.cells.specs.Sizes as Lower;
+ghost use Rattle.cells.specs.Sizes.{revisions};
 ghost use Rattle.cells.specs.Decode.{cells};
-ghost use Rattle.table.specs.Calls.{fillIn, fillOut, told};
+ghost use Rattle.table.specs.Calls.{fillIn, fillOut, noFill, told};
 use crate::sound;
 use crate::sound::TableCheck;
 use fields::read;
@@ -13,6 +14,7 @@ use revisions::checks;
 use revisions::checks::GivenCheck;
 use revisions::checks::JoinedCheck;
 
+// What a fill answers: the code, the revision's own updates, and those taken by the whole table.
 pub struct Level {
     pub code: u8,
     pub own: u16,
@@ -20,7 +22,7 @@ pub struct Level {
 }
 
 fn tell(d: &[u8], r: Revision) -> Level
-    requires { ⌜ (length (now d) ≡ bytes) × (r .0 < revisions) ⌝ }
+    requires { ⌜ (length (now d) ≡ Lower.bytes) × (r .0 < revisions) ⌝ }
     ensures { λ f. ⌜ f ≡ told (cells (now (d .entry))) (r .0) ⌝ }
 {
     let own = read::count(d, r);
@@ -33,7 +35,7 @@ fn tell(d: &[u8], r: Revision) -> Level
 }
 
 fn refused(code: u8) -> Level
-    ensures { λ f. ⌜ f ≡ record { code = code; own = 0; total = 0 } ⌝ }
+    ensures { λ f. ⌜ f ≡ noFill code ⌝ }
 {
     Level {
         code,
@@ -43,8 +45,8 @@ fn refused(code: u8) -> Level
 }
 
 // Checks 3 and 4 on the lower half. A busy revision is told too.
-fn fill_sound(d: &[u8], revision: u8) -> Level
-    requires { ⌜ length (now d) ≡ bytes ⌝ }
+fn fill_in(d: &[u8], revision: u8) -> Level
+    requires { ⌜ length (now d) ≡ Lower.bytes ⌝ }
     ensures { λ f. ⌜ f ≡ fillIn (cells (now (d .entry))) revision ⌝ }
 {
     let GivenCheck::Given(r) = checks::check_given(d, revision) else {
@@ -62,5 +64,5 @@ pub fn fill(t: &[u8], revision: u8) -> Level
     let TableCheck::Sound = sound::check_table(t) else {
         return refused(1);
     };
-    fill_sound(&t[0..40960], revision)
+    fill_in(&t[0..40960], revision)
 }

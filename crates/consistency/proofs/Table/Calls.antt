@@ -1,5 +1,5 @@
 -- Every call ends on the table as on the plain day.
-use Prim.Native.Nat.{ℕ, _<_, _+_, _*_, suc}
+use Prim.Native.Nat.{ℕ, _<_, _*_, suc}
 use mathlib.Core.Bool.{Bool, true, false, cond, not, _||_, Bool·not-not}
 use mathlib.Core.Path.{_≡_, refl, sym, _∙_, ap, subst}
 use mathlib.Core.Option.{Option, none, some}
@@ -16,6 +16,7 @@ use Rattle.diagram.specs.Day.{Day, meant, nextNumber}
 use Rattle.diagram.specs.Checks as Day
 use Rattle.diagram.specs.Steps as Steps
 use Rattle.diagram.specs.Steps.{Step, accepted, after}
+use Rattle.diagram.proofs.Days.Moves.{yield-updates}
 use Rattle.diagram.proofs.Days.Accepting.{meant-given, meant-same, accept-event, accept-yield, accept-fork, accept-join}
 use Rattle.cells.specs.Sizes as Lower
 use Rattle.cells.specs.Checks as Asked
@@ -56,14 +57,6 @@ module _ (p : PlainDay) (t : List ℕ) (S : Stands p t) where
 
   check-given : (n : ℕ) (rest : ℕ → Outcome) (u : Out) → ((r : ℕ) → meant y n ≡ some r → Same OnTable (rest r) u) → Same OnTable (Plain.given (meant y n) p rest) (Table.check (not (Asked.givenOut (cellsOf t) n)) 3 t u)
   check-given = by-given p t S OnTable t S
-
-  yield-quiet : (c : ℕ) → after y (Steps.Yield c) .updates ≡ y .updates
-  unfolding after
-  yield-quiet c = by (y .openBy c)
-    where
-      by : (o : Option ℕ) → Steps.yield y c o .updates ≡ y .updates
-      by none = refl
-      by (some w) = refl
 
   -- a step that notes no entry
   by-step : (s : Step) → accepted y s ≡ true → after y s .updates ≡ y .updates → (value w : ℕ) → w ≡ value → (b : List ℕ) → b ≡ stepBytes (low t) s → Same OnTable (Plain.taken (stepped p s) value) (Table.taken (b ++ high t) w)
@@ -135,11 +128,11 @@ module _ (p : PlainDay) (t : List ℕ) (S : Stands p t) where
       by-step (Steps.Event c r false) accepts refl _ _ value _ (ap (queryBytes (low t) c) (meant-same y n r e3)))
 
   pub yield-same : (c : ℕ) → Same OnTable (called p (Paper.Yield c)) (yieldOut t c)
-  unfolding called yieldOut stepBytes
+  unfolding called yieldOut stepBytes after
   yield-same c =
       by-table p t S OnTable t S _ _ (
       check-table _ (Day.unknownClient c) 2 _ _ (client c) λ e2.
-      by-step (Steps.Yield c) (accept-yield y c e2) (yield-quiet c) 0 0 refl _ refl)
+      by-step (Steps.Yield c) (accept-yield y c e2) (yield-updates y c (y .openBy c)) 0 0 refl _ refl)
 
   pub fork-same : (n : ℕ) → Same OnTable (called p (Paper.Fork n)) (forkOut t n)
   unfolding called forkOut stepBytes after

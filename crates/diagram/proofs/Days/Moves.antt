@@ -1,9 +1,9 @@
--- What is known when a step is accepted: the checks are unpacked here, and nowhere else.
+-- What is known when a step is accepted, read off its checks.
 use Prim.Native.Nat.{ℕ, zero, suc, _<_}
 use mathlib.Core.Bool.{Bool, true, false, not, _&&_}
-use mathlib.Core.Path.{_≡_}
+use mathlib.Core.Path.{_≡_, refl}
 use mathlib.Core.Logic.{_⊎_, inl, inr}
-use mathlib.Core.Option.{some}
+use mathlib.Core.Option.{Option, none, some}
 use native.Mathlib.Omega.{arith}
 use lib.Dec.{eqb}
 use borrow.Author.Tests.{eqb-true, eqb-false, ne-eqb, ltb-true, not-true, not-false}
@@ -52,6 +52,11 @@ pub data Moves (y : Day) : Day → Type 0 where
   yields : (c : ℕ) → c < clientLimit → Moves y (yield y c (y .openBy c))
   forksAt : (r : ℕ) → CanFork y r → Moves y (forkAt y r)
   joinsInto : (a b : ℕ) → CanJoin y a b → Moves y (joinInto y a b)
+
+-- a yield takes no update
+pub yield-updates : (y : Day) (c : ℕ) (o : Option ℕ) → yield y c o .updates ≡ y .updates
+yield-updates y c none = refl
+yield-updates y c (some t) = refl
 
 -- the first of some tests does not apply, and none of the others
 none-of : (b rest : Bool) → (not b && rest) ≡ true → (b ≡ false) × (rest ≡ true)

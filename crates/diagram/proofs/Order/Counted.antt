@@ -1,44 +1,27 @@
 -- After every run of accepted steps, every update taken is the own update of one revision that is out (02, U1).
-use Prim.Native.Nat.{_+_, _<_, _≤_, suc, zero, ℕ}
+use Prim.Native.Nat.{_+_, _<_, ℕ}
 use mathlib.Core.Bool.{Bool, false, true}
-use mathlib.Core.Path.{_≡_, refl, sym}
+use mathlib.Core.Path.{_≡_, refl}
 use mathlib.Core.Option.{Option, none, some}
 use mathlib.Core.List.{List, [], _∷_}
 use native.Mathlib.Omega.{arith}
 use lib.ListN.{length, length-append}
 use lib.Dec.{eqb}
-use borrow.Author.Tests.{eq-eqb, eqb-false, eqb-true, ne-eqb}
+use borrow.Author.Tests.{eq-eqb, eqb-true, ne-eqb}
 use Rattle.diagram.proofs.Days.Moves.{CanJoin, Moves, enters, forksAt, joinsInto, step-moves, yields}
 use Rattle.diagram.proofs.Graph.Tables.{tabulate-newest, tabulate-older}
 use Rattle.diagram.proofs.Order.Growth.{Fine, fine-fresh}
 use Rattle.diagram.proofs.Order.Runs.{along, fine-step}
-use Rattle.diagram.specs.Counts.{OwnAddsUp, ownIfOut, sumBelow}
+use Rattle.diagram.specs.Counts.{OwnAddsUp, ownIfOut}
 use Rattle.diagram.specs.Day.{Day, fresh}
 use Rattle.diagram.specs.Diagram.{Vertex, event, fork, join, start}
 use Rattle.diagram.specs.Effects.{entry, own, ownStep, tabulate}
 use Rattle.diagram.specs.Steps.{Accepted, Step, accepted, after, enter, forkAt, joinInto, newUpdate, run, yield}
 use Rattle.lists.proofs.Cases.{cases}
 use Rattle.lists.proofs.Changed.{changed-other, changed-same}
+use Rattle.lists.proofs.Sums.{sum-changed, sum-same}
 use Rattle.lists.specs.Lists.{changed}
-
--- a sum of the same values; of values that end; and with one value changed
-pub sum-same : (n : ℕ) (f g : ℕ → ℕ) → ((x : ℕ) → x < n → f x ≡ g x) → sumBelow n f ≡ sumBelow n g
-sum-same zero f g h = refl
-sum-same (suc n) f g h = let a = sum-same n f g (λ x l. h x (omega arith)) in let b = h n (omega arith) in omega arith
-
-pub sum-ends : (n m : ℕ) (f : ℕ → ℕ) → n ≤ m → ((x : ℕ) → n ≤ x → f x ≡ 0) → sumBelow m f ≡ sumBelow n f
-sum-ends n zero f l h = let z : n ≡ 0 = omega arith in rw z
-sum-ends n (suc m) f l h =
-    cases (eqb n (suc m))
-    (λ e. rw (eqb-true n (suc m) e))
-    (λ e. let q = eqb-false n (suc m) e in let a = sum-ends n m f (omega arith) h in let b = h m (omega arith) in omega arith)
-
-sum-changed : (n a : ℕ) (f g : ℕ → ℕ) → a < n → ((x : ℕ) → x < n → (x ≡ a → ⊥) → g x ≡ f x) → sumBelow n g + f a ≡ sumBelow n f + g a
-sum-changed zero a f g l h = absurd (omega arith)
-sum-changed (suc n) a f g l h =
-    cases (eqb a n)
-    (λ e. let z = eqb-true a n e in let s = sum-same n g f (λ x k. h x (omega arith) (λ q. omega arith)) in rw z (omega arith))
-    (λ e. let z = eqb-false a n e in let s = sum-changed n a f g (omega arith) (λ x k. h x (omega arith)) in let b = h n (omega arith) (λ q. z (sym q)) in omega arith)
+use Rattle.lists.specs.Sums.{sumBelow}
 
 -- each step: an update is one more on its revision, a join puts the joinee's own behind the joiner's
 module _ (y : Day) (F : Fine y) where

@@ -10,17 +10,17 @@ use Rattle.table.proofs.fill.fill.Tie as tie
 returns : tie.Need-returns
 returns c = c .refused .ensures ∙ no-fill _ (no-table _ (sym (c .before .before .before .check-table .ensures) ∙ c .before .enum-told2 .given .1)) _
 
-part-fill-sound-end : tie.Need-part-fill-sound-end
-part-fill-sound-end c = let h = is-table _ (sym (c .before .before .check-table .ensures) ∙ c .enum-told .given .1) .1 in search needs
+part-fill-in-end : tie.Need-part-fill-in-end
+part-fill-in-end c = let h = is-table _ (sym (c .before .before .check-table .ensures) ∙ c .enum-told .given .1) .1 in search needs
 
-fill-sound-requires : tie.Need-fill-sound-requires
-fill-sound-requires c κs = let h = is-table _ (sym (c .before .before .before .check-table .ensures) ∙ c .before .enum-told .given .1) .1 in search needs
+fill-in-requires : tie.Need-fill-in-requires
+fill-in-requires c κs = let h = is-table _ (sym (c .before .before .before .check-table .ensures) ∙ c .before .enum-told .given .1) .1 in search needs
 
 returns-2 : tie.Need-returns-2
 unfolding low
 returns-2 c =
     let at-sound = c .before .before in
-    c .fill-sound .ensures ∙ fill-of _ _ (is-table _ (sym (at-sound .before .before .check-table .ensures) ∙ at-sound .enum-told .given .1) .0)
+    c .fill-in .ensures ∙ fill-of _ _ (is-table _ (sym (at-sound .before .before .check-table .ensures) ∙ at-sound .enum-told .given .1) .0)
 
 pub fill-spec : {M : Type 1} → statement M
 fill-spec = tie.close (tie.spec
@@ -31,6 +31,6 @@ fill-spec = tie.close (tie.spec
     returns
     (λ c. search needs)
     (λ c. search needs)
-    part-fill-sound-end
-    fill-sound-requires
+    part-fill-in-end
+    fill-in-requires
     returns-2)

@@ -1,19 +1,20 @@
--- The lids add up to the updates accepted, after every list of calls (02, U1).
+-- What fills tell adds up to the updates accepted, after every list of calls (02, U1).
 use Prim.Native.Nat.{ℕ, suc, _+_, _<_, _≤_}
 use mathlib.Core.Path.{_≡_, refl, _∙_, ap, sym}
-use mathlib.Core.Option.{Option, none, some}
 use mathlib.Core.List.{List, [], _∷_}
 use native.Mathlib.Omega.{arith}
 use borrow.Author.Tests.{le-ltb, lt-ltb, ne-eqb}
 use Rattle.lists.proofs.Cases.{cases}
 use Rattle.diagram.specs.Counts.{OwnAddsUp, ownIfOut}
-use Rattle.diagram.specs.Day.{Day, meant}
-use Rattle.diagram.specs.Steps.{after, yield}
-use Rattle.diagram.proofs.Order.Counted.{own-adds-up, sum-same}
+use Rattle.diagram.specs.Day.{meant}
+use Rattle.diagram.specs.Steps.{after}
+use Rattle.diagram.proofs.Days.Moves.{yield-updates}
+use Rattle.lists.proofs.Sums.{sum-same}
+use Rattle.diagram.proofs.Order.Counted.{own-adds-up}
 use Rattle.plain.specs.Calls.{Call, Update, Query, Yield, Fork, Join, Show, Fill}
 use Rattle.plain.specs.Record.{PlainDay, freshDay}
 use Rattle.plain.specs.Answers.{Outcome, called, dayFrom, dayAfter, answersFrom, answers}
-use Rattle.plain.specs.Lids.{countsOne, acceptedIn, LidsAddUp}
+use Rattle.plain.specs.Fills.{countsOne, acceptedIn, codesOf, FillsAddUp}
 use Rattle.plain.specs.Taken.{stepsAfter}
 use Rattle.plain.proofs.Ends.{Ends, no, yes, was-taken, update-ends, query-ends, yield-ends, fork-ends, join-ends, show-ends, fill-ends}
 use Rattle.plain.proofs.LineUp.{lined-up}
@@ -41,21 +42,17 @@ adds-end : (p : PlainDay) {Yes : Outcome → Type 0} {o : Outcome} (c : Call) �
 adds-end p c g (no k) = none-more (p .day .updates) ∙ ap (λ i. p .day .updates + i) (sym (refused-none c k))
 adds-end p c g (yes {o} h) = g o h
 
-yield-quiet : (y : Day) (c : ℕ) (o : Option ℕ) → yield y c o .updates ≡ y .updates + 0
-yield-quiet y c none = none-more (y .updates)
-yield-quiet y c (some t) = none-more (y .updates)
-
 adds : (p : PlainDay) (c : Call) → Adds p c (called p c)
 unfolding after
 adds p (Update c n k bib v) = adds-end p (Update c n k bib v) (λ o h. rw (h .is) (one-more (p .day .updates))) (update-ends p c n k bib v)
 adds p (Query c n bib) = adds-end p (Query c n bib) (λ o h. rw (h .is) (none-more (p .day .updates))) (query-ends p c n bib)
-adds p (Yield c) = adds-end p (Yield c) (λ o h. rw (h .is) (yield-quiet (p .day) c (p .day .openBy c))) (yield-ends p c)
+adds p (Yield c) = adds-end p (Yield c) (λ o h. rw (h .is) (yield-updates (p .day) c (p .day .openBy c) ∙ none-more (p .day .updates))) (yield-ends p c)
 adds p (Fork n) = adds-end p (Fork n) (λ o h. rw (h .is) (none-more (p .day .updates))) (fork-ends p n)
 adds p (Join n m) = adds-end p (Join n m) (λ o h. rw (h .is) (none-more (p .day .updates))) (join-ends p n m)
 adds p (Show n room) = adds-end p (Show n room) (λ o h. rw (h .is) (none-more (p .day .updates))) (show-ends p n room)
 adds p (Fill n) = adds-end p (Fill n) (λ o h. rw (h .is) (none-more (p .day .updates))) (fill-ends p n)
 
-counted-from : (cs : List Call) (p : PlainDay) → dayFrom p cs .day .updates ≡ p .day .updates + acceptedIn cs (answersFrom p cs)
+counted-from : (cs : List Call) (p : PlainDay) → dayFrom p cs .day .updates ≡ p .day .updates + acceptedIn cs (codesOf (answersFrom p cs))
 unfolding dayFrom answersFrom acceptedIn
 counted-from [] p = omega arith
 counted-from (c ∷ cs) p = let a = adds p c in let b = counted-from cs (called p c .next) in omega arith
@@ -63,26 +60,26 @@ counted-from (c ∷ cs) p = let a = adds p c in let b = counted-from cs (called 
 nothing-before : (n : ℕ) → 0 + n ≡ n
 nothing-before n = omega arith
 
-counted : (cs : List Call) → dayAfter cs .day .updates ≡ acceptedIn cs (answers cs)
+counted : (cs : List Call) → dayAfter cs .day .updates ≡ acceptedIn cs (codesOf (answers cs))
 unfolding dayAfter answers
-counted cs = counted-from cs freshDay ∙ nothing-before (acceptedIn cs (answersFrom freshDay cs))
+counted cs = counted-from cs freshDay ∙ nothing-before (acceptedIn cs (codesOf (answersFrom freshDay cs)))
 
--- a lid is what its revision, if it is out, has of its own
-lid-is : (p : PlainDay) (n : ℕ) → n < p .day .revisions → called p (Fill n) .answer .value ≡ ownIfOut (p .day) n
+-- a fill tells what its revision, if it is out, has of its own
+fill-is : (p : PlainDay) (n : ℕ) → n < p .day .revisions → called p (Fill n) .answer .value ≡ ownIfOut (p .day) n
 unfolding called meant
-lid-is p n l = rw (lt-ltb n (p .day .revisions) l) (cases (p .day .joined n) (λ e. rw e) (λ e. rw e))
+fill-is p n l = rw (lt-ltb n (p .day .revisions) l) (cases (p .day .joined n) (λ e. rw e) (λ e. rw e))
 
--- and a number not given out has none
-pub no-lid : (p : PlainDay) (n : ℕ) → p .day .revisions ≤ n → called p (Fill n) .answer .value ≡ 0
+-- and of a number not given out nothing
+pub no-fill : (p : PlainDay) (n : ℕ) → p .day .revisions ≤ n → called p (Fill n) .answer .value ≡ 0
 unfolding called meant
-no-lid p n l = rw (le-ltb n (p .day .revisions) l)
+no-fill p n l = rw (le-ltb n (p .day .revisions) l)
 
 adds-up : (cs : List Call) → OwnAddsUp (dayAfter cs .day)
 adds-up cs = let L = lined-up cs in rw (L .steps) (own-adds-up (stepsAfter cs) (L .accepted))
 
-pub on-paper : (cs : List Call) → LidsAddUp cs
-on-paper cs = record {
-  sum = sum-same (p .day .revisions) _ (ownIfOut (p .day)) (lid-is p) ∙ adds-up cs ∙ counted cs;
+pub fills-add-up : (cs : List Call) → FillsAddUp cs
+fills-add-up cs = record {
+  sum = sum-same (p .day .revisions) _ (ownIfOut (p .day)) (fill-is p) ∙ adds-up cs ∙ counted cs;
   total = λ n e. let h = was-taken (fill-ends p n) e in ap (λ o. o .answer .total) (h .is) ∙ counted cs;
 }
   where

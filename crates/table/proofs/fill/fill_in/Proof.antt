@@ -1,10 +1,10 @@
--- `table::fill::fill_sound` meets its contract: the first check that applies decides. Assumes nothing.
+-- `table::fill::fill_in` meets its contract: the first check that applies decides. Assumes nothing.
 use mathlib.Core.Path.{sym, _∙_}
 use borrow.Author.Needs.{needs}
 use Rattle.table.proofs.Checks.{was-given, is-out, is-joined}
 use Rattle.table.proofs.Calls.{fill-never, fill-joined, fill-told}
-use Rattle.table.proofs.fill.fill_sound.Statement.{statement}
-use Rattle.table.proofs.fill.fill_sound.Tie as tie
+use Rattle.table.proofs.fill.fill_in.Statement.{statement}
+use Rattle.table.proofs.fill.fill_in.Tie as tie
 
 returns : tie.Need-returns
 returns c =
@@ -33,8 +33,8 @@ returns-3 c =
     c .tell .ensures
     ∙ fill-told _ _ _ (sym (g .before .before .before .check-given .ensures) ∙ g .before .r .given .1) (is-out _ _ (sym (at-out .before .before .check-joined .ensures) ∙ at-out .enum-told2 .given .1))
 
-pub fill-sound-spec : {M : Type 1} → statement M
-fill-sound-spec = tie.close (tie.spec
+pub fill-in-spec : {M : Type 1} → statement M
+fill-in-spec = tie.close (tie.spec
     (λ c κs. search needs)
     (λ c. search needs)
     (λ c. search needs)

@@ -1,0 +1,64 @@
+-- What fills of a table tell adds up to the updates accepted, after every list of calls (02, U1).
+use Prim.Native.Nat.{ℕ, _≤_}
+use mathlib.Core.Path.{_≡_, refl, sym, _∙_, ap}
+use mathlib.Core.List.{List, [], _∷_}
+use native.Mathlib.Omega.{arith}
+use lib.ListN.{length}
+use Rattle.diagram.specs.Day.{nextNumber}
+use Rattle.lists.proofs.Sums.{sum-ends, sum-same}
+use Rattle.cells.specs.Sizes.{revisions}
+use Rattle.plain.specs.Calls as Paper
+use Rattle.plain.specs.Record.{PlainDay, freshDay}
+use Rattle.plain.specs.Answers.{called, dayAfter, answers, answersFrom}
+use Rattle.plain.specs.Fills.{acceptedIn, codesOf}
+use Rattle.plain.proofs.Fills as Plain
+use Rattle.plain.proofs.Fills.{no-fill}
+use Rattle.cells.proofs.Range.{ranges}
+use Rattle.table.specs.Halves.{bytes, low}
+use Rattle.table.specs.Calls.{freshOut, fillOut}
+use Rattle.consistency.specs.Table.{Request, onPaper, calls, repliesOn, replies, tableAfter}
+use Rattle.consistency.specs.Fills.{accepted, codesIn, fillSum, FillsAddUpOnDays}
+use Rattle.consistency.proofs.Table.Stands.{Stands, bytes-are}
+use Rattle.consistency.proofs.Table.Calls.{fill-same}
+use Rattle.consistency.proofs.Table.Follows.{fresh-stands, stands-after, table-follows}
+
+-- the same codes, at the table and on paper
+same-codes : (qs : List Request) (p : PlainDay) → codesIn (replies qs (answersFrom p (calls qs))) ≡ codesOf (answersFrom p (calls qs))
+unfolding replies answersFrom
+same-codes [] p = refl
+same-codes (q ∷ qs) p = ap (λ codes. called p (onPaper q) .answer .code ∷ codes) (same-codes qs (called p (onPaper q) .next))
+
+module _ (t : List ℕ) (h : length t ≡ bytes) (qs : List Request) where
+  left : List ℕ
+  left = tableAfter (freshOut t .lent) qs
+
+  p : PlainDay
+  p = dayAfter (calls qs)
+
+  S : Stands p left
+  unfolding left p dayAfter
+  S = stands-after qs freshDay (freshOut t .lent) (fresh-stands t h)
+
+  few : p .day .revisions ≤ revisions
+  unfolding nextNumber
+  few = let a = bytes-are p left S .follow .same-number in let b = ranges (low left) (bytes-are p left S .ranged) .most-given in omega arith
+
+  history : accepted qs (repliesOn (freshOut t .lent) qs) ≡ acceptedIn (calls qs) (codesOf (answers (calls qs)))
+  unfolding answers
+  history = ap (accepted qs) (table-follows t h .2 qs) ∙ ap (acceptedIn (calls qs)) (same-codes qs freshDay)
+
+  summed : fillSum left ≡ accepted qs (repliesOn (freshOut t .lent) qs)
+  unfolding p
+  summed =
+      sum-same revisions _ (λ n. called p (Paper.Fill n) .answer .value) (λ n l. fill-same p left S n .own)
+      ∙ sum-ends (p .day .revisions) revisions (λ n. called p (Paper.Fill n) .answer .value) few (no-fill p)
+      ∙ Plain.fills-add-up (calls qs) .sum
+      ∙ sym history
+
+  told : (n : ℕ) → fillOut left n .code ≡ 0 → fillOut left n .total ≡ accepted qs (repliesOn (freshOut t .lent) qs)
+  unfolding p
+  told n e = let f = fill-same p left S n in f .total ∙ Plain.fills-add-up (calls qs) .total n (sym (f .code) ∙ e) ∙ sym history
+
+pub fills-add-up : FillsAddUpOnDays
+unfolding left
+fills-add-up t h qs = record { sum = summed t h qs; total = told t h qs }
