@@ -6,11 +6,10 @@ use mathlib.Core.List.{List, [], _++_}
 use native.Mathlib.Nat.{mul-le-mul-left, mul-suc}
 use native.Mathlib.Omega.{arith}
 use lib.Dec.{eqb, ltb}
-use lib.ListN.{length, getD, take, drop, length-append, length-drop, List·getD-append}
+use lib.ListN.{length, take, drop, length-append, length-drop, List·getD-append}
 use lib.Seq.{getD-take, getD-drop, getD-append-add, length-take-le}
 use borrow.Author.Tests.{eqb-true, eqb-false, ltb-true, ltb-false, lt-ltb}
 use Rattle.lists.proofs.Cases.{cases, and-true}
-use Rattle.cells.specs.Tables.{tab}
 use Rattle.cells.specs.Words.{byte}
 use Rattle.cells.specs.Marks.{bit, markIn, worth, byteOf, rowBytes, putRow, pack, markAt, rows, markOf}
 use Rattle.cells.proofs.Tables.{length-tab, getD-tab, tab-same}

@@ -87,10 +87,10 @@ impl Table {
     pub const BYTES: usize = 40960;
 
     // A client without events may start anywhere: every caught-up mark, eight to a byte.
-    pub fn fresh_caught() -> [[u8; 8]; Table::CLIENTS]
+    pub fn fresh_caught() -> [[u8; Table::REVISIONS / 8]; Table::CLIENTS]
         ensures { λ r. ⌜ r ≡ replicate clients (replicate 8 255) ⌝ }
     {
-        [[255; 8]; Table::CLIENTS]
+        [[255; Table::REVISIONS / 8]; Table::CLIENTS]
     }
 
     // No transaction is open.
