@@ -6,13 +6,12 @@ use mathlib.Core.List.{List, [], _++_}
 use native.Mathlib.Nat.{mul-le-mul-left, mul-suc}
 use native.Mathlib.Omega.{arith}
 use lib.Dec.{eqb, ltb}
-use lib.ListN.{length, getD, take, drop, length-append, length-drop, List·getD-append}
+use lib.ListN.{length, take, drop, length-append, length-drop, List·getD-append}
 use lib.Seq.{getD-take, getD-drop, getD-append-add, length-take-le}
 use borrow.Author.Tests.{eqb-true, eqb-false, ltb-true, ltb-false, lt-ltb}
 use Rattle.lists.proofs.Cases.{cases, and-true}
-use Rattle.cells.specs.Tables.{tab}
 use Rattle.cells.specs.Words.{byte}
-use Rattle.cells.specs.Marks.{bit, markIn, worth, byteOf, rowBytes, putRow, pack, rows, markOf}
+use Rattle.cells.specs.Marks.{bit, markIn, worth, byteOf, rowBytes, putRow, pack, markAt, rows, markOf}
 use Rattle.cells.proofs.Tables.{length-tab, getD-tab, tab-same}
 
 at-most-one : (b : Bool) → worth b 1 ≤ 1
@@ -83,9 +82,16 @@ module _ (t q : List ℕ) (a n : ℕ) (lq : length q ≡ n) (fits : a + n ≤ le
   pub pasted-length : length pasted ≡ length t
   pasted-length = let e = length-take-le a t (omega arith) in rw (length-append, length-append, e, lq, length-drop) (omega arith)
 
-rowBytes-length : (w : ℕ) (f : ℕ → Bool) → length (rowBytes w f) ≡ w
+pub rowBytes-length : (w : ℕ) (f : ℕ → Bool) → length (rowBytes w f) ≡ w
 unfolding rowBytes
 rowBytes-length w f = length-tab (λ i. byteOf (λ j. f (8 * i + j))) w
+
+-- a row of marks as bytes is read back
+pub mark-row-bytes : (w : ℕ) (f : ℕ → Bool) (y : ℕ) → y < 8 * w → markAt (rowBytes w f) y ≡ f y
+unfolding rowBytes
+mark-row-bytes w f y h =
+    let e : 8 * (y / 8) + y % 8 ≡ y = omega arith in
+    ap (λ b. bit b (y % 8)) (getD-tab (λ i. byteOf (λ j. f (8 * i + j))) w (y / 8) 0 (omega arith)) ∙ bit-byte (λ j. f (8 * (y / 8) + j)) (y % 8) (omega arith) ∙ ap f e
 
 -- a row's place: rows of w bytes
 next-row : (w x r : ℕ) → x < r → w * x + w ≤ w * r
@@ -112,12 +118,8 @@ module _ (w n : ℕ) (t : List ℕ) (r : ℕ) (f : ℕ → Bool) (size : length 
       ap (byte (putRow w t r f)) p ∙ behind t (rowBytes w f) (w * r) w (rowBytes-length w f) fits j ∙ ap (byte t) (omega arith))
 
   row-bit : (y : ℕ) → y < 8 * w → bit (byte (putRow w t r f) (w * r + y / 8)) (y % 8) ≡ f y
-  unfolding putRow rowBytes
-  row-bit y h =
-      let g : ℕ → ℕ = λ i. byteOf (λ j. f (8 * i + j)) in
-      let e : 8 * (y / 8) + y % 8 ≡ y = omega arith in
-      ap (λ b. bit b (y % 8)) (inside t (rowBytes w f) (w * r) w (rowBytes-length w f) fits (y / 8) (omega arith) ∙ getD-tab g w (y / 8) 0 (omega arith))
-      ∙ bit-byte (λ j. f (8 * (y / 8) + j)) (y % 8) (omega arith) ∙ ap f e
+  unfolding putRow
+  row-bit y h = ap (λ b. bit b (y % 8)) (inside t (rowBytes w f) (w * r) w (rowBytes-length w f) fits (y / 8) (omega arith)) ∙ mark-row-bytes w f y h
 
   -- the marks after row r was replaced
   pub mark-row : (x y : ℕ) → markIn w n (putRow w t r f) x y ≡ cond (eqb x r) (ltb y (8 * w) && f y) (markIn w n t x y)
@@ -163,27 +165,30 @@ pub mark-pack : (n : ℕ) (f : ℕ → ℕ → Bool) → Within n f → (x y : �
 mark-pack n f out x y = packed n f x y ∙ cases (ltb x n && ltb y 64) (λ e. rw e) (λ e. rw e (sym (out x y e)))
 
 -- only the marks inside count
-byte-same : (f g : ℕ → Bool) → ((j : ℕ) → j < 8 → f j ≡ g j) → byteOf f ≡ byteOf g
+pub byte-same : (f g : ℕ → Bool) → ((j : ℕ) → j < 8 → f j ≡ g j) → byteOf f ≡ byteOf g
 byte-same f g h = rw (h 0 (omega arith), h 1 (omega arith), h 2 (omega arith), h 3 (omega arith), h 4 (omega arith), h 5 (omega arith), h 6 (omega arith), h 7 (omega arith))
 
 pub pack-same : (n : ℕ) (f g : ℕ → ℕ → Bool) → ((x y : ℕ) → x < n → y < 64 → f x y ≡ g x y) → pack n f ≡ pack n g
 unfolding pack
 pack-same n f g h = tab-same _ _ (8 * n) (λ i l. byte-same (λ j. f (i / 8) (8 * (i % 8) + j)) (λ j. g (i / 8) (8 * (i % 8) + j)) (λ j m. h (i / 8) (8 * (i % 8) + j) (omega arith) (omega arith)))
 
+pub rowBytes-same : (w : ℕ) (f g : ℕ → Bool) → ((y : ℕ) → y < 8 * w → f y ≡ g y) → rowBytes w f ≡ rowBytes w g
+unfolding rowBytes
+rowBytes-same w f g h = tab-same _ _ w (λ i l. byte-same (λ j. f (8 * i + j)) (λ j. g (8 * i + j)) (λ j m. h (8 * i + j) (omega arith)))
+
 pub putRow-same : (w : ℕ) (t : List ℕ) (x : ℕ) (f g : ℕ → Bool) → ((y : ℕ) → y < 8 * w → f y ≡ g y) → putRow w t x f ≡ putRow w t x g
-unfolding putRow rowBytes
-putRow-same w t x f g h =
-    ap (λ q. take (w * x) t ++ (q ++ drop (w * x + w) t)) (tab-same _ _ w (λ i l. byte-same (λ j. f (8 * i + j)) (λ j. g (8 * i + j)) (λ j m. h (8 * i + j) (omega arith))))
+unfolding putRow
+putRow-same w t x f g h = ap (λ q. take (w * x) t ++ (q ++ drop (w * x + w) t)) (rowBytes-same w f g h)
 
 -- rows by value
 pub mark-rows : (n : ℕ) (f : ℕ → ℕ → Bool) (x y : ℕ) → x < n → y < 64 → markOf (rows n f) x y ≡ f x y
 unfolding rows
-mark-rows n f x y h g = ap (λ r. getD r y false) (getD-tab (λ z. tab (f z) 64) n x [] h) ∙ getD-tab (f x) 64 y false g
+mark-rows n f x y h g = ap (λ r. markAt r y) (getD-tab (λ z. rowBytes 8 (f z)) n x [] h) ∙ mark-row-bytes 8 (f x) y g
 
 pub rows-same : (n : ℕ) (f g : ℕ → ℕ → Bool) → ((x y : ℕ) → x < n → y < 64 → f x y ≡ g x y) → rows n f ≡ rows n g
 unfolding rows
-rows-same n f g h = tab-same _ _ n (λ x l. tab-same (f x) (g x) 64 (λ y m. h x y l m))
+rows-same n f g h = tab-same _ _ n (λ x l. rowBytes-same 8 (f x) (g x) (λ y m. h x y l m))
 
 pub rows-length : (n : ℕ) (f : ℕ → ℕ → Bool) → length (rows n f) ≡ n
 unfolding rows
-rows-length n f = length-tab (λ x. tab (f x) 64) n
+rows-length n f = length-tab (λ x. rowBytes 8 (f x)) n

@@ -3,8 +3,8 @@ use Prim.Native.Nat.{ℕ, zero, suc, _+_, _<_}
 use mathlib.Core.Bool.{Bool, true, false, _&&_}
 use mathlib.Core.Path.{_≡_, refl, sym, ap, _∙_}
 use mathlib.Core.Logic.{_⊎_, inl, inr}
-use mathlib.Core.List.{List, [], _∷_, _++_, append-assoc}
-use native.Mathlib.Nat.{add-zero, not-suc-le-zero}
+use mathlib.Core.List.{List, [], _∷_, _++_, append-assoc, append-nil}
+use native.Mathlib.Nat.{add-suc, add-zero, not-suc-le-zero}
 use native.Mathlib.Numerals.{add-one}
 use native.Mathlib.Omega.{arith}
 use lib.Dec.{eqb}
@@ -52,6 +52,11 @@ pub tab-of : {A : Type 0} (l : List A) (d : A) (n : ℕ) → length l ≡ n → 
 tab-of l d n h =
     let m = length-tab (λ i. getD l i d) n in
     ext-getD d l _ (omega arith) (λ i q. sym (getD-tab (λ j. getD l j d) n i d (omega arith)))
+
+pub tab-append : {A : Type 0} (f : ℕ → A) (m n : ℕ) → tab f (m + n) ≡ tab f m ++ tab (λ i. f (m + i)) n
+unfolding tab
+tab-append f m zero = rw (add-zero, append-nil)
+tab-append f m (suc n) = rw (add-suc, tab-append f m n) (append-assoc (tab f m) (tab (λ i. f (m + i)) n) (f (m + n) ∷ []))
 
 pub set-tab : {A : Type 0} (f : ℕ → A) (n a : ℕ) (v : A) → a < n → set (tab f n) a v ≡ tab (changed f a v) n
 set-tab f n a v h =

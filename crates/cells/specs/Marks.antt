@@ -34,9 +34,13 @@ putRow w t x f = take (w * x) t ++ (rowBytes w f ++ drop (w * x + w) t)
 unfoldable pub pack : ℕ → (ℕ → ℕ → Bool) → List ℕ
 pack n f = tab (λ i. byteOf (λ j. f (i / 8) (8 * (i % 8) + j))) (8 * n)
 
--- n rows of 64 marks as lists, which is how code has them by value; and a mark of such rows
-unfoldable pub rows : ℕ → (ℕ → ℕ → Bool) → List (List Bool)
-rows n f = tab (λ x. tab (f x) 64) n
+-- mark y of a row of bytes
+abbrev pub markAt : List ℕ → ℕ → Bool
+markAt t y = bit (byte t (y / 8)) (y % 8)
 
-abbrev pub markOf : List (List Bool) → ℕ → ℕ → Bool
-markOf s x y = getD (getD s x []) y false
+-- n rows of 64 marks as rows of eight bytes, which is how code has them by value; and a mark of such rows
+unfoldable pub rows : ℕ → (ℕ → ℕ → Bool) → List (List ℕ)
+rows n f = tab (λ x. rowBytes 8 (f x)) n
+
+abbrev pub markOf : List (List ℕ) → ℕ → ℕ → Bool
+markOf s x = markAt (getD s x [])

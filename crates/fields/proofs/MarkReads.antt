@@ -5,15 +5,18 @@ use mathlib.Core.Path.{_≡_, refl, ap, _∙_}
 use mathlib.Core.List.{List}
 use native.Mathlib.Numerals.{sub-one}
 use native.Mathlib.Omega.{arith}
-use lib.ListN.{getD}
+use lib.ListN.{getD, replicate}
 use borrow.Author.Tests.{lt-ltb}
 use Rattle.cells.specs.Sizes.{revisions, clients, updates}
 use Rattle.cells.specs.Parts.{offset, size, rowsPart, seenPart, caughtPart}
-use Rattle.cells.specs.Marks.{bit, putRow}
+use Rattle.cells.specs.Words.{byte}
+use Rattle.cells.specs.Marks.{bit, putRow, rowBytes}
 use Rattle.cells.specs.Cells.{marked}
 use Rattle.cells.specs.Decode.{cells}
 use Rattle.cells.specs.Steps.{putRowOf}
+use Rattle.cells.proofs.Marks.{rowBytes-same}
 use Rattle.cells.proofs.Parts.{part-byte}
+use Rattle.marks.proofs.Laws.{no-marks}
 
 module _ (d : List ℕ) where
   pub seen-at : (x y : ℕ) → x < revisions → y < revisions → bit (getD d (38400 + (8 * x + y / 8)) 0) (y % 8) ≡ cells d .seen x y
@@ -40,6 +43,13 @@ module _ (d : List ℕ) where
   unfolding cells offset size
   marked-at zero u h n l e = absurd (n refl)
   marked-at (suc r) u h n l e = rw (e, sub-one, lt-ltb r 63 (omega arith), lt-ltb u updates l) (let e : 512 * r + u / 8 ≡ 0 + (512 * r + u / 8) = omega arith in ap (λ z. bit (getD d z 0) (u % 8)) e ∙ ap (λ b. bit b (u % 8)) (part-byte d rowsPart 0 32256 (512 * r + u / 8) refl refl (omega arith)))
+
+  -- a whole row
+  pub row-used : (r x : ℕ) → 0 < r → r < revisions → x ≡ r → cells d .used r ≡ true → rowBytes 512 (λ u. bit (byte d (512 * (x - 1) + u / 8)) (u % 8)) ≡ rowBytes 512 (marked (cells d) r)
+  row-used r x l h q e = rowBytes-same 512 _ (marked (cells d) r) (λ u m. ap (λ z. bit (byte d (512 * (z - 1) + u / 8)) (u % 8)) q ∙ marked-at r u h (λ z. omega arith) m e)
+
+  pub row-unused : (r : ℕ) → cells d .used r ≡ false → replicate 512 0 ≡ rowBytes 512 (marked (cells d) r)
+  row-unused r e = no-marks 512 ∙ rowBytes-same 512 _ (marked (cells d) r) (λ u h. unused-unmarked r u e)
 
 -- the rows begin at revision 1
 pub row-of : (t : List ℕ) (c x : ℕ) (f : ℕ → Bool) → 0 < c → x ≡ c → putRow 512 t (x - 1) f ≡ putRowOf t c f

@@ -1,13 +1,16 @@
 -- Bytes that are all 0, as parts; marks that are all set.
-use Prim.Native.Nat.{ℕ, zero, suc, _≤_}
-use mathlib.Core.Bool.{Bool, true, false}
+use Prim.Native.Nat.{ℕ, zero, suc, _/_, _%_, _≤_}
+use mathlib.Core.Bool.{true}
 use mathlib.Core.Path.{_≡_, refl, sym, ap, _∙_}
 use mathlib.Core.List.{List, [], _++_, append-nil}
+use native.Mathlib.Omega.{arith}
 use lib.ListN.{length, replicate, drop, drop-of-length-le, getD-replicate, replicate-append-replicate}
 use Rattle.cells.specs.Sizes.{bytes}
 use Rattle.cells.specs.Parts.{parts, size, offset, inRow, glue}
-use Rattle.cells.specs.Marks.{pack, markOf}
+use Rattle.cells.specs.Tables.{every}
+use Rattle.cells.specs.Marks.{bit, pack, markOf}
 use Rattle.cells.proofs.Marks.{pack-same}
+use Rattle.cells.proofs.Tables.{every-at}
 
 zeros-in-row : (n : ℕ) → inRow (λ i. replicate (size i) 0) n ≡ replicate (offset n) 0
 unfolding inRow offset
@@ -24,5 +27,11 @@ unfolding offset size
 all-parts = refl
 
 -- every mark of n rows
-pub all-marked : (n : ℕ) (s : List (List Bool)) → s ≡ replicate n (replicate 64 true) → pack n (markOf s) ≡ pack n (λ x y. true)
-all-marked n s e = pack-same n (markOf s) (λ x y. true) (λ x y h g. ap (λ z. markOf z x y) e ∙ rw (getD-replicate n x (replicate 64 true) [] h) (getD-replicate 64 y true false g))
+all-ones : every (bit 255) 8 ≡ true
+unfolding every
+all-ones = refl
+
+pub all-marked : (n : ℕ) (s : List (List ℕ)) → s ≡ replicate n (replicate 8 255) → pack n (markOf s) ≡ pack n (λ x y. true)
+all-marked n s e =
+    pack-same n (markOf s) (λ x y. true)
+    (λ x y h g. ap (λ z. markOf z x y) e ∙ rw (getD-replicate n x (replicate {A = ℕ} 8 255) [] h, getD-replicate {A = ℕ} 8 (y / 8) 255 0 (omega arith)) (every-at (bit 255) 8 (y % 8) all-ones (omega arith)))

@@ -1,57 +1,59 @@
-// A revision's row of 4,096 inherited marks, by value: loaded from the cells, stored into 512 bytes.
+// A revision's row of 4,096 inherited marks, by value: its 512 bytes, loaded from the cells and stored.
 ghost use mathlib.Core.Path.{_≡_};
-ghost use mathlib.Core.Bool.{false};
-ghost use Prim.Native.Nat.{_<_};
-ghost use lib.ListN.{getD, length};
+ghost use Prim.Native.Nat.{_+_, _*_, _/_, _%_, _<_};
+ghost use lib.ListN.{length};
 ghost use Rattle.cells.specs.Sizes.{bytes, revisions};
-ghost use Rattle.cells.specs.Tables.{tab};
-ghost use Rattle.cells.specs.Marks.{putRow, rowBytes};
+ghost use Rattle.cells.specs.Words.{byte};
+ghost use Rattle.cells.specs.Marks.{bit, markAt, putRow, rowBytes};
 ghost use Rattle.cells.specs.Cells.{marked};
 ghost use Rattle.cells.specs.Decode.{cells};
+use crate::numbers::wide;
 use crate::read;
 use crate::table::Revision;
 use crate::table::Table;
 
-// What r inherited otherwise than by count.
-pub fn load(d: &[u8], r: Revision) -> [bool; Table::UPDATES]
-    requires { ⌜ (length (now d) ≡ bytes) × (r .0 < revisions) ⌝ }
-    ensures { λ row. ⌜ row ≡ tab (marked (cells (now (d .entry))) (r .0)) 4096 ⌝ }
+// Row x of the rows.
+fn copy(d: &[u8], x: usize) -> [u8; Table::ROW]
+    requires { ⌜ (length (now d) ≡ bytes) × (x < 63) ⌝ }
+    ensures { λ row. ⌜ row ≡ rowBytes 512 (λ u. bit (byte (now (d .entry)) (512 * x + u / 8)) (u % 8)) ⌝ }
 {
-    let mut row = [false; Table::UPDATES];
-    let mut u: usize = 0;
-    while u < 4096 {
-        row[u] = read::inherited(d, r, u);
-        u += 1;
+    let mut row = [0; Table::ROW];
+    let mut i: usize = 0;
+    while i < 512 {
+        row[i] = marks::bits::same(d[512 * x + i]);
+        i += 1;
     }
     row
 }
 
-// The row as 512 bytes.
-pub fn store(t: &mut [u8], row: [bool; Table::UPDATES])
+// What r, which is not the main revision, inherited otherwise than by count.
+pub fn load(d: &[u8], r: Revision) -> [u8; Table::ROW]
+    requires { ⌜ (length (now d) ≡ bytes) × (0 < r .0) × (r .0 < revisions) ⌝ }
+    ensures { λ row. ⌜ row ≡ rowBytes 512 (marked (cells (now (d .entry))) (r .0)) ⌝ }
+{
+    let x = wide(r.0) - 1;
+    if read::used(d, r) {
+        return copy(d, x);
+    }
+    [0; Table::ROW]
+}
+
+// The row as the 512 bytes of t.
+fn store(t: &mut [u8], row: [u8; Table::ROW])
     requires { ⌜ length (now t) ≡ 512 ⌝ }
-    ensures { λ _. ⌜ now (t .exit) ≡ rowBytes 512 (λ u. getD row u false) ⌝ }
+    ensures { λ _. ⌜ now (t .exit) ≡ rowBytes 512 (markAt row) ⌝ }
 {
     let mut i: usize = 0;
     while i < 512 {
-        let at = 8 * i;
-        t[i] = marks::bits::byte(
-            row[at],
-            row[at + 1],
-            row[at + 2],
-            row[at + 3],
-            row[at + 4],
-            row[at + 5],
-            row[at + 6],
-            row[at + 7],
-        );
+        t[i] = marks::bits::same(row[i]);
         i += 1;
     }
 }
 
 // Row x of the rows replaced.
-pub fn put(t: &mut [u8], x: usize, row: [bool; Table::UPDATES])
+pub fn put(t: &mut [u8], x: usize, row: [u8; Table::ROW])
     requires { ⌜ (length (now t) ≡ 32256) × (x < 63) ⌝ }
-    ensures { λ _. ⌜ now (t .exit) ≡ putRow 512 (now (t .entry)) x (λ u. getD row u false) ⌝ }
+    ensures { λ _. ⌜ now (t .exit) ≡ putRow 512 (now (t .entry)) x (markAt row) ⌝ }
 {
     let at = 512 * x;
     let end = at + 512;

@@ -1,8 +1,7 @@
 // The sizes of a day, and the numbers of revisions and clients, each of a type of its own.
 ghost use mathlib.Core.Path.{_≡_};
-ghost use mathlib.Core.Bool.{true};
 ghost use lib.ListN.{replicate};
-ghost use Rattle.cells.specs.Sizes.{revisions, clients, closed};
+ghost use Rattle.cells.specs.Sizes.{clients, closed};
 ghost use Rattle.cells.specs.Range.{signature};
 ghost use Rattle.fields.specs.Numbers.{revisionCheck};
 
@@ -82,13 +81,16 @@ impl Table {
 
     pub const UPDATES: usize = 4096;
 
+    // Bytes of a revision's row: a bit for each update.
+    pub const ROW: usize = 512;
+
     pub const BYTES: usize = 40960;
 
-    // A client without events may start anywhere: every caught-up mark.
-    pub fn fresh_caught() -> [[bool; Table::REVISIONS]; Table::CLIENTS]
-        ensures { λ r. ⌜ r ≡ replicate clients (replicate revisions true) ⌝ }
+    // A client without events may start anywhere: every caught-up mark, eight to a byte.
+    pub fn fresh_caught() -> [[u8; Table::REVISIONS / 8]; Table::CLIENTS]
+        ensures { λ r. ⌜ r ≡ replicate clients (replicate 8 255) ⌝ }
     {
-        [[true; Table::REVISIONS]; Table::CLIENTS]
+        [[255; Table::REVISIONS / 8]; Table::CLIENTS]
     }
 
     // No transaction is open.

@@ -1,16 +1,15 @@
 // Each cell written, by name: every function writes one part.
 ghost use mathlib.Core.Path.{_≡_};
-ghost use mathlib.Core.Bool.{false};
 ghost use mathlib.Core.List.{[], _++_, _∷_};
 ghost use Prim.Native.Nat.{_<_};
 ghost use lib.Dec.{eqb};
-ghost use lib.ListN.{getD, length, set, take};
+ghost use lib.ListN.{length, set, take};
 ghost use Rattle.lists.specs.Lists.{insert, remove};
 ghost use Rattle.cells.specs.Sizes.{bytes, clients, revisions, updates};
 ghost use Rattle.cells.specs.Parts.{split, wrote, lowPart, highPart, seenPart, caughtPart, statePart, usedPart, lastPart, firstPart};
 ghost use Rattle.cells.specs.Parts.{countPart, basePart, layoutPart, openedPart, countersPart, rowsPart};
 ghost use Rattle.cells.specs.Words.{putHalf, putWord};
-ghost use Rattle.cells.specs.Marks.{pack, putRow};
+ghost use Rattle.cells.specs.Marks.{markAt, pack, putRow};
 ghost use Rattle.cells.specs.Decode.{cells};
 ghost use Rattle.cells.specs.CellSteps.{forkSeen, forkCaught, joinSeen, joinCaught};
 ghost use Rattle.cells.specs.Steps.{putRowOf};
@@ -180,9 +179,9 @@ pub fn leave(d: &mut [u8], b: Revision)
 }
 
 // The row of revision c, which is not the main revision.
-pub fn row(d: &mut [u8], c: Revision, row: [bool; Table::UPDATES])
+pub fn row(d: &mut [u8], c: Revision, row: [u8; Table::ROW])
     requires { ⌜ (length (now d) ≡ bytes) × (0 < c .0) × (c .0 < revisions) ⌝ }
-    ensures { λ _. ⌜ now (d .exit) ≡ wrote (now (d .entry)) rowsPart (putRowOf (split (now (d .entry)) rowsPart) (c .0) (λ u. getD row u false)) ⌝ }
+    ensures { λ _. ⌜ now (d .exit) ≡ wrote (now (d .entry)) rowsPart (putRowOf (split (now (d .entry)) rowsPart) (c .0) (markAt row)) ⌝ }
 {
     let x = wide(c.0) - 1;
     crate::row::put(&mut d[ROWS..LOW], x, row);

@@ -1,39 +1,76 @@
--- Rows by value: one mark set, and marks that agree inside the rows stay so through each change.
-use Prim.Native.Nat.{ℕ, _<_}
-use mathlib.Core.Bool.{Bool, true, false}
-use mathlib.Core.Path.{_≡_, refl, _∙_, ap}
-use mathlib.Core.List.{List, []}
+-- Rows by value: one mark set, marks that agree inside the rows stay so through each change, and rows stored in turn.
+use Prim.Native.Nat.{ℕ, _+_, _*_, _/_, _%_, _<_, _≤_}
+use mathlib.Core.Bool.{Bool, true, false, cond, not, _||_, _&&_, and-false, and-true}
+use mathlib.Core.Path.{_≡_, refl, sym, _∙_, ap}
+use mathlib.Core.List.{List, [], _++_, append-assoc}
 use native.Mathlib.Omega.{arith}
 use lib.Dec.{eqb}
-use lib.ListN.{length, set, getD, replicate, length-replicate, getD-replicate}
-use borrow.Author.Tests.{eq-eqb}
+use lib.ListN.{length, length-append, set, take, drop, getD, replicate, length-replicate, getD-replicate}
+use lib.Seq.{take-at, length-take-le}
+use borrow.Author.Tests.{eq-eqb, eqb-true, eqb-false, ne-eqb}
 use Rattle.lists.specs.Lists.{changed}
-use Rattle.lists.proofs.Cases.{cases}
+use Rattle.lists.proofs.Cases.{cases, or-nil, or-right}
 use Rattle.cells.specs.Tables.{tab}
-use Rattle.cells.specs.Marks.{markIn, pack, rows, markOf}
+use Rattle.cells.specs.Words.{byte}
+use Rattle.cells.specs.Marks.{bit, byteOf, markAt, markIn, rowBytes, putRow, pack, rows, markOf}
 use Rattle.cells.specs.CellSteps.{forkSeen, forkCaught, joinSeen, joinCaught}
-use Rattle.cells.proofs.Tables.{getD-changed, getD-tab, set-tab, tab-of, tab-same}
-use Rattle.cells.proofs.Marks.{mark-rows, pack-same, rows-same, rows-length}
+use Rattle.cells.proofs.Tables.{getD-changed, getD-tab, set-tab, tab-append, tab-none, tab-of, tab-same}
+use Rattle.cells.proofs.Marks.{bit-byte, byte-same, mark-row-bytes, mark-rows, pack-same, rowBytes-length, rowBytes-same, rows-same, rows-length}
 
-pub set-row : (row : List Bool) (n c : ℕ) (v : Bool) → length row ≡ n → c < n → set row c v ≡ tab (changed (λ y. getD row y false) c v) n
-set-row row n c v h l = ap (λ z. set z c v) (tab-of row false n h) ∙ set-tab (λ y. getD row y false) n c v l
+-- one mark set in a row
+pub set-mark : (w : ℕ) (f : ℕ → Bool) (u v : ℕ) → u < 8 * w → v ≡ byteOf (changed (bit (byte (rowBytes w f) (u / 8))) (u % 8) true) → set (rowBytes w f) (u / 8) v ≡ rowBytes w (changed f u true)
+unfolding rowBytes
+set-mark w f u v h e = set-tab g w (u / 8) v (omega arith) ∙ tab-same (changed g (u / 8) v) _ w each
+  where
+    g : ℕ → ℕ
+    g i = byteOf (λ j. f (8 * i + j))
 
-pub only-row : (n r : ℕ) → r < n → set (replicate n false) r true ≡ tab (λ y. eqb y r) n
-only-row n r h =
-    set-row (replicate n false) n r true (length-replicate n false) h
-    ∙ tab-same _ _ n (λ y l. cases (eqb y r) (λ e. rw e) (λ e. rw e (getD-replicate n y false false l)))
+    here : (j : ℕ) → j < 8 → changed (bit (byte (tab g w) (u / 8))) (u % 8) true j ≡ changed f u true (8 * (u / 8) + j)
+    here j l =
+        cases (eqb j (u % 8))
+        (λ q. let p = eqb-true j (u % 8) q in rw (q, eq-eqb (8 * (u / 8) + j) u (omega arith)))
+        (λ q. let p = eqb-false j (u % 8) q in rw (q, ne-eqb (8 * (u / 8) + j) u (omega arith)) (ap (λ b. bit b j) (getD-tab g w (u / 8) 0 (omega arith)) ∙ bit-byte (λ i. f (8 * (u / 8) + i)) j l))
+
+    each : (i : ℕ) → i < w → changed g (u / 8) v i ≡ byteOf (λ j. changed f u true (8 * i + j))
+    each i l =
+        cases (eqb i (u / 8))
+        (λ q. rw (q, eqb-true i (u / 8) q) (e ∙ byte-same _ _ here))
+        (λ q. let p = eqb-false i (u / 8) q in rw q (byte-same (λ j. f (8 * i + j)) (λ j. changed f u true (8 * i + j)) (λ j m. rw (ne-eqb (8 * i + j) u (omega arith)))))
+
+pub no-marks : (w : ℕ) → replicate w 0 ≡ rowBytes w (λ y. false)
+unfolding rowBytes
+no-marks w = tab-of (replicate w 0) 0 w (length-replicate w 0) ∙ tab-same _ _ w (λ i h. getD-replicate w i 0 0 h)
+
+pub only-row : (w r v : ℕ) → r < 8 * w → v ≡ byteOf (changed (bit 0) (r % 8) true) → set (replicate w 0) (r / 8) v ≡ rowBytes w (λ y. eqb y r)
+only-row w r v h e =
+    let l : r / 8 < w = omega arith in
+    let b : 0 ≡ byte (rowBytes w (λ y. false)) (r / 8) = sym (getD-replicate w (r / 8) 0 0 l) ∙ ap (λ z. byte z (r / 8)) (no-marks w) in
+    ap (λ z. set z (r / 8) v) (no-marks w)
+    ∙ set-mark w (λ y. false) r v h (e ∙ ap (λ z. byteOf (changed (bit z) (r % 8) true)) b)
+    ∙ rowBytes-same w (changed (λ y. false) r true) (λ y. eqb y r) (λ y m. cases (eqb y r) (λ q. rw q) (λ q. rw q))
+
+-- the marks of w as told
+pub marks-on : (row w : List ℕ) (on : Bool) → on ≡ true → rowBytes 8 (λ y. markAt row y || markAt w y) ≡ rowBytes 8 (λ y. cond (markAt w y) on (markAt row y))
+marks-on row w on q = rowBytes-same 8 _ (λ y. cond (markAt w y) on (markAt row y)) (λ y h. cases (markAt w y) (λ e. rw (e, q) (or-right (markAt row y) true refl)) (λ e. rw e (or-nil (markAt row y))))
+
+pub marks-off : (row w : List ℕ) (on : Bool) → on ≡ false → rowBytes 8 (λ y. markAt row y && not (markAt w y)) ≡ rowBytes 8 (λ y. cond (markAt w y) on (markAt row y))
+marks-off row w on q = rowBytes-same 8 _ (λ y. cond (markAt w y) on (markAt row y)) (λ y h. cases (markAt w y) (λ e. rw (e, q) (and-false (markAt row y))) (λ e. rw e (and-true (markAt row y))))
+
+-- one column as told
+pub column-row : (row w : List ℕ) (c : ℕ) (on : Bool) → w ≡ rowBytes 8 (λ y. eqb y c) → rowBytes 8 (λ y. cond (markAt w y) on (markAt row y)) ≡ rowBytes 8 (changed (markAt row) c on)
+column-row row w c on e = rowBytes-same 8 _ (changed (markAt row) c on) (λ y h. ap (λ b. cond b on (markAt row y)) (ap (λ z. markAt z y) e ∙ mark-row-bytes 8 (λ z. eqb z c) y h))
 
 -- a row of n rows replaced
-pub mark-set : (s : List (List Bool)) (c : ℕ) (row : List Bool) (x y : ℕ) → c < length s → markOf (set s c row) x y ≡ changed (markOf s) c (λ z. getD row z false) x y
+pub mark-set : (s : List (List ℕ)) (c : ℕ) (row : List ℕ) (x y : ℕ) → c < length s → markOf (set s c row) x y ≡ changed (markOf s) c (markAt row) x y
 mark-set s c row x y h = rw (getD-changed s c row [] x h) (cases (eqb x c) (λ e. rw e) (λ e. rw e))
 
-join-row : (s : List (List Bool)) (a b x y : ℕ) → a < length s → y < 64 → markOf (set s a (tab (joinSeen (markOf s) a b a) 64)) x y ≡ joinSeen (markOf s) a b x y
+join-row : (s : List (List ℕ)) (a b x y : ℕ) → a < length s → y < 64 → markOf (set s a (rowBytes 8 (joinSeen (markOf s) a b a))) x y ≡ joinSeen (markOf s) a b x y
 join-row s a b x y h l =
-    mark-set s a (tab (joinSeen (markOf s) a b a) 64) x y h
-    ∙ cases (eqb x a) (λ e. rw (e, getD-tab (joinSeen (markOf s) a b a) 64 y false l, eq-eqb a a refl)) (λ e. rw e)
+    mark-set s a (rowBytes 8 (joinSeen (markOf s) a b a)) x y h
+    ∙ cases (eqb x a) (λ e. rw (e, mark-row-bytes 8 (joinSeen (markOf s) a b a) y l, eq-eqb a a refl)) (λ e. rw e)
 
 -- the rows of a fork: row c is row p, and column c as told
-pub fork-rows : (s : List (List Bool)) (p c : ℕ) → length s ≡ 64 → c < 64 → rows 64 (λ x. changed (markOf (set s c (getD s p [])) x) c (eqb x p)) ≡ rows 64 (forkSeen (markOf s) p c)
+pub fork-rows : (s : List (List ℕ)) (p c : ℕ) → length s ≡ 64 → c < 64 → rows 64 (λ x. changed (markOf (set s c (getD s p [])) x) c (eqb x p)) ≡ rows 64 (forkSeen (markOf s) p c)
 fork-rows s p c h l =
     rows-same 64 _ (forkSeen (markOf s) p c)
     (λ x y xl yl. cases (eqb y c) (λ e. rw e) (λ e. rw e (mark-set s c (getD s p []) x y (omega arith))))
@@ -58,17 +95,17 @@ join-caught-same : (f g : ℕ → ℕ → Bool) (a b : ℕ) → a < 64 → b < 6
 join-caught-same f g a b al bl h x y xl yl = cases (eqb y a) (λ e. rw (e, h x a xl al, h x b xl bl)) (λ e. rw e (h x y xl yl))
 
 -- what was loaded, changed and stored: s are the rows of marks f, and z the rows of marks g
-stored : (n : ℕ) (f g : ℕ → ℕ → Bool) (z : List (List Bool)) → Same n (markOf z) f → Same n f g → pack n (markOf z) ≡ pack n g
+stored : (n : ℕ) (f g : ℕ → ℕ → Bool) (z : List (List ℕ)) → Same n (markOf z) f → Same n f g → pack n (markOf z) ≡ pack n g
 stored n f g z e h = pack-same n (markOf z) g (λ x y xl yl. e x y xl yl ∙ h x y xl yl)
 
-as-rows : (n : ℕ) (f : ℕ → ℕ → Bool) (z : List (List Bool)) → z ≡ rows n f → Same n (markOf z) f
+as-rows : (n : ℕ) (f : ℕ → ℕ → Bool) (z : List (List ℕ)) → z ≡ rows n f → Same n (markOf z) f
 as-rows n f z e x y xl yl = ap (λ s. markOf s x y) e ∙ mark-rows n f x y xl yl
 
-module _ (t : List ℕ) (s z : List (List Bool)) (p c : ℕ) (pl : p < 64) (cl : c < 64) where
+module _ (t : List ℕ) (s z : List (List ℕ)) (p c : ℕ) (pl : p < 64) (cl : c < 64) where
   pub fork-seen-stored : s ≡ rows 64 (markIn 8 64 t) → z ≡ rows 64 (forkSeen (markOf s) p c) → pack 64 (markOf z) ≡ pack 64 (forkSeen (markIn 8 64 t) p c)
   fork-seen-stored e g = stored 64 _ _ z (as-rows 64 _ z g) (fork-seen-same (markOf s) (markIn 8 64 t) p c pl (as-rows 64 _ s e))
 
-  pub join-seen-stored : s ≡ rows 64 (markIn 8 64 t) → z ≡ set s p (tab (joinSeen (markOf s) p c p) 64) → pack 64 (markOf z) ≡ pack 64 (joinSeen (markIn 8 64 t) p c)
+  pub join-seen-stored : s ≡ rows 64 (markIn 8 64 t) → z ≡ set s p (rowBytes 8 (joinSeen (markOf s) p c p)) → pack 64 (markOf z) ≡ pack 64 (joinSeen (markIn 8 64 t) p c)
   join-seen-stored e g =
       let l : length s ≡ 64 = ap length e ∙ rows-length 64 (markIn 8 64 t) in
       stored 64 _ _ z (λ x y xl yl. ap (λ m. markOf m x y) g ∙ join-row s p c x y (omega arith) yl) (join-seen-same (markOf s) (markIn 8 64 t) p c pl cl (as-rows 64 _ s e))
@@ -78,3 +115,23 @@ module _ (t : List ℕ) (s z : List (List Bool)) (p c : ℕ) (pl : p < 64) (cl :
 
   pub join-caught-stored : s ≡ rows 16 (markIn 8 16 t) → z ≡ rows 16 (joinCaught (markOf s) p c) → pack 16 (markOf z) ≡ pack 16 (joinCaught (markIn 8 16 t) p c)
   join-caught-stored e g = stored 16 _ _ z (as-rows 16 _ z g) (join-caught-same (markOf s) (markIn 8 16 t) p c pl cl (as-rows 16 _ s e))
+
+-- rows stored one after the other: x of them are
+pub pack-none : (f : ℕ → ℕ → Bool) → [] ≡ pack 0 f
+unfolding pack
+pack-none f = tab-none _
+
+pack-more : (f : ℕ → ℕ → Bool) (x : ℕ) → pack (x + 1) f ≡ pack x f ++ rowBytes 8 (f x)
+unfolding pack rowBytes
+pack-more f x =
+    let e : 8 * (x + 1) ≡ 8 * x + 8 = omega arith in
+    ap (tab _) e ∙ tab-append _ (8 * x) 8
+    ∙ ap (λ z. tab (λ i. byteOf (λ j. f (i / 8) (8 * (i % 8) + j))) (8 * x) ++ z)
+    (tab-same _ _ 8 (λ i h. let d : (8 * x + i) / 8 ≡ x = omega arith in let m : (8 * x + i) % 8 ≡ i = omega arith in rw (d, m)))
+
+pub pack-put : (f : ℕ → ℕ → Bool) (t : List ℕ) (x : ℕ) → 8 * x + 8 ≤ length t → take (8 * x) t ≡ pack x f → take (8 * (x + 1)) (putRow 8 t x (f x)) ≡ pack (x + 1) f
+unfolding putRow
+pack-put f t x h e =
+    let l : length (take (8 * x) t ++ rowBytes 8 (f x)) ≡ 8 * (x + 1) = rw (length-append, length-take-le (8 * x) t (omega arith), rowBytes-length 8 (f x)) (omega arith) in
+    ap (take (8 * (x + 1))) (sym (append-assoc (take (8 * x) t) (rowBytes 8 (f x)) (drop (8 * x + 8) t))) ∙ take-at _ _ (8 * (x + 1)) l
+    ∙ ap (λ z. z ++ rowBytes 8 (f x)) e ∙ sym (pack-more f x)

@@ -1,32 +1,29 @@
 // What a fork and a join make of the marks, by value: rows of marks in, rows of marks out.
 ghost use mathlib.Core.Path.{_≡_};
-ghost use mathlib.Core.Bool.{false, _||_};
+ghost use mathlib.Core.Bool.{cond, not, _||_, _&&_};
 ghost use Prim.Native.Nat.{_<_};
 ghost use lib.Dec.{eqb};
-ghost use lib.ListN.{getD, set};
+ghost use lib.ListN.{set};
 ghost use Rattle.lists.specs.Lists.{changed};
-ghost use Rattle.cells.specs.Tables.{tab};
-ghost use Rattle.cells.specs.Marks.{rows, markOf};
+ghost use Rattle.cells.specs.Marks.{markAt, rowBytes, rows, markOf};
 ghost use Rattle.cells.specs.CellSteps.{forkSeen, forkCaught, joinSeen, joinCaught};
+use crate::bits;
 
 // The row with one mark alone.
-pub fn only(r: usize) -> [bool; 64]
+pub fn only(r: usize) -> [u8; 8]
     requires { ⌜ r < 64 ⌝ }
-    ensures { λ row. ⌜ row ≡ tab (λ y. eqb y r) 64 ⌝ }
+    ensures { λ row. ⌜ row ≡ rowBytes 8 (λ y. eqb y r) ⌝ }
 {
-    let mut row = [false; 64];
-    row[r] = true;
+    let mut row = [0; 8];
+    row[r / 8] = bits::set(0, r % 8);
     row
 }
 
-// The row with mark c as told.
-fn with_mark(row: [bool; 64], c: usize, on: bool) -> [bool; 64]
-    requires { ⌜ c < 64 ⌝ }
-    ensures { λ r. ⌜ r ≡ tab (changed (λ y. getD row y false) c on) 64 ⌝ }
+fn mark(row: [u8; 8], y: usize) -> bool
+    requires { ⌜ y < 64 ⌝ }
+    ensures { λ r. ⌜ r ≡ markAt row y ⌝ }
 {
-    let mut z = row;
-    z[c] = on;
-    z
+    bits::mark(row[y / 8], y % 8)
 }
 
 fn or(a: bool, b: bool) -> bool
@@ -36,35 +33,56 @@ fn or(a: bool, b: bool) -> bool
 }
 
 // The marks of either row.
-fn either(a: [bool; 64], b: [bool; 64]) -> [bool; 64]
-    ensures { λ r. ⌜ r ≡ tab (λ y. getD a y false || getD b y false) 64 ⌝ }
+fn either(a: [u8; 8], b: [u8; 8]) -> [u8; 8]
+    ensures { λ r. ⌜ r ≡ rowBytes 8 (λ y. markAt a y || markAt b y) ⌝ }
 {
-    let mut z = [false; 64];
-    let mut y: usize = 0;
-    while y < 64 {
-        z[y] = or(a[y], b[y]);
-        y += 1;
+    let mut z = [0; 8];
+    let mut k: usize = 0;
+    while k < 8 {
+        z[k] = bits::either(a[k], b[k]);
+        k += 1;
     }
     z
 }
 
+// The marks of a that b has not.
+fn without(a: [u8; 8], b: [u8; 8]) -> [u8; 8]
+    ensures { λ r. ⌜ r ≡ rowBytes 8 (λ y. markAt a y && not (markAt b y)) ⌝ }
+{
+    let mut z = [0; 8];
+    let mut k: usize = 0;
+    while k < 8 {
+        z[k] = bits::without(a[k], b[k]);
+        k += 1;
+    }
+    z
+}
+
+// The row with the marks of w as told. A loop over rows makes w once.
+fn with(row: [u8; 8], w: [u8; 8], on: bool) -> [u8; 8]
+    ensures { λ r. ⌜ r ≡ rowBytes 8 (λ y. cond (markAt w y) on (markAt row y)) ⌝ }
+{
+    if on { either(row, w) } else { without(row, w) }
+}
+
 // c's column: p has seen c's fork, and no other has.
-fn fork_column(s: [[bool; 64]; 64], p: usize, c: usize) -> [[bool; 64]; 64]
+fn fork_column(s: [[u8; 8]; 64], p: usize, c: usize) -> [[u8; 8]; 64]
     requires { ⌜ (p < 64) × (c < 64) ⌝ }
     ensures { λ r. ⌜ r ≡ rows 64 (λ x. changed (markOf s x) c (eqb x p)) ⌝ }
 {
-    let mut z = [[false; 64]; 64];
+    let column = only(c);
+    let mut z = [[0; 8]; 64];
     let mut x: usize = 0;
     while x < 64 {
         let row = s[x];
-        z[x] = with_mark(row, c, x == p);
+        z[x] = with(row, column, x == p);
         x += 1;
     }
     z
 }
 
 // The seen marks after p forked c.
-pub fn fork_seen(seen: [[bool; 64]; 64], p: usize, c: usize) -> [[bool; 64]; 64]
+pub fn fork_seen(seen: [[u8; 8]; 64], p: usize, c: usize) -> [[u8; 8]; 64]
     requires { ⌜ (p < 64) × (c < 64) ⌝ }
     ensures { λ r. ⌜ r ≡ rows 64 (forkSeen (markOf seen) p c) ⌝ }
 {
@@ -75,9 +93,9 @@ pub fn fork_seen(seen: [[bool; 64]; 64], p: usize, c: usize) -> [[bool; 64]; 64]
 }
 
 // The seen marks after a joined b.
-pub fn join_seen(seen: [[bool; 64]; 64], a: usize, b: usize) -> [[bool; 64]; 64]
+pub fn join_seen(seen: [[u8; 8]; 64], a: usize, b: usize) -> [[u8; 8]; 64]
     requires { ⌜ (a < 64) × (b < 64) ⌝ }
-    ensures { λ r. ⌜ r ≡ set seen a (tab (joinSeen (markOf seen) a b a) 64) ⌝ }
+    ensures { λ r. ⌜ r ≡ set seen a (rowBytes 8 (joinSeen (markOf seen) a b a)) ⌝ }
 {
     let mut s = seen;
     let x = s[a];
@@ -87,30 +105,32 @@ pub fn join_seen(seen: [[bool; 64]; 64], a: usize, b: usize) -> [[bool; 64]; 64]
 }
 
 // The caught-up marks after p forked c.
-pub fn fork_caught(caught: [[bool; 64]; 16], p: usize, c: usize) -> [[bool; 64]; 16]
+pub fn fork_caught(caught: [[u8; 8]; 16], p: usize, c: usize) -> [[u8; 8]; 16]
     requires { ⌜ (p < 64) × (c < 64) ⌝ }
     ensures { λ r. ⌜ r ≡ rows 16 (forkCaught (markOf caught) p c) ⌝ }
 {
-    let mut z = [[false; 64]; 16];
+    let column = only(c);
+    let mut z = [[0; 8]; 16];
     let mut x: usize = 0;
     while x < 16 {
         let row = caught[x];
-        z[x] = with_mark(row, c, row[p]);
+        z[x] = with(row, column, mark(row, p));
         x += 1;
     }
     z
 }
 
 // The caught-up marks after a joined b.
-pub fn join_caught(caught: [[bool; 64]; 16], a: usize, b: usize) -> [[bool; 64]; 16]
+pub fn join_caught(caught: [[u8; 8]; 16], a: usize, b: usize) -> [[u8; 8]; 16]
     requires { ⌜ (a < 64) × (b < 64) ⌝ }
     ensures { λ r. ⌜ r ≡ rows 16 (joinCaught (markOf caught) a b) ⌝ }
 {
-    let mut z = [[false; 64]; 16];
+    let column = only(a);
+    let mut z = [[0; 8]; 16];
     let mut x: usize = 0;
     while x < 16 {
         let row = caught[x];
-        z[x] = with_mark(row, a, or(row[a], row[b]));
+        z[x] = with(row, column, or(mark(row, a), mark(row, b)));
         x += 1;
     }
     z

@@ -1,5 +1,5 @@
-// Rows of 64 marks packed in bytes: loaded as arrays of bools, changed by value, stored. Knows no revision and no offset.
-pub mod bits; // bits.rt: one mark, and eight marks as a byte
+// Rows of 64 marks packed in bytes: loaded as arrays of eight bytes a row, changed by value, stored. Knows no revision and no offset.
+pub mod bits; // bits.rt: eight marks as a byte
 pub mod change; // change.rt: what a fork and a join make of the marks, by value
 pub mod packed; // packed.rt: the same on packed marks
 pub mod rows; // rows.rt: rows loaded from bytes and stored

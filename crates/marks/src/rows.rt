@@ -1,31 +1,30 @@
-// Rows of 64 marks, eight bytes each: loaded from bytes and stored.
+// Rows of 64 marks, eight bytes each: loaded from bytes and stored. Row by row, so that a row is moved as one word.
 ghost use mathlib.Core.Path.{_≡_};
-ghost use mathlib.Core.Bool.{false};
 ghost use Prim.Native.Nat.{_+_, _*_, _/_, _%_, _<_, _≤_};
-ghost use lib.ListN.{getD, length};
-ghost use Rattle.cells.specs.Tables.{tab};
+ghost use lib.ListN.{length};
 ghost use Rattle.cells.specs.Words.{byte};
-ghost use Rattle.cells.specs.Marks.{bit, markIn, putRow, pack, rows, markOf};
+ghost use Rattle.cells.specs.Marks.{bit, markAt, markIn, rowBytes, putRow, pack, rows, markOf};
+use crate::bits;
 
 // Row x.
-pub fn load_row(t: &[u8], x: usize) -> [bool; 64]
+fn load_row(t: &[u8], x: usize) -> [u8; 8]
     requires { ⌜ (x < 64) × (8 * x + 8 ≤ length (now t)) ⌝ }
-    ensures { λ r. ⌜ r ≡ tab (λ y. bit (byte (now (t .entry)) (8 * x + y / 8)) (y % 8)) 64 ⌝ }
+    ensures { λ r. ⌜ r ≡ rowBytes 8 (λ y. bit (byte (now (t .entry)) (8 * x + y / 8)) (y % 8)) ⌝ }
 {
-    let mut row = [false; 64];
-    let mut y: usize = 0;
-    while y < 64 {
-        row[y] = crate::bits::mark(t[8 * x + y / 8], y % 8);
-        y += 1;
+    let mut row = [0; 8];
+    let mut k: usize = 0;
+    while k < 8 {
+        row[k] = bits::same(t[8 * x + k]);
+        k += 1;
     }
     row
 }
 
-pub fn load64(t: &[u8]) -> [[bool; 64]; 64]
+pub fn load64(t: &[u8]) -> [[u8; 8]; 64]
     requires { ⌜ length (now t) ≡ 512 ⌝ }
     ensures { λ r. ⌜ r ≡ rows 64 (markIn 8 64 (now (t .entry))) ⌝ }
 {
-    let mut s = [[false; 64]; 64];
+    let mut s = [[0; 8]; 64];
     let mut x: usize = 0;
     while x < 64 {
         s[x] = load_row(t, x);
@@ -34,11 +33,11 @@ pub fn load64(t: &[u8]) -> [[bool; 64]; 64]
     s
 }
 
-pub fn load16(t: &[u8]) -> [[bool; 64]; 16]
+pub fn load16(t: &[u8]) -> [[u8; 8]; 16]
     requires { ⌜ length (now t) ≡ 128 ⌝ }
     ensures { λ r. ⌜ r ≡ rows 16 (markIn 8 16 (now (t .entry))) ⌝ }
 {
-    let mut s = [[false; 64]; 16];
+    let mut s = [[0; 8]; 16];
     let mut x: usize = 0;
     while x < 16 {
         s[x] = load_row(t, x);
@@ -47,38 +46,38 @@ pub fn load16(t: &[u8]) -> [[bool; 64]; 16]
     s
 }
 
-pub fn store64(t: &mut [u8], s: [[bool; 64]; 64])
-    requires { ⌜ length (now t) ≡ 512 ⌝ }
-    ensures { λ _. ⌜ now (t .exit) ≡ pack 64 (markOf s) ⌝ }
-{
-    let mut i: usize = 0;
-    while i < 512 {
-        let row = s[i / 8];
-        t[i] = crate::bits::byte_of(row, i % 8);
-        i += 1;
-    }
-}
-
-pub fn store16(t: &mut [u8], s: [[bool; 64]; 16])
-    requires { ⌜ length (now t) ≡ 128 ⌝ }
-    ensures { λ _. ⌜ now (t .exit) ≡ pack 16 (markOf s) ⌝ }
-{
-    let mut i: usize = 0;
-    while i < 128 {
-        let row = s[i / 8];
-        t[i] = crate::bits::byte_of(row, i % 8);
-        i += 1;
-    }
-}
-
-// Row x replaced: eight bytes written.
-pub fn store_row(t: &mut [u8], x: usize, row: [bool; 64])
+// Row x replaced.
+pub fn store_row(t: &mut [u8], x: usize, row: [u8; 8])
     requires { ⌜ (x < 64) × (8 * x + 8 ≤ length (now t)) ⌝ }
-    ensures { λ _. ⌜ now (t .exit) ≡ putRow 8 (now (t .entry)) x (λ y. getD row y false) ⌝ }
+    ensures { λ _. ⌜ now (t .exit) ≡ putRow 8 (now (t .entry)) x (markAt row) ⌝ }
 {
     let mut k: usize = 0;
     while k < 8 {
-        t[8 * x + k] = crate::bits::byte_of(row, k);
+        t[8 * x + k] = bits::same(row[k]);
         k += 1;
+    }
+}
+
+pub fn store64(t: &mut [u8], s: [[u8; 8]; 64])
+    requires { ⌜ length (now t) ≡ 512 ⌝ }
+    ensures { λ _. ⌜ now (t .exit) ≡ pack 64 (markOf s) ⌝ }
+{
+    let mut x: usize = 0;
+    while x < 64 {
+        let row = s[x];
+        store_row(t, x, row);
+        x += 1;
+    }
+}
+
+pub fn store16(t: &mut [u8], s: [[u8; 8]; 16])
+    requires { ⌜ length (now t) ≡ 128 ⌝ }
+    ensures { λ _. ⌜ now (t .exit) ≡ pack 16 (markOf s) ⌝ }
+{
+    let mut x: usize = 0;
+    while x < 16 {
+        let row = s[x];
+        store_row(t, x, row);
+        x += 1;
     }
 }

@@ -1,5 +1,5 @@
 -- The row of a forked revision: one own update after the other is marked.
-use Prim.Native.Nat.{ℕ, zero, suc, _+_, _<_, _≤_}
+use Prim.Native.Nat.{ℕ, zero, suc, _+_, _*_, _/_, _%_, _<_, _≤_}
 use mathlib.Core.Bool.{Bool, true, _&&_, _||_}
 use mathlib.Core.Path.{_≡_, refl, sym, ap, _∙_}
 use mathlib.Core.List.{List, [], _∷_}
@@ -13,20 +13,26 @@ use Rattle.lists.specs.Lists.{changed, member}
 use Rattle.lists.proofs.Cases.{cases, or-nil, or-assoc, or-right}
 use Rattle.lists.proofs.Keep.{member-++}
 use Rattle.cells.specs.Sizes.{updates}
-use Rattle.cells.specs.Tables.{tab}
+use Rattle.cells.specs.Words.{byte}
+use Rattle.cells.specs.Marks.{bit, byteOf, markAt, rowBytes}
 use Rattle.cells.specs.Cells.{Cells, marked, own}
 use Rattle.cells.specs.CellSteps.{forkRow}
 use Rattle.cells.specs.Steps.{putRowOf}
-use Rattle.cells.proofs.Marks.{putRow-same}
-use Rattle.cells.proofs.Tables.{set-tab, tab-same}
+use Rattle.cells.proofs.Marks.{mark-row-bytes, putRow-same, rowBytes-same}
+use Rattle.marks.proofs.Laws.{set-mark}
 
-module _ (f : ℕ → Bool) (l : List ℕ) (n : ℕ) where
+-- a row of bytes by its own marks
+pub row-marks : (w : ℕ) (f : ℕ → Bool) (z : List ℕ) → z ≡ rowBytes w f → (u : ℕ) → u < 8 * w → markAt z u ≡ f u
+row-marks w f z e u h = ap (λ t. markAt t u) e ∙ mark-row-bytes w f u h
+
+-- w bytes of marks
+module _ (f : ℕ → Bool) (l : List ℕ) (w : ℕ) where
   -- f, or among the first i of l
   abbrev pub withFirst : ℕ → ℕ → Bool
   withFirst i u = f u || member u (take i l)
 
-  pub row-start : (z : List Bool) → z ≡ tab f n → z ≡ tab (withFirst 0) n
-  row-start z e = e ∙ tab-same f (withFirst 0) n (λ u h. sym (or-nil (f u)))
+  none : (u : ℕ) → f u ≡ withFirst 0 u
+  none u = sym (or-nil (f u))
 
   next : (i u : ℕ) → i < length l → withFirst (i + 1) u ≡ ((f u || member u (take i l)) || eqb u (getD l i 0))
   next i u h =
@@ -34,21 +40,28 @@ module _ (f : ℕ → Bool) (l : List ℕ) (n : ℕ) where
       ∙ ap (λ b. f u || b) (member-++ u (take i l) (getD l i 0 ∷ []) ∙ ap (λ b. member u (take i l) || b) (or-nil (eqb u (getD l i 0))))
       ∙ sym (or-assoc (f u) (member u (take i l)) (eqb u (getD l i 0)))
 
-  pub row-more : (i : ℕ) (z : List Bool) → i < length l → getD l i 0 < n → z ≡ tab (withFirst i) n → set z (getD l i 0) true ≡ tab (withFirst (i + 1)) n
-  row-more i z h g e =
-      let x = getD l i 0 in
-      ap (λ y. set y x true) e ∙ set-tab (withFirst i) n x true g
-      ∙ tab-same (changed (withFirst i) x true) (withFirst (i + 1)) n
-      (λ u m. cases (eqb u x) (λ q. rw q (sym (next i u h ∙ or-right (withFirst i u) (eqb u x) q))) (λ q. rw q (sym (next i u h ∙ ap (λ b. withFirst i u || b) q ∙ or-nil (withFirst i u)))))
+  pub row-more : (i : ℕ) (z : List ℕ) (x v : ℕ) → i < length l → x ≡ getD l i 0 → x < 8 * w → z ≡ rowBytes w (withFirst i) → v ≡ byteOf (changed (bit (byte z (x / 8))) (x % 8) true) → set z (x / 8) v ≡ rowBytes w (withFirst (i + 1))
+  row-more i z x v h q g e b =
+      ap (λ y. set y (x / 8) v) e
+      ∙ set-mark w (withFirst i) x v g (b ∙ ap (λ y. byteOf (changed (bit (byte y (x / 8))) (x % 8) true)) e)
+      ∙ rowBytes-same w (changed (withFirst i) x true) (withFirst (i + 1))
+      (λ u m. cases (eqb u x)
+      (λ y. rw y (sym (next i u h ∙ or-right (withFirst i u) (eqb u (getD l i 0)) (rw q at y))))
+      (λ y. rw y (sym (next i u h ∙ ap (λ b. withFirst i u || b) (rw q at y) ∙ or-nil (withFirst i u)))))
 
-  -- what is not below n has no mark
-  pub row-skip : (i : ℕ) (z : List Bool) → i < length l → n ≤ getD l i 0 → z ≡ tab (withFirst i) n → z ≡ tab (withFirst (i + 1)) n
+  -- what is not below 8 * w has no mark
+  pub row-skip : (i : ℕ) (z : List ℕ) → i < length l → 8 * w ≤ getD l i 0 → z ≡ rowBytes w (withFirst i) → z ≡ rowBytes w (withFirst (i + 1))
   row-skip i z h g e =
-      e ∙ tab-same (withFirst i) (withFirst (i + 1)) n (λ u m. sym (next i u h ∙ ap (λ b. withFirst i u || b) (ne-eqb u (getD l i 0) (omega arith)) ∙ or-nil (withFirst i u)))
+      e ∙ rowBytes-same w (withFirst i) (withFirst (i + 1)) (λ u m. sym (next i u h ∙ ap (λ b. withFirst i u || b) (ne-eqb u (getD l i 0) (omega arith)) ∙ or-nil (withFirst i u)))
 
-pub row-done : (k : Cells) (p n : ℕ) (l : List ℕ) (z : List Bool) → take n l ≡ own k p → z ≡ tab (withFirst (marked k p) l updates n) updates → z ≡ tab (forkRow k p) updates
-row-done k p n l z e q =
-    q ∙ tab-same _ (forkRow k p) updates (λ u h. ap (λ w. marked k p u || member u w) e ∙ sym (ap (λ b. b && (marked k p u || member u (own k p))) (lt-ltb u updates h)))
+-- the row before the loop, and after it
+pub row-start : (w : ℕ) (f : ℕ → Bool) (l z : List ℕ) → z ≡ rowBytes w f → z ≡ rowBytes w (withFirst (markAt z) l w 0)
+row-start w f l z e = e ∙ rowBytes-same w f (withFirst (markAt z) l w 0) (λ u h. sym (row-marks w f z e u h) ∙ none (markAt z) l w u)
+
+pub row-done : (k : Cells) (p n : ℕ) (l z₀ z : List ℕ) → take n l ≡ own k p → z₀ ≡ rowBytes 512 (marked k p) → z ≡ rowBytes 512 (withFirst (markAt z₀) l 512 n) → z ≡ rowBytes 512 (forkRow k p)
+row-done k p n l z₀ z e g q =
+    q ∙ rowBytes-same 512 _ (forkRow k p)
+    (λ u h. ap (λ b. b || member u (take n l)) (row-marks 512 (marked k p) z₀ g u h) ∙ ap (λ w. marked k p u || member u w) e ∙ sym (ap (λ b. b && (marked k p u || member u (own k p))) (lt-ltb u updates h)))
 
 -- only the marks below 4,096 are stored
 pub putRowOf-same : (t : List ℕ) (c : ℕ) (f g : ℕ → Bool) → ((u : ℕ) → u < updates → f u ≡ g u) → putRowOf t c f ≡ putRowOf t c g

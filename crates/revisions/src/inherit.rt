@@ -4,8 +4,8 @@ ghost use mathlib.Core.Bool.{true};
 ghost use Prim.Native.Nat.{_<_};
 ghost use lib.ListN.{length};
 ghost use Rattle.cells.specs.Sizes.{bytes, revisions};
-ghost use Rattle.cells.specs.Tables.{tab};
 ghost use Rattle.cells.specs.Parts.{glue, split};
+ghost use Rattle.cells.specs.Marks.{rowBytes};
 ghost use Rattle.cells.specs.Decode.{cells};
 ghost use Rattle.cells.specs.Range.{inRange};
 ghost use Rattle.cells.specs.CellSteps.{forkRow};
@@ -15,6 +15,7 @@ use fields::row;
 use fields::table::Revision;
 use fields::table::Table;
 use fields::write;
+use marks::bits;
 use order::links;
 
 fn number(x: u16) -> usize
@@ -23,10 +24,10 @@ fn number(x: u16) -> usize
     x as usize
 }
 
-// p's row with the updates of its own list.
-fn forked_row(d: &[u8], p: Revision) -> [bool; Table::UPDATES]
-    requires { ⌜ (length (now d) ≡ bytes) × (inRange (now d) ≡ true) × (p .0 < revisions) ⌝ }
-    ensures { λ row. ⌜ row ≡ tab (forkRow (cells (now (d .entry))) (p .0)) 4096 ⌝ }
+// The row of p, which is not the main revision, with the updates of p's own list.
+fn forked_row(d: &[u8], p: Revision) -> [u8; Table::ROW]
+    requires { ⌜ (length (now d) ≡ bytes) × (inRange (now d) ≡ true) × (0 < p .0) × (p .0 < revisions) ⌝ }
+    ensures { λ row. ⌜ row ≡ rowBytes 512 (forkRow (cells (now (d .entry))) (p .0)) ⌝ }
 {
     let mut own = [0u16; Table::UPDATES];
     let n = links::own_list(d, p, &mut own);
@@ -36,7 +37,7 @@ fn forked_row(d: &[u8], p: Revision) -> [bool; Table::UPDATES]
         // every link is below 4,096; the test spares its proof here
         let u = number(own[i]);
         if u < 4096 {
-            marks[u] = true;
+            marks[u / 8] = bits::set(marks[u / 8], u % 8);
         }
         i += 1;
     }

@@ -1,11 +1,9 @@
 -- `fields::write::row` meets its contract: one part is lent and comes back written. Assumes nothing.
-use Prim.Native.Nat.{_-_, ℕ}
-use mathlib.Core.Bool.{Bool, false}
+use Prim.Native.Nat.{_-_}
 use mathlib.Core.Path.{_∙_, ap, refl}
 use native.Mathlib.Omega.{arith}
-use lib.ListN.{getD}
 use borrow.Author.Needs.{needs}
-use Rattle.cells.specs.Marks.{putRow}
+use Rattle.cells.specs.Marks.{markAt, putRow}
 use Rattle.cells.specs.Parts.{offset, rowsPart, size, split, wrote}
 use Rattle.cells.proofs.Parts.{part-lent}
 use Rattle.fields.proofs.MarkReads.{row-of}
@@ -20,9 +18,8 @@ returns c =
     let start = at-wide .before .before in
     let s = start .args in
     let d = s .d .now in
-    let f : ℕ → Bool = λ u. getD (s .row) u false in
-    part-lent d rowsPart 0 32256 (λ t. putRow 512 t (at-wide .wide .result - 1) f) _ (omega arith) (omega arith) refl refl (at-put .put .ensures)
-    ∙ ap (wrote d rowsPart) (row-of (split d rowsPart) (s .c .0) (at-wide .wide .result) f (omega arith) (at-wide .wide .ensures .0))
+    part-lent d rowsPart 0 32256 (λ t. putRow 512 t (at-wide .wide .result - 1) (markAt (s .row))) _ (omega arith) (omega arith) refl refl (at-put .put .ensures)
+    ∙ ap (wrote d rowsPart) (row-of (split d rowsPart) (s .c .0) (at-wide .wide .result) (markAt (s .row)) (omega arith) (at-wide .wide .ensures .0))
 
 pub row-spec : {M : Type 1} → statement M
 row-spec = tie.close (tie.spec

@@ -1,29 +1,37 @@
 -- `marks::change::join_caught` meets its contract: the rows up to `x` are stored. Assumes nothing.
 use Prim.Native.Nat.{_-_, _≤_}
-use mathlib.Core.Path.{_≡_}
+use mathlib.Core.Path.{_∙_, _≡_}
+use mathlib.Core.List.{[]}
 use native.Mathlib.Omega.{arith}
-use lib.ListN.{length, take}
+use lib.ListN.{getD, length, take}
 use borrow.Author.Needs.{needs}
 use Rattle.cells.specs.CellSteps.{joinCaught}
-use Rattle.cells.specs.Marks.{markOf, rows}
+use Rattle.cells.specs.Marks.{markOf, rowBytes, rows}
 use Rattle.cells.specs.Tables.{tab}
 use Rattle.cells.proofs.Tables.{tab-done, tab-more, tab-none}
+use Rattle.marks.proofs.Laws.{column-row}
 use Rattle.marks.proofs.change.join_caught.Statement.{statement}
 use Rattle.marks.proofs.change.join_caught.Tie as tie
 
 abbrev Inv-loop : tie.InvT-loop
-Inv-loop a b caught z₀ x₀ z x = (x ≤ 16) × (length z ≡ 16) × (take x z ≡ tab (λ i. tab (joinCaught (markOf caught) a b i) 64) x)
+Inv-loop a b caught column z₀ x₀ z x = (x ≤ 16) × (length z ≡ 16) × (take x z ≡ tab (λ i. rowBytes 8 (joinCaught (markOf caught) a b i)) x)
 
 abbrev μ-loop : tie.MeasureT-loop
-μ-loop a b caught z₀ x₀ z x = 16 - x
+μ-loop a b caught column z₀ x₀ z x = 16 - x
 
 loop-holds : tie.Need-loop-holds Inv-loop μ-loop
 loop-holds c = (search needs, search needs, tab-none _)
 
 loop-again : tie.Need-loop-again Inv-loop μ-loop
 loop-again c =
-    let l = c .before .before .before .before .loop in
-    (omega arith, search needs, tab-more _ (l .z) (l .x) _ (omega arith) (l .inv .2) (rw (c .before .or .ensures) at (c .with-mark .ensures)))
+    let at-or = c .before in
+    let at-mark2 = at-or .before in
+    let at-mark = at-mark2 .before in
+    let at-loop = at-mark .before .before .before in
+    let l = at-loop .loop in
+    let only = at-loop .before .only in
+    let s = at-loop .before .before .args in
+    (omega arith, search needs, tab-more _ (l .z) (l .x) _ (omega arith) (l .inv .2) (rw (at-or .or .ensures, at-mark .mark .ensures, at-mark2 .mark2 .ensures) at (c .with .ensures) ∙ column-row (getD (s .t1) (l .x) []) (only .result) _ _ (only .ensures)))
 
 returns : tie.Need-returns Inv-loop μ-loop
 unfolding rows
@@ -36,11 +44,12 @@ pub join-caught-spec : {M : Type 1} → statement M
 join-caught-spec = tie.close (tie.spec
     Inv-loop
     μ-loop
+    (λ c κs. search needs)
     loop-holds
     (λ c. search needs)
     (λ c. search needs)
-    (λ c. search needs)
-    (λ c. search needs)
+    (λ c κs. search needs)
+    (λ c κs. search needs)
     (λ c κs. search needs)
     (λ c κs. search needs)
     (λ c. search needs)

@@ -1,11 +1,9 @@
 -- `marks::packed::set_only` meets its contract: the row written has mark r alone. Assumes nothing.
-use mathlib.Core.Bool.{false}
 use mathlib.Core.Path.{_∙_, ap}
 use lib.Dec.{eqb}
-use lib.ListN.{getD}
 use borrow.Author.Needs.{needs}
-use Rattle.cells.proofs.Marks.{putRow-same}
-use Rattle.cells.proofs.Tables.{getD-tab}
+use Rattle.cells.specs.Marks.{markAt}
+use Rattle.cells.proofs.Marks.{mark-row-bytes, putRow-same}
 use Rattle.marks.proofs.packed.set_only.Statement.{statement}
 use Rattle.marks.proofs.packed.set_only.Tie as tie
 
@@ -17,7 +15,7 @@ returns c =
     let s = start .args in
     let only = at-only .only in
     at-store-row .store-row .ensures
-    ∙ putRow-same 8 (s .t .now) (s .c) (λ y. getD (only .result) y false) (λ y. eqb y (s .r)) (λ y h. ap (λ row. getD row y false) (only .ensures) ∙ getD-tab (λ z. eqb z (s .r)) 64 y false h)
+    ∙ putRow-same 8 (s .t .now) (s .c) (markAt (only .result)) (λ y. eqb y (s .r)) (λ y h. ap (λ row. markAt row y) (only .ensures) ∙ mark-row-bytes 8 (λ z. eqb z (s .r)) y h)
 
 pub set-only-spec : {M : Type 1} → statement M
 set-only-spec = tie.close (tie.spec

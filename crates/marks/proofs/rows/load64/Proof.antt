@@ -5,15 +5,16 @@ use native.Mathlib.Omega.{arith}
 use lib.ListN.{length, take}
 use borrow.Author.Needs.{needs}
 use borrow.Author.Tests.{lt-ltb}
-use Rattle.cells.specs.Marks.{bit, markIn, rows}
+use Rattle.cells.specs.Marks.{bit, markIn, rowBytes, rows}
 use Rattle.cells.specs.Tables.{tab}
 use Rattle.cells.specs.Words.{byte}
-use Rattle.cells.proofs.Tables.{tab-done, tab-more, tab-none, tab-same}
+use Rattle.cells.proofs.Marks.{rowBytes-same}
+use Rattle.cells.proofs.Tables.{tab-done, tab-more, tab-none}
 use Rattle.marks.proofs.rows.load64.Statement.{statement}
 use Rattle.marks.proofs.rows.load64.Tie as tie
 
 abbrev Inv-loop : tie.InvT-loop
-Inv-loop t s₀ x₀ s x = (x ≤ 64) × (length s ≡ 64) × (take x s ≡ tab (λ i. tab (markIn 8 64 t i) 64) x)
+Inv-loop t s₀ x₀ s x = (x ≤ 64) × (length s ≡ 64) × (take x s ≡ tab (λ i. rowBytes 8 (markIn 8 64 t i)) x)
 
 abbrev μ-loop : tie.MeasureT-loop
 μ-loop t s₀ x₀ s x = 64 - x
@@ -26,7 +27,7 @@ loop-again c =
     let t = c .before .before .before .before .args .t .now in
     let l = c .before .before .loop in
     let marks : (y : ℕ) → y < 64 → bit (byte t (8 * l .x + y / 8)) (y % 8) ≡ markIn 8 64 t (l .x) y = λ y h. rw (lt-ltb (l .x) 64 (omega arith), lt-ltb y 64 h) in
-    (omega arith, search needs, tab-more _ (l .s) (l .x) _ (omega arith) (l .inv .2) (c .load-row .ensures ∙ tab-same _ _ 64 marks))
+    (omega arith, search needs, tab-more _ (l .s) (l .x) _ (omega arith) (l .inv .2) (c .load-row .ensures ∙ rowBytes-same 8 _ _ marks))
 
 returns : tie.Need-returns Inv-loop μ-loop
 unfolding rows

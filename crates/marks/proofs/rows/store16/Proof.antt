@@ -1,35 +1,37 @@
--- `marks::rows::store16` meets its contract: the bytes up to `i` are stored. Assumes nothing.
-use Prim.Native.Nat.{_%_, _*_, _+_, _-_, _/_, _≤_}
-use mathlib.Core.Path.{_≡_}
+-- `marks::rows::store16` meets its contract: the rows up to `x` are stored. Assumes nothing.
+use Prim.Native.Nat.{_*_, _+_, _-_, _≤_}
+use mathlib.Core.Path.{_∙_, _≡_, ap, sym}
 use native.Mathlib.Omega.{arith}
 use lib.ListN.{length, take}
+use lib.Seq.{take-all}
 use borrow.Author.Needs.{needs}
-use Rattle.cells.specs.Marks.{byteOf, markOf, pack}
-use Rattle.cells.specs.Tables.{tab}
-use Rattle.cells.proofs.Tables.{tab-done, tab-more, tab-none}
+use Rattle.cells.specs.Marks.{markOf, pack}
+use Rattle.marks.proofs.Laws.{pack-none, pack-put}
 use Rattle.marks.proofs.rows.store16.Statement.{statement}
 use Rattle.marks.proofs.rows.store16.Tie as tie
 
 abbrev Inv-loop : tie.InvT-loop
-Inv-loop t₀ s i₀ t i = (i ≤ 128) × (length t ≡ length t₀) × (take i t ≡ tab (λ n. byteOf (λ j. markOf s (n / 8) (8 * (n % 8) + j))) i)
+Inv-loop t₀ s x₀ t x = (x ≤ 16) × (length t ≡ length t₀) × (take (8 * x) t ≡ pack x (markOf s))
 
 abbrev μ-loop : tie.MeasureT-loop
-μ-loop t₀ s i₀ t i = 128 - i
+μ-loop t₀ s x₀ t x = 16 - x
 
 loop-holds : tie.Need-loop-holds Inv-loop μ-loop
-loop-holds c = (search needs, search needs, tab-none _)
+loop-holds c = (search needs, search needs, pack-none _)
 
 loop-again : tie.Need-loop-again Inv-loop μ-loop
 loop-again c =
-    let l = c .before .before .before .loop in
-    (omega arith, search needs, tab-more _ (l .t) (l .i) _ (omega arith) (l .inv .2) (c .byte-of .ensures))
+    let at-store-row = c .before .before in
+    let at-loop = at-store-row .before .before .before .before in
+    let l = at-loop .loop in
+    let s = at-loop .before .before .args in
+    (omega arith, search needs, ap (take (8 * (l .x + 1))) (at-store-row .store-row .ensures) ∙ pack-put (markOf (s .t2)) (l .t) (l .x) (omega arith) (l .inv .2))
 
 returns : tie.Need-returns Inv-loop μ-loop
-unfolding pack
 returns c =
     let l = c .before .loop in
-    let e : l .i ≡ 128 = omega arith in
-    tab-done _ (l .t) 128 (omega arith) (rw e at (l .inv .2))
+    let e : l .x ≡ 16 = omega arith in
+    sym (take-all 128 (l .t) (omega arith)) ∙ rw e at (l .inv .2)
 
 pub store16-spec : {M : Type 1} → statement M
 store16-spec = tie.close (tie.spec
@@ -39,7 +41,6 @@ store16-spec = tie.close (tie.spec
     (λ c. search needs)
     (λ c. search needs)
     (λ c κs. search needs)
-    (λ c. search needs)
     (λ c. search needs)
     (λ c. search needs)
     loop-again

@@ -1,15 +1,13 @@
 -- `revisions::inherit::by_row` meets its contract: the writes in a row. Assumes nothing.
 use Prim.Native.Nat.{ℕ}
-use mathlib.Core.Bool.{Bool, false}
-use mathlib.Core.Path.{_∙_, ap}
+use mathlib.Core.Bool.{Bool}
 use native.Mathlib.Omega.{arith}
-use lib.ListN.{getD}
 use borrow.Author.Needs.{needs}
 use Rattle.cells.specs.CellSteps.{forkRow}
 use Rattle.cells.specs.Decode.{cells}
+use Rattle.cells.specs.Marks.{markAt}
 use Rattle.cells.specs.Parts.{rowsPart, split}
-use Rattle.cells.proofs.Tables.{getD-tab}
-use Rattle.revisions.proofs.Rows.{putRowOf-same}
+use Rattle.revisions.proofs.Rows.{putRowOf-same, row-marks}
 use Rattle.revisions.proofs.Writes.{by-row-done}
 use Rattle.revisions.proofs.inherit.by_row.Statement.{statement}
 use Rattle.revisions.proofs.inherit.by_row.Tie as tie
@@ -26,8 +24,8 @@ returns c =
     let start = at-base .before .before .before in
     let s = start .args in
     let d = s .d .now in
-    let f : ℕ → Bool = λ u. getD (at-forked-row .forked-row .result) u false in
-    let e = putRowOf-same (split d rowsPart) (s .c .0) f (forkRow (cells d) (s .p .0)) (λ u h. ap (λ z. getD z u false) (at-forked-row .forked-row .ensures) ∙ getD-tab (forkRow (cells d) (s .p .0)) 4096 u false h) in
+    let f : ℕ → Bool = markAt (at-forked-row .forked-row .result) in
+    let e = putRowOf-same (split d rowsPart) (s .c .0) f (forkRow (cells d) (s .p .0)) (row-marks 512 (forkRow (cells d) (s .p .0)) (at-forked-row .forked-row .result) (at-forked-row .forked-row .ensures)) in
     by-row-done d (start .pre .0) _ _ _ _ (s .p .0) (s .c .0) (at-base .base .result) f (omega arith) (omega arith) (at-base .base .ensures .0) e (at-row .row .ensures) (at-used .used .ensures) (at-base2 .base2 .ensures) (at-count .count .ensures)
 
 pub by-row-spec : {M : Type 1} → statement M

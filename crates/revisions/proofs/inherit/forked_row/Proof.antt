@@ -1,30 +1,27 @@
 -- `revisions::inherit::forked_row` meets its contract: the first `i` updates of the own list are marked. Assumes nothing.
 use Prim.Native.Nat.{_-_, _≤_, ℕ}
-use mathlib.Core.Bool.{Bool, _||_, false, true}
+use mathlib.Core.Bool.{Bool}
 use mathlib.Core.Path.{_∙_, _≡_, ap}
 use mathlib.Core.Logic.{⊎-elim}
 use native.Mathlib.Omega.{arith}
-use lib.ListN.{getD, length, set, take}
+use lib.ListN.{length}
 use borrow.Author.Needs.{needs}
-use Rattle.lists.specs.Lists.{member}
-use Rattle.cells.specs.Cells.{marked}
 use Rattle.cells.specs.Decode.{cells}
-use Rattle.cells.specs.Tables.{tab}
-use Rattle.cells.proofs.Tables.{getD-tab, tab-of, tab-same}
+use Rattle.cells.specs.Marks.{markAt, rowBytes}
 use Rattle.order.proofs.Laws.{gathered}
 use Rattle.revisions.proofs.Rows.{row-done, row-more, row-skip, row-start, withFirst}
 use Rattle.revisions.proofs.inherit.forked_row.Statement.{statement}
 use Rattle.revisions.proofs.inherit.forked_row.Tie as tie
 
 abbrev Inv-loop : tie.InvT-loop
-Inv-loop d own n marks₀ i₀ marks i = (i ≤ n) × (n ≤ 4096) × (length own ≡ 4096) × (length marks ≡ 4096) × (marks ≡ tab (withFirst (λ u. getD marks₀ u false) own 4096 i) 4096)
+Inv-loop d own n marks₀ i₀ marks i = (i ≤ n) × (n ≤ 4096) × (length own ≡ 4096) × (length marks ≡ 512) × (marks ≡ rowBytes 512 (withFirst (markAt marks₀) own 512 i))
 
 abbrev μ-loop : tie.MeasureT-loop
 μ-loop d own n marks₀ i₀ marks i = n - i
 
 loop-holds : tie.Need-loop-holds Inv-loop μ-loop
 loop-holds c =
-    (search needs, c .before .before .own-list .ensures .1, search needs, search needs, row-start (λ u. getD (c .load .result) u false) (c .before .before .own-list .last .1 .1 .0) 4096 (c .load .result) (tab-of (c .load .result) false 4096 (search needs)))
+    (search needs, c .before .before .own-list .ensures .1, search needs, search needs, row-start 512 _ (c .before .before .own-list .last .1 .1 .0) (c .load .result) (c .load .ensures))
 
 loop-again : tie.Need-loop-again Inv-loop μ-loop
 loop-again c =
@@ -33,11 +30,12 @@ loop-again c =
     let at-load = at-loop .before in
     let at-own-list = at-load .before .before in
     let l = at-loop .loop in
-    let f : ℕ → Bool = λ u. getD (at-load .load .result) u false in
+    let f : ℕ → Bool = markAt (at-load .load .result) in
     let o = at-own-list .own-list .last .1 .1 .0 in
+    let u = at-number .number in
     ⊎-elim
-    (λ w. rw (w .1) (omega arith, l .inv .1, l .inv .2, search needs, ap (λ u. set (l .marks) u true) (at-number .number .ensures) ∙ row-more f o 4096 (l .i) (l .marks) (omega arith) (rw (at-number .number .ensures) at (w .0 .taken)) (l .inv .4)))
-    (λ w. rw (w .1) (omega arith, l .inv .1, l .inv .2, l .inv .3, row-skip f o 4096 (l .i) (l .marks) (omega arith) (rw (at-number .number .ensures) at (w .0 .left)) (l .inv .4)))
+    (λ w. rw (w .2) (omega arith, l .inv .1, l .inv .2, search needs, row-more f o 512 (l .i) (l .marks) (u .result) (w .1 .result) (omega arith) (u .ensures) (w .0 .taken) (l .inv .4) (w .1 .ensures)))
+    (λ w. rw (w .1) (omega arith, l .inv .1, l .inv .2, l .inv .3, row-skip f o 512 (l .i) (l .marks) (omega arith) (rw (u .ensures) at (w .0 .left)) (l .inv .4)))
     (c .if1 .came)
 
 returns : tie.Need-returns Inv-loop μ-loop
@@ -51,8 +49,9 @@ returns c =
     let l = at-loop .loop in
     let o = at-own-list .own-list .last .1 .1 .0 in
     let e : l .i ≡ at-own-list .own-list .result = omega arith in
-    row-done k (s .p .0) (at-own-list .own-list .result) o (l .marks) (gathered k (s .p .0) _ o _ (at-own-list .own-list .ensures .0) (at-own-list .own-list .ensures .2))
-    (l .inv .4 ∙ rw e (tab-same _ _ 4096 (λ u h. ap (λ b. b || member u (take (at-own-list .own-list .result) o)) (ap (λ z. getD z u false) (at-load .load .ensures) ∙ getD-tab (marked k (s .p .0)) 4096 u false h))))
+    row-done k (s .p .0) (at-own-list .own-list .result) o (at-load .load .result) (l .marks) (gathered k (s .p .0) _ o _ (at-own-list .own-list .ensures .0) (at-own-list .own-list .ensures .2))
+    (at-load .load .ensures)
+    (l .inv .4 ∙ ap (λ n. rowBytes 512 (withFirst (markAt (at-load .load .result)) o 512 n)) e)
 
 pub forked-row-spec : {M : Type 1} → statement M
 forked-row-spec = tie.close (tie.spec
@@ -63,6 +62,8 @@ forked-row-spec = tie.close (tie.spec
     (λ c κs. search needs)
     loop-holds
     (λ c. search needs)
+    (λ c. search needs)
+    (λ c κs. search needs)
     (λ c. search needs)
     (λ c κs. search needs)
     (λ c. search needs)
