@@ -71,11 +71,9 @@ unfolding high
 high-whole t h = to-end Lower.bytes Upper.bytes t h
 
 -- the value along what was listed
-pub value-along : (t l z : List ℕ) (n r b v : ℕ) → length t ≡ bytes → n ≡ length (order (cellsOf t) r) → l ≡ order (cellsOf t) r ++ z
-    → v ≡ valueOf (entryAt (take Upper.bytes (high t))) b (take n l) → v ≡ valueAt t r b
+pub value-along : (t l : List ℕ) (r b v : ℕ) → length t ≡ bytes → l ≡ order (cellsOf t) r → v ≡ valueOf (entryAt (take Upper.bytes (high t))) b l → v ≡ valueAt t r b
 unfolding valueAt
-value-along t l z n r b v h e el ev =
-    ev ∙ ap (λ (u : List ℕ). valueOf (entryAt u) b (take n l)) (high-whole t h) ∙ ap (valueOf (entryAt (high t)) b) (fits n (order (cellsOf t) r) z l e el .1)
+value-along t l r b v h e ev = ev ∙ ap (λ (u : List ℕ). valueOf (entryAt u) b l) (high-whole t h) ∙ ap (valueOf (entryAt (high t)) b) e
 
 pub below : (u w : ℕ) → u ≡ w → w < updates → u < updates
 below u w e h = omega arith

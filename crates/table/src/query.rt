@@ -19,6 +19,7 @@ use crate::event;
 use crate::event::EventCheck;
 use crate::sound;
 use crate::sound::TableCheck;
+use crate::visible::visible;
 use fields::table::Client;
 use fields::table::Revision;
 
@@ -27,8 +28,8 @@ fn value_at(t: &[u8], r: Revision, bib: u16) -> u32
     requires { ⌜ (length (now t) ≡ bytes) × (inRange (low (now t)) ≡ true) × (r .0 < revisions) ⌝ }
     ensures { λ v. ⌜ v ≡ valueAt (now (t .entry)) (r .0) bib ⌝ }
 {
-    let mut out = [0u16; 4096];
-    let n = order::visible::list(&t[0..40960], r, &mut out);
+    let mut out = order::links::room();
+    let n = visible(t, r, &mut out);
     entries::value::value(&t[40960..65536], &out, n, bib)
 }
 
