@@ -1,9 +1,9 @@
--- `table::query::value_at` meets its contract: the order of r, then the value along it. Assumes nothing.
+-- `table::query::standing_at` meets its contract: the order of r, then the standing along it. Assumes nothing.
 use borrow.Author.Needs.{needs}
 use Rattle.table.specs.Halves.{high}
-use Rattle.table.proofs.Halves.{high-length, value-along}
-use Rattle.table.proofs.query.value_at.Statement.{statement}
-use Rattle.table.proofs.query.value_at.Tie as tie
+use Rattle.table.proofs.Halves.{high-length, standing-along}
+use Rattle.table.proofs.query.standing_at.Statement.{statement}
+use Rattle.table.proofs.query.standing_at.Tie as tie
 
 visible-requires : tie.Need-visible-requires
 visible-requires c κs =
@@ -11,8 +11,8 @@ visible-requires c κs =
     let start = at-room .before .before in
     (start .pre .0, start .pre .1, start .pre .2, at-room .room .ensures)
 
-value-requires : tie.Need-value-requires
-value-requires c κs =
+standing-requires : tie.Need-standing-requires
+standing-requires c κs =
     let at-visible = c .before .before .before in
     let start = at-visible .before .before .before .before in
     (high-length (start .args .t .now) (start .pre .0), at-visible .visible .ensures .1)
@@ -23,10 +23,10 @@ returns c =
     let at-visible = c .before .before .before .before in
     let start = at-visible .before .before .before .before in
     let s = start .args in
-    value-along (s .t .now) _ (s .r .0) (s .bib) (c .value .result) (start .pre .0) (at-visible .visible .ensures .3) (c .value .ensures)
+    standing-along (s .t .now) _ (s .r .0) (s .bib) (c .standing .result) (start .pre .0) (at-visible .visible .ensures .3) (c .standing .ensures)
 
-pub value-at-spec : {M : Type 1} → statement M
-value-at-spec = tie.close (tie.spec
+pub standing-at-spec : {M : Type 1} → statement M
+standing-at-spec = tie.close (tie.spec
     (λ c κs. search needs)
     (λ c. search needs)
     visible-requires
@@ -34,5 +34,5 @@ value-at-spec = tie.close (tie.spec
     (λ c. search needs)
     (λ c. search needs)
     (λ c. search needs)
-    value-requires
+    standing-requires
     returns)
