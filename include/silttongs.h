@@ -64,6 +64,10 @@ static inline uint8_t silttongs_code(uint64_t answer) { return (uint8_t)(answer 
 /* The value of an answer. */
 static inline uint32_t silttongs_value(uint64_t answer) { return (uint32_t)answer; }
 
+/* The two numbers of a fill's answer: the box's own updates, and those of the whole table. */
+static inline uint16_t silttongs_own(uint64_t answer) { return (uint16_t)answer; }
+static inline uint16_t silttongs_total(uint64_t answer) { return (uint16_t)(answer >> 16); }
+
 /* Starts a new day, whatever the bytes were: box 0 alone, 0 for every bib. Code 1, for the length
  * only. Value: 0. */
 uint64_t silttongs_fresh(uint8_t *table, size_t length);
@@ -96,6 +100,15 @@ uint64_t silttongs_join(uint8_t *table, size_t length, uint8_t joiner, uint8_t j
  * read: a list is no event. */
 uint64_t silttongs_list(const uint8_t *table, size_t length, uint8_t box, uint8_t *sheet,
                         size_t sheet_length);
+
+/* Tells how full a box is, busy or not. Codes 1, 3, 4. In place of a value it has two numbers, both
+ * 0 in a refusal: silttongs_own, the updates taken on the box and on boxes joined into it, directly
+ * or through others, but not those it inherited at its start; and silttongs_total, the updates taken
+ * by the whole table.
+ *
+ * From fresh on, through the calls alone, the own updates of all boxes out come to the total. The
+ * table is only read: a fill is no event. */
+uint64_t silttongs_fill(const uint8_t *table, size_t length, uint8_t box);
 
 #ifdef __cplusplus
 }

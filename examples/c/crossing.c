@@ -18,6 +18,11 @@ static void show(const char *step, uint64_t answer) {
            silttongs_value(answer));
 }
 
+static void show_fill(const char *step, uint64_t answer) {
+    printf("%-26s code %2u  own %u  total %u\n", step, (unsigned)silttongs_code(answer),
+           (unsigned)silttongs_own(answer), (unsigned)silttongs_total(answer));
+}
+
 /* The number of so many bytes, the least significant first. */
 static uint32_t number(const uint8_t *bytes, int count) {
     uint32_t n = 0;
@@ -43,7 +48,11 @@ int main(void) {
     show("update 0/0 Time 60000", silttongs_update(table, n, 0, 0, SILTTONGS_TIME, 7, 60000));
     show("yield 0", silttongs_yield(table, n, 0));
     show("query 0/1", silttongs_query(table, n, 0, 1, 7));
+    show_fill("fill box 0", silttongs_fill(table, n, 0));
+    show_fill("fill box 1", silttongs_fill(table, n, 1));
     show("join 0 with 1", silttongs_join(table, n, 0, 1));
+    show_fill("fill box 0", silttongs_fill(table, n, 0));
+    show_fill("fill box 1", silttongs_fill(table, n, 1));
 
     uint64_t listed = silttongs_list(table, n, 0, sheet, sizeof sheet);
     show("list box 0", listed);

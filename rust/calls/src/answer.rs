@@ -2,13 +2,15 @@
 
 use crate::Code;
 
-/// The code, the value, and the lines that an accepted list writes.
+/// The code, the value, the second number of a fill, and the lines that an accepted list writes.
 #[derive(Clone, Debug, PartialEq, Eq)]
 pub struct Answer {
     /// Why the call was refused, or that it was accepted.
     pub code: Code,
-    /// 0 in a refusal.
+    /// 0 in a refusal; of a fill, the revision's own updates.
     pub value: u32,
+    /// The updates taken by the whole table; 0 but for an accepted fill.
+    pub total: u32,
     /// Empty but for an accepted list.
     pub lines: Vec<Line>,
 }
@@ -52,19 +54,24 @@ impl Line {
 }
 
 impl Answer {
-    /// A refusal: value 0, nothing written.
+    /// A refusal: both numbers 0, nothing written.
     pub fn refused(code: Code) -> Self {
-        Answer { code, value: 0, lines: Vec::new() }
+        Answer { code, value: 0, total: 0, lines: Vec::new() }
     }
 
     /// Accepted, with a value.
     pub fn accepted(value: u32) -> Self {
-        Answer { code: Code::Accepted, value, lines: Vec::new() }
+        Answer { code: Code::Accepted, value, total: 0, lines: Vec::new() }
     }
 
     /// An accepted list: its value is the count of its lines.
     pub fn listed(lines: Vec<Line>) -> Self {
-        Answer { code: Code::Accepted, value: lines.len() as u32, lines }
+        Answer { code: Code::Accepted, value: lines.len() as u32, total: 0, lines }
+    }
+
+    /// An accepted fill: the revision's own updates, and those of the whole table.
+    pub fn filled(own: u32, total: u32) -> Self {
+        Answer { code: Code::Accepted, value: own, total, lines: Vec::new() }
     }
 }
 

@@ -51,6 +51,12 @@ pub enum Call {
         /// The length of the listing buffer (01: sheet) in bytes.
         room: usize,
     },
+    /// How many updates are a revision's own, and how many the whole table took. A fill is no
+    /// event, and no step of a day file.
+    Fill {
+        /// 01: box.
+        revision: u8,
+    },
 }
 
 /// The kinds of update by name, kind 1 first.
@@ -81,6 +87,7 @@ impl fmt::Display for Call {
             Call::Fork { revision } => write!(f, "fork box {revision}"),
             Call::Join { joiner, joinee } => write!(f, "join {joiner} with {joinee}"),
             Call::List { revision, room } => write!(f, "list box {revision} room {room}"),
+            Call::Fill { revision } => write!(f, "fill box {revision}"),
         }
     }
 }
@@ -103,6 +110,7 @@ mod tests {
             (Call::Fork { revision: 0 }, "fork box 0"),
             (Call::Join { joiner: 0, joinee: 1 }, "join 0 with 1"),
             (Call::List { revision: 2, room: 12 }, "list box 2 room 12"),
+            (Call::Fill { revision: 63 }, "fill box 63"),
         ];
         for (call, text) in written {
             assert_eq!(call.to_string(), text);

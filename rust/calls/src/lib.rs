@@ -3,9 +3,9 @@
 //! Words only. No rule of the table stands here: the implementations that are compared with one
 //! another share these types and nothing else.
 //!
-//! "01" is the scope document, "002" the paper "Eventually Consistent Transactions". Identifiers
-//! use the paper's terms: revision (01: box), client (tablet), terminal (line end), joined (handed
-//! in), accepted (taken), arbitration order (line-up).
+//! "01" is the scope document, "02" the change requests, "002" the paper "Eventually Consistent
+//! Transactions". Identifiers use the paper's terms: revision (01: box), client (tablet), terminal
+//! (line end), joined (handed in), accepted (taken), arbitration order (line-up).
 
 #![forbid(unsafe_code)]
 

@@ -107,7 +107,7 @@ impl Drawing {
                 let edge = format!("<path d=\"M{end} {from}H{turn}L{} {to}\"/>", self.now);
                 put(&mut self.edges, edge);
             }
-            Call::Yield { .. } | Call::List { .. } => {}
+            Call::Yield { .. } | Call::List { .. } | Call::Fill { .. } => {}
         }
     }
 

@@ -57,7 +57,7 @@ fn record(call: Call, rng: &mut Rng) -> Option<Record> {
         Call::Join { joiner, joinee } => {
             Record { step: 5, revision: joiner, second: joinee, ..any }
         }
-        Call::List { .. } => return None,
+        Call::List { .. } | Call::Fill { .. } => return None,
     })
 }
 

@@ -60,6 +60,7 @@ fn each_error_names_its_line_and_what_was_expected() {
         ("step 3", "step byte 3 is written `yield`"),
         ("step 256", "expected a step byte from 0 to 255, found `256`"),
         ("list box 0 room 12", "unknown step `list`; there are update, query, yield, fork, join and step"),
+        ("fill box 0", "unknown step `fill`; there are update, query, yield, fork, join and step"),
     ];
     for (line, message) in cases {
         let error = read_text(&format!("yield 0\n\n{line}\nyield x\n")).unwrap_err();

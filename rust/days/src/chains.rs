@@ -30,6 +30,7 @@ pub fn chain_of_joins(seed: u64) -> Vec<Call> {
         calls.push(Call::Join { joiner, joinee });
         entries(&mut rng, joiner, &mut calls);
         calls.push(Call::List { revision: joiner, room: 49_152 });
+        calls.extend([joiner, joinee].map(|revision| Call::Fill { revision }));
     }
     calls
 }

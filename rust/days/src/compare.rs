@@ -8,11 +8,13 @@ pub fn disagreement(calls: &[Call]) -> Option<String> {
     calls.iter().find_map(|&call| both.differ(call))
 }
 
-/// As [`disagreement`], with a listing of every revision after each call: with room enough, with
-/// just enough, and with one byte less.
-pub fn disagreement_with_listings(calls: &[Call]) -> Option<String> {
+/// As [`disagreement`], with every revision read after each call: by a fill, and by a listing with
+/// room enough, with just enough, and with one byte less.
+pub fn disagreement_with_reads(calls: &[Call]) -> Option<String> {
     let mut both = Both::fresh();
-    calls.iter().find_map(|&call| both.differ(call).or_else(|| both.differ_in_listings()))
+    calls.iter().find_map(|&call| {
+        both.differ(call).or_else(|| both.differ_in_fills()).or_else(|| both.differ_in_listings())
+    })
 }
 
 struct Both {
@@ -32,6 +34,12 @@ impl Both {
         })
     }
 
+    /// Of every revision, and of numbers that were not given out.
+    fn differ_in_fills(&mut self) -> Option<String> {
+        let given = self.literal.revisions().len() as u8;
+        (0..=given).chain([64, 255]).find_map(|revision| self.differ(Call::Fill { revision }))
+    }
+
     fn differ_in_listings(&mut self) -> Option<String> {
         (0..self.literal.revisions().len()).find_map(|number| {
             let revision = number as u8;
@@ -45,6 +53,9 @@ impl Both {
 
 fn described(answer: &Answer) -> String {
     let mut text = format!("code {}, value {}", answer.code.number(), answer.value);
+    if answer.total != 0 {
+        text += &format!(", total {}", answer.total);
+    }
     if !answer.lines.is_empty() {
         let numbers: Vec<u32> = answer.lines.iter().map(|line| line.number).collect();
         text += &format!(", updates {numbers:?} of {:?}", answer.lines);

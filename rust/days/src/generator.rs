@@ -76,7 +76,7 @@ impl<'a> Generator<'a> {
                 let moved = self.last.iter_mut().chain(&mut self.forker);
                 moved.filter(|revision| **revision == joinee).for_each(|place| *place = joiner);
             }
-            Call::List { .. } => {}
+            Call::List { .. } | Call::Fill { .. } => {}
         }
     }
 
@@ -97,7 +97,8 @@ impl<'a> Generator<'a> {
     /// A call with numbers in range.
     fn likely(&mut self) -> Call {
         let w = self.profile.weights;
-        let mut at = self.rng.below(w.update + w.query + w.yields + w.fork + w.join + w.list);
+        let steps = w.update + w.query + w.yields + w.fork + w.join;
+        let mut at = self.rng.below(steps + w.list + w.fill);
         let mut falls = |weight: usize| {
             let here = at < weight;
             at = at.saturating_sub(weight);
@@ -113,8 +114,10 @@ impl<'a> Generator<'a> {
             self.fork()
         } else if falls(w.join) {
             self.join()
-        } else {
+        } else if falls(w.list) {
             self.list()
+        } else {
+            self.fill()
         }
     }
 
@@ -198,12 +201,25 @@ impl<'a> Generator<'a> {
         self.settled(None, &[revision], Call::List { revision, room })
     }
 
-    /// One argument replaced: the first number out of range, any number, or for revisions one that
-    /// was given out, joined or not.
+    /// In most cases of a revision that is out, busy or not.
+    fn fill(&mut self) -> Call {
+        let out = self.any_out();
+        let any = self.any_number();
+        Call::Fill { revision: if self.rng.percent(75) { out } else { any } }
+    }
+
+    /// A number for a revision: one that was given out, joined or not, the first that was not, the
+    /// first out of range, or any.
+    fn any_number(&mut self) -> u8 {
+        let given = self.rng.below(self.given) as u8;
+        let any = self.rng.bits() as u8;
+        self.rng.pick(&[given, given, given, self.given as u8, 64, any])
+    }
+
+    /// One argument replaced: the first number out of range, or any number.
     fn spoilt(&mut self, call: Call) -> Call {
         let any = self.rng.bits();
-        let given = self.rng.below(self.given) as u8;
-        let number = self.rng.pick(&[given, given, given, self.given as u8, 64, any as u8]);
+        let number = self.any_number();
         let strange_client = self.rng.pick(&[16, any as u8]);
         let strange_bib = self.rng.pick(&[999, 1_000, any as u16]);
         let strange_kind = self.rng.pick(&[0, 5, any as u8]);
@@ -227,6 +243,7 @@ impl<'a> Generator<'a> {
                 _ => Call::Join { joiner, joinee: number },
             },
             Call::List { room, .. } => Call::List { revision: number, room },
+            Call::Fill { .. } => Call::Fill { revision: number },
         }
     }
 }

@@ -1,8 +1,9 @@
 //! Random days, and the checkers that judge them.
 //!
 //! Days are made from a seed, and a failed check prints it with the shortest day found that still
-//! fails. Two checkers use them: the literal replay and the plain implementation agree on every
-//! answer, and demand 3's line-up holds by brute force.
+//! fails. Three checkers use them: the literal replay and the plain implementation agree on every
+//! answer, demand 3's line-up holds by brute force, and the fills of all revisions come to the
+//! updates accepted.
 
 #![forbid(unsafe_code)]
 
@@ -10,6 +11,7 @@ mod arbitration;
 mod chains;
 mod compare;
 mod facts;
+mod fills;
 mod generator;
 mod line_up;
 mod profile;
@@ -19,8 +21,9 @@ mod seeds;
 
 pub use arbitration::arbitration_order;
 pub use chains::chain_of_joins;
-pub use compare::{disagreement, disagreement_with_listings};
+pub use compare::{disagreement, disagreement_with_reads};
 pub use facts::{Facts, Step, View};
+pub use fills::{fault_of_fills, told, Told};
 pub use generator::random_day;
 pub use line_up::{broken_sentence, SENTENCES};
 pub use profile::{Profile, Weights};

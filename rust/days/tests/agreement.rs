@@ -1,11 +1,11 @@
 //! Random days of all kinds: the literal replay and the plain implementation give the same code,
-//! value and listing for every call.
+//! value, total and listing for every call.
 
 use std::collections::BTreeMap;
 
 use calls::{Call, Code};
 use days::{
-    chain_of_joins, disagreement, disagreement_with_listings, must_pass, random_day, seeds, Profile,
+    chain_of_joins, disagreement, disagreement_with_reads, must_pass, random_day, seeds, Profile,
 };
 
 /// How many days of each kind are replayed.
@@ -20,10 +20,10 @@ const KINDS: [(Profile, u64); 7] = [
 ];
 
 #[test]
-fn small_days_agree_in_every_listing_after_every_step() {
+fn small_days_agree_in_every_listing_and_fill_after_every_step() {
     for seed in seeds(3_000) {
         let day = random_day(&Profile::SMALL, seed);
-        must_pass("small", seed, &day, disagreement_with_listings);
+        must_pass("small", seed, &day, disagreement_with_reads);
     }
 }
 
@@ -42,7 +42,7 @@ fn chains_of_joins_agree() {
         must_pass("chain of joins", seed, &chain_of_joins(seed), disagreement);
     }
     for seed in 0..20 {
-        must_pass("chain of joins", seed, &chain_of_joins(seed), disagreement_with_listings);
+        must_pass("chain of joins", seed, &chain_of_joins(seed), disagreement_with_reads);
     }
 }
 
@@ -58,13 +58,14 @@ fn every_call_meets_each_of_its_codes() {
             }
         }
     }
-    let codes: [(&str, &[u8]); 6] = [
+    let codes: [(&str, &[u8]); 7] = [
         ("update", &[0, 2, 3, 4, 5, 6, 7, 8, 9]),
         ("query", &[0, 2, 3, 4, 5, 6, 7, 8]),
         ("yield", &[0, 2]),
         ("fork", &[0, 3, 4, 7, 10]),
         ("join", &[0, 3, 4, 7, 11]),
         ("list", &[0, 3, 4, 7, 12]),
+        ("fill", &[0, 3, 4]),
     ];
     for (call, codes) in codes {
         let of_call = met.iter().filter(|((name, _), _)| *name == call);
@@ -74,6 +75,37 @@ fn every_call_meets_each_of_its_codes() {
             let times = met[&(call, code)];
             assert!(times >= 30, "{call} met code {code} only {times} times");
         }
+    }
+}
+
+/// Fills are made of revisions of every kind, many times over.
+#[test]
+fn fills_of_every_kind_are_made() {
+    let mut met: BTreeMap<&str, usize> = BTreeMap::new();
+    for (profile, count) in KINDS {
+        for seed in 0..count / 4 {
+            let mut day = literal::Day::fresh();
+            for call in random_day(&profile, seed) {
+                if let Call::Fill { revision } = call {
+                    *met.entry(kind_of(&day, usize::from(revision))).or_default() += 1;
+                }
+                day.call(call);
+            }
+        }
+    }
+    let kinds = ["above 63", "busy", "joined", "never sent", "out and idle"];
+    assert!(met.keys().eq(&kinds), "{met:?}");
+    assert!(met.values().all(|&times| times >= 100), "{met:?}");
+}
+
+fn kind_of(day: &literal::Day, number: usize) -> &'static str {
+    let open = |t: &literal::Transaction| t.revision == number && t.yielded.is_none();
+    match day.revisions().get(number) {
+        None if number > 63 => "above 63",
+        None => "never sent",
+        Some(revision) if revision.joined => "joined",
+        _ if day.transactions().iter().any(open) => "busy",
+        _ => "out and idle",
     }
 }
 
@@ -120,5 +152,6 @@ fn name(call: Call) -> &'static str {
         Call::Fork { .. } => "fork",
         Call::Join { .. } => "join",
         Call::List { .. } => "list",
+        Call::Fill { .. } => "fill",
     }
 }

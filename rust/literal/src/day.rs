@@ -88,6 +88,12 @@ impl Day {
         self.diagram.visible(self.revisions[revision].terminal)
     }
 
+    /// The own updates of a revision, busy or not: "those it took itself plus those of boxes joined
+    /// into it, directly or through others".
+    pub fn own(&self, revision: usize) -> Vec<usize> {
+        self.diagram.own(self.revisions[revision].terminal)
+    }
+
     /// Whether vertex x sees vertex y: "A vertex sees each vertex from which a path leads to it."
     pub fn sees(&self, x: VertexId, y: VertexId) -> bool {
         self.diagram.leads(y, x)

@@ -42,7 +42,7 @@ impl Diagram {
             VertexKind::Start | VertexKind::Fork | VertexKind::Query => Vec::new(),
             VertexKind::Update(number) => vec![number],
             VertexKind::Join => match self.j_edge(x) {
-                Some(y) => self.effects(&self.revision_up_to(y)),
+                Some(y) => self.own(y),
                 None => unreachable!("a join vertex has a j-edge"),
             },
         }
@@ -50,6 +50,12 @@ impl Diagram {
 
     fn effects(&self, path: &[VertexId]) -> Vec<usize> {
         path.iter().flat_map(|&y| self.effect(y)).collect()
+    }
+
+    /// The effects of x's revision up to x: what it took itself, and what was joined into it. What
+    /// it inherited at its start is not among them.
+    pub fn own(&self, x: VertexId) -> Vec<usize> {
+        self.effects(&self.revision_up_to(x))
     }
 
     /// The effects along the root path of x: what Definition 9 applies to the fresh values. The

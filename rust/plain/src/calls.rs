@@ -12,6 +12,15 @@ use crate::update::Kind;
 /// Bytes of one entry of a listing.
 pub(crate) const LISTED: usize = 12;
 
+/// How full a revision is.
+#[derive(Clone, Copy, Debug, PartialEq, Eq)]
+pub struct Fill {
+    /// The updates taken on it and on those joined into it.
+    pub own: u16,
+    /// The updates taken by the whole table.
+    pub total: u16,
+}
+
 /// A new day, whatever the bytes were.
 pub fn fresh(t: &mut [u8]) -> Result<u32, Code> {
     table::fresh(t.try_into().map_err(|_| Code::NoTable)?);
@@ -109,4 +118,13 @@ pub fn list(t: &mut [u8], revision: u8, sheet: &mut [u8]) -> Result<u32, Code> {
         place[8..12].copy_from_slice(&u32::from(u).to_le_bytes());
     }
     Ok(order.len() as u32)
+}
+
+/// How full a revision is, busy or not. The table stays as it is.
+pub fn fill(t: &mut [u8], revision: u8) -> Result<Fill, Code> {
+    let t = checked(t)?;
+    let revision = t.check_given(revision)?;
+    t.check_out(revision)?;
+
+    Ok(Fill { own: t.count(revision), total: t.updates() })
 }

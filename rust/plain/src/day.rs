@@ -2,7 +2,7 @@
 
 use calls::{Answer, Call, Code, Line};
 
-use crate::calls::{fork, fresh, join, list, query, update, yield_, LISTED};
+use crate::calls::{fill, fork, fresh, join, list, query, update, yield_, Fill, LISTED};
 use crate::order::UPDATES;
 use crate::parts::BYTES;
 
@@ -41,6 +41,10 @@ pub fn call(t: &mut [u8], call: Call) -> Result<Answer, Code> {
         Call::Fork { revision } => fork(t, revision)?,
         Call::Join { joiner, joinee } => join(t, joiner, joinee)?,
         Call::List { revision, room } => return listed(t, revision, room).map(Answer::listed),
+        Call::Fill { revision } => {
+            let Fill { own, total } = fill(t, revision)?;
+            return Ok(Answer::filled(u32::from(own), u32::from(total)));
+        }
     };
     Ok(Answer::accepted(value))
 }

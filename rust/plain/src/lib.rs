@@ -19,6 +19,6 @@ mod steps;
 mod table;
 mod update;
 
-pub use self::calls::{fork, fresh, join, list, query, update, yield_};
+pub use self::calls::{fill, fork, fresh, join, list, query, update, yield_, Fill};
 pub use day::{call, Day};
 pub use parts::BYTES;

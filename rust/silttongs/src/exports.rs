@@ -2,6 +2,7 @@
 
 #![allow(unsafe_code)]
 
+use crate::fill::Fill;
 use crate::refusal::{answer, Refusal};
 
 extern "C" {
@@ -26,6 +27,7 @@ extern "C" {
         sheet: *mut u8,
         sheet_length: usize,
     ) -> u64;
+    fn silttongs_fill(table: *const u8, length: usize, revision: u8) -> u64;
 }
 
 // Each export takes any bytes and any numbers: it has no precondition, is proved to stay within
@@ -74,4 +76,9 @@ pub(crate) fn list(t: &[u8], revision: u8, sheet: &mut [u8]) -> Result<u32, Refu
     answer(unsafe {
         silttongs_list(t.as_ptr(), t.len(), revision, sheet.as_mut_ptr(), sheet.len())
     })
+}
+
+pub(crate) fn fill(t: &[u8], revision: u8) -> Result<Fill, Refusal> {
+    // SAFETY: as above. The table is only read.
+    answer(unsafe { silttongs_fill(t.as_ptr(), t.len(), revision) }).map(Fill::from_value)
 }

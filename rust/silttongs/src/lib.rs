@@ -29,9 +29,11 @@
 
 mod entry;
 mod exports;
+mod fill;
 mod refusal;
 mod table;
 
 pub use entry::{entries, Entry, SHEET};
+pub use fill::Fill;
 pub use refusal::Refusal;
 pub use table::{Kind, Table, BYTES};

@@ -1,6 +1,7 @@
 //! The calls as methods.
 
 use crate::exports;
+use crate::fill::Fill;
 use crate::refusal::Refusal;
 
 /// The length of a table in bytes.
@@ -39,7 +40,7 @@ impl TryFrom<u8> for Kind {
 }
 
 /// A table on bytes of its own, as `[u8; BYTES]` or `Box<[u8]>`, or on lent ones, as `&mut [u8]`,
-/// or `&[u8]` for lists alone.
+/// or `&[u8]` for lists and fills alone.
 ///
 /// Nothing but the bytes is kept. A refused call changes none of them. A box is a revision of the
 /// table, a tablet is a client.
@@ -207,6 +208,37 @@ impl<B: AsRef<[u8]>> Table<B> {
     /// Codes 1, 3, 4, 7 and 12.
     pub fn list(&self, revision: u8, sheet: &mut [u8]) -> Result<u32, Refusal> {
         exports::list(self.0.as_ref(), revision, sheet)
+    }
+
+    /// How full a box is, busy or not: its own updates, and those taken by the whole table. From
+    /// fresh on, through the calls alone, the own updates of all boxes out come to the total. The
+    /// table stays: a fill is no event.
+    ///
+    /// ```
+    /// use silttongs::{Fill, Kind, Refusal, Table, BYTES};
+    ///
+    /// let mut table = Table::fresh([0; BYTES])?;
+    /// table.update(2, 0, Kind::Time, 7, 61_000)?;
+    /// table.yield_(2)?;
+    /// table.fork(0)?;
+    /// table.update(3, 1, Kind::Penalty, 7, 5_000)?;
+    /// table.update(3, 1, Kind::Penalty, 8, 5_000)?;
+    /// assert_eq!(table.fill(0), Ok(Fill { own: 1, total: 3 }));
+    /// assert_eq!(table.fill(1), Ok(Fill { own: 2, total: 3 }));
+    ///
+    /// table.yield_(3)?;
+    /// table.join(0, 1)?;
+    /// assert_eq!(table.fill(0), Ok(Fill { own: 3, total: 3 }));
+    /// assert_eq!(table.fill(1), Err(Refusal::HandedIn));
+    /// assert_eq!(table.fill(2), Err(Refusal::NeverSent));
+    /// # Ok::<(), Refusal>(())
+    /// ```
+    ///
+    /// # Errors
+    ///
+    /// Codes 1, 3 and 4.
+    pub fn fill(&self, revision: u8) -> Result<Fill, Refusal> {
+        exports::fill(self.0.as_ref(), revision)
     }
 
     /// The bytes, to be kept or copied.

@@ -43,6 +43,9 @@ fn each_cell_at_its_limits() {
             let mut t = fresh();
             cell.set(&mut t, value);
             let code = if cell.range.contains(&value) { 0 } else { 1 };
+            // A fill may find revision 0 never sent or joined.
+            let fill = library(&mut t, Call::Fill { revision: 0 });
+            assert_eq!(fill.code == 1, code == 1, "{value} in {cell:?}");
             let given = library(&mut t, Call::Yield { client: 0 });
             assert_eq!((given.code, given.value), (code, 0), "{value} in {cell:?}");
         }
@@ -72,13 +75,14 @@ fn wrong_lengths() {
         Call::Fork { revision: 0 },
         Call::Join { joiner: 0, joinee: 1 },
         Call::List { revision: 0, room: 24 },
+        Call::Fill { revision: 0 },
     ];
     for length in [0, 1, 12, 40_959, 40_960, BYTES - 1, BYTES + 1, 2 * BYTES] {
         let mut t = fresh();
         t.resize(length, 0);
         let before = t.clone();
         for call in calls {
-            let refused = Given { code: 1, value: 0, sheet: sheet(call) };
+            let refused = Given { code: 1, value: 0, total: 0, sheet: sheet(call) };
             assert_eq!(library(&mut t, call), refused, "{length} bytes, `{call}`");
             assert!(t == before, "{length} bytes, `{call}`: changed");
         }
@@ -141,11 +145,12 @@ fn judged(cells: &[Cell], t: &mut Vec<u8>, call: Call) -> Result<Given, String> 
     if (code == 1) == is_table(cells, &before) {
         return Err(format!("code {code}, against docs/CELLS.md"));
     }
-    if code != 0 && (given.value != 0 || *t != before || given.sheet != sheet(call)) {
+    let refused = || Given { code, value: 0, total: 0, sheet: sheet(call) };
+    if code != 0 && (given != refused() || *t != before) {
         return Err(format!("refused with code {code}, but with a value or bytes changed"));
     }
-    if matches!(call, Call::List { .. }) && *t != before {
-        return Err("a list changed the table".to_string());
+    if matches!(call, Call::List { .. } | Call::Fill { .. }) && *t != before {
+        return Err("a call that only reads changed the table".to_string());
     }
     if let Some(fault) = difference(&given, &plainly(&mut plain, call)) {
         return Err(format!("against plain: {fault}"));
@@ -202,13 +207,14 @@ fn any_call(rng: &mut Rng) -> Call {
     let (client, revision, other, kind) = (below(16), below(64), below(64), 1 + below(4));
     let (client, revision, kind) = (client as u8, revision as u8, kind as u8);
     let bib = rng.below(1_010) as u16;
-    match rng.below(8) {
+    match rng.below(9) {
         0 => Call::Query { client, revision, bib },
         1 => Call::Yield { client },
         2 => Call::Fork { revision },
         3 => Call::Join { joiner: revision, joinee: other as u8 },
         4 => Call::List { revision, room: SHEET },
         5 => Call::List { revision, room: rng.below(200) },
+        6 => Call::Fill { revision },
         _ => Call::Update { client, revision, kind, bib, v: rng.bits() as u32 },
     }
 }

@@ -1,11 +1,11 @@
-//! Random days: for every call the static library gives the code, value and sheet of the literal
-//! replay, and leaves the bytes that the plain implementation leaves.
+//! Random days: for every call the static library gives the code, value, total and sheet of the
+//! literal replay, and leaves the bytes that the plain implementation leaves.
 
 mod common;
 
 use calls::Call;
 use common::{as_given, difference, first_difference, library};
-use days::{chain_of_joins, must_pass, random_day, seeds, Profile};
+use days::{chain_of_joins, fault_of_fills, must_pass, random_day, seeds, Profile};
 use silttongs::{Table, BYTES};
 
 /// How many days of each kind are replayed.
@@ -36,12 +36,28 @@ fn chains_of_joins() {
 }
 
 #[test]
-fn small_days_with_every_listing_after_every_step() {
+fn small_days_with_every_listing_and_fill_after_every_step() {
     for seed in seeds(800) {
-        must_pass("small", seed, &random_day(&Profile::SMALL, seed), fault_with_listings);
+        must_pass("small", seed, &random_day(&Profile::SMALL, seed), fault_with_reads);
     }
     for seed in 0..10 {
-        must_pass("chain of joins", seed, &chain_of_joins(seed), fault_with_listings);
+        must_pass("chain of joins", seed, &chain_of_joins(seed), fault_with_reads);
+    }
+}
+
+/// 02, U1: after every step, the own updates of all boxes out come to the updates accepted.
+#[test]
+fn fills_come_to_the_updates_accepted() {
+    for (profile, count) in KINDS {
+        for seed in seeds(count.div_ceil(4)) {
+            must_pass(profile.name, seed, &random_day(&profile, seed), fault_of_a_sum);
+        }
+    }
+    for seed in seeds(200) {
+        must_pass("small", seed, &random_day(&Profile::SMALL, seed), fault_of_a_sum);
+    }
+    for seed in seeds(30) {
+        must_pass("chain of joins", seed, &chain_of_joins(seed), fault_of_a_sum);
     }
 }
 
@@ -51,9 +67,19 @@ fn fault(calls: &[Call]) -> Option<String> {
     calls.iter().find_map(|&call| day.fault(call))
 }
 
-fn fault_with_listings(calls: &[Call]) -> Option<String> {
+fn fault_with_reads(calls: &[Call]) -> Option<String> {
     let mut day = Day::fresh();
-    calls.iter().find_map(|&call| day.fault(call).or_else(|| day.fault_of_a_listing()))
+    calls.iter().find_map(|&call| {
+        day.fault(call).or_else(|| day.fault_of_a_fill()).or_else(|| day.fault_of_a_listing())
+    })
+}
+
+fn fault_of_a_sum(calls: &[Call]) -> Option<String> {
+    let mut day = Day::fresh();
+    fault_of_fills(calls, |call| {
+        let given = library(&mut day.table, call);
+        (given.code == 0).then_some((given.value, given.total))
+    })
 }
 
 /// A day on all three.
@@ -69,10 +95,10 @@ impl Day {
         Day { table, literal: literal::Day::fresh(), plain: plain::Day::fresh() }
     }
 
-    /// Makes the call. The plain implementation is not asked to list: its bytes are then the
-    /// table's before the call.
+    /// Makes the call. The plain implementation is not asked to list or to fill: its bytes are then
+    /// the table's before the call.
     fn fault(&mut self, call: Call) -> Option<String> {
-        if !matches!(call, Call::List { .. }) {
+        if !matches!(call, Call::List { .. } | Call::Fill { .. }) {
             self.plain.call(call);
         }
         let fault = self.fault_of_answer(call).or_else(|| self.fault_of_bytes());
@@ -88,6 +114,12 @@ impl Day {
         let bytes = self.plain.bytes();
         let at = first_difference(&self.table, bytes)?;
         Some(format!("byte {at} is {}, plain has {}", self.table[at], bytes[at]))
+    }
+
+    /// Fills of every revision, and of numbers that were not given out.
+    fn fault_of_a_fill(&mut self) -> Option<String> {
+        let given = self.literal.revisions().len() as u8;
+        (0..=given).chain([64, 255]).find_map(|revision| self.fault(Call::Fill { revision }))
     }
 
     /// Lists every revision, and the number after the last: with a byte more than it needs, with

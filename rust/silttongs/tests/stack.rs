@@ -16,6 +16,7 @@ fn the_deepest_calls_fit_in_48_kib() {
         let value = table.query(0, 1, 7)?;
         table.yield_(0)?;
         table.list(1, &mut vec![0; SHEET])?;
+        table.fill(1)?;
         table.fork(1)?;
         table.join(0, 1)?;
         Ok::<u32, Refusal>(value)

@@ -98,6 +98,7 @@ fn single_calls() -> Vec<Case> {
     vec![
         Case::of_calls("range check alone: a yield with code 2", &middle, &strange),
         Case::of_calls("yield", &middle, &[Call::Yield { client: 0 }]),
+        Case::of_calls("fill", &middle, &[Call::Fill { revision: 7 }]),
         Case::of_calls("update + yield, 2,048 updates, 8 boxes", &middle, &pair),
         Case::of_calls("query, 4,096 visible updates, 1 box", &one_box, &query(0)),
         Case::of_calls("query, 4,096 visible updates, 8 boxes", &full, &query(7)),

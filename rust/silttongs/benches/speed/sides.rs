@@ -5,7 +5,7 @@ use std::hint::black_box;
 use calls::Call;
 use silttongs::{Table, BYTES};
 
-/// Code and value.
+/// Code and value; of a fill, both its numbers in one.
 type Given = (u8, u32);
 
 /// What is timed.
@@ -58,6 +58,9 @@ impl Side {
                 Call::Fork { revision } => plain::fork(t, revision),
                 Call::Join { joiner, joinee } => plain::join(t, joiner, joinee),
                 Call::List { revision, room } => plain::list(t, revision, &mut sheet[..room]),
+                Call::Fill { revision } => {
+                    plain::fill(t, revision).map(|fill| both(fill.own, fill.total))
+                }
             }),
             Side::Library => {
                 let mut t = Table::from_bytes(t);
@@ -70,10 +73,17 @@ impl Side {
                     Call::Fork { revision } => t.fork(revision).map(u32::from),
                     Call::Join { joiner, joinee } => t.join(joiner, joinee),
                     Call::List { revision, room } => t.list(revision, &mut sheet[..room]),
+                    Call::Fill { revision } => {
+                        t.fill(revision).map(|fill| both(fill.own, fill.total))
+                    }
                 })
             }
         }
     }
+}
+
+fn both(own: u16, total: u16) -> u32 {
+    u32::from(total) << 16 | u32::from(own)
 }
 
 fn by_plain(answer: Result<u32, calls::Code>) -> Given {

@@ -8,6 +8,8 @@ use silttongs::Table;
 pub(crate) struct Given {
     pub(crate) code: u8,
     pub(crate) value: u32,
+    /// The second number of a fill; 0 for other calls.
+    pub(crate) total: u32,
     /// Of a list, every byte of its sheet; empty for other calls.
     pub(crate) sheet: Vec<u8>,
 }
@@ -27,6 +29,7 @@ pub(crate) fn sheet(call: Call) -> Vec<u8> {
 pub(crate) fn library(bytes: &mut [u8], call: Call) -> Given {
     let mut table = Table::from_bytes(bytes);
     let mut sheet = sheet(call);
+    let mut total = 0;
     let answer = match call {
         Call::Update { client, revision, kind, bib, v } => {
             table.update(client, revision, kind, bib, v)
@@ -36,9 +39,13 @@ pub(crate) fn library(bytes: &mut [u8], call: Call) -> Given {
         Call::Fork { revision } => table.fork(revision).map(u32::from),
         Call::Join { joiner, joinee } => table.join(joiner, joinee),
         Call::List { revision, .. } => table.list(revision, &mut sheet),
+        Call::Fill { revision } => table.fill(revision).map(|fill| {
+            total = u32::from(fill.total);
+            u32::from(fill.own)
+        }),
     };
     let (code, value) = answer.map_or_else(|refusal| (refusal.code(), 0), |value| (0, value));
-    Given { code, value, sheet }
+    Given { code, value, total, sheet }
 }
 
 /// What the plain implementation gives.
@@ -51,8 +58,8 @@ pub(crate) fn plainly(bytes: &mut [u8], call: Call) -> Given {
         }
         _ => plain::call(bytes, call),
     };
-    let Answer { code, value, .. } = answer.unwrap_or_else(Answer::refused);
-    Given { code: code.number(), value, sheet }
+    let Answer { code, value, total, .. } = answer.unwrap_or_else(Answer::refused);
+    Given { code: code.number(), value, total, sheet }
 }
 
 /// What the literal replay's answer comes to: its lines, and behind them the sheet as it was.
@@ -62,14 +69,16 @@ pub(crate) fn as_given(call: Call, answer: &Answer) -> Given {
     for (place, line) in sheet.chunks_exact_mut(12).zip(&answer.lines) {
         place.copy_from_slice(&line.to_bytes());
     }
-    Given { code: answer.code.number(), value: answer.value, sheet }
+    let Answer { code, value, total, .. } = *answer;
+    Given { code: code.number(), value, total, sheet }
 }
 
 /// What is other than expected, in words.
 pub(crate) fn difference(given: &Given, expected: &Given) -> Option<String> {
-    let pair = |given: &Given| (given.code, given.value);
-    if pair(given) != pair(expected) {
-        return Some(format!("code and value {:?}, not {:?}", pair(given), pair(expected)));
+    let numbers = |given: &Given| (given.code, given.value, given.total);
+    let (found, right) = (numbers(given), numbers(expected));
+    if found != right {
+        return Some(format!("code, value and total {found:?}, not {right:?}"));
     }
     let at = first_difference(&given.sheet, &expected.sheet)?;
     Some(format!("byte {at} of the sheet is {}, not {}", given.sheet[at], expected.sheet[at]))

@@ -1,0 +1,116 @@
+//! 02, U1, on random days: after every step the own updates of all revisions that are out come to
+//! the updates accepted, counted from the calls and their answers. And wrong fills are found.
+
+use calls::Call;
+use days::{chain_of_joins, fault_of_fills, must_pass, random_day, seeds, told, Profile, Told};
+use literal::{Day, VertexId, VertexKind};
+
+/// How many days of each kind are replayed.
+const KINDS: [(Profile, u64); 8] = [
+    (Profile::SMALL, 300),
+    (Profile::MIXED, 100),
+    (Profile::NESTED, 100),
+    (Profile::STALE, 100),
+    (Profile::QUERIES, 100),
+    (Profile::FORKS, 50),
+    (Profile::STRANGE, 100),
+    (Profile::FULL, 2),
+];
+
+fn by_literal(calls: &[Call]) -> Option<String> {
+    let mut day = Day::fresh();
+    fault_of_fills(calls, |call| told(&day.call(call)))
+}
+
+fn by_plain(calls: &[Call]) -> Option<String> {
+    let mut day = plain::Day::fresh();
+    fault_of_fills(calls, |call| told(&day.call(call)))
+}
+
+#[test]
+fn fills_come_to_the_updates_accepted() {
+    for (profile, count) in KINDS {
+        for seed in seeds(count) {
+            let day = random_day(&profile, seed);
+            must_pass(profile.name, seed, &day, by_literal);
+            must_pass(profile.name, seed, &day, by_plain);
+        }
+    }
+    for seed in seeds(30) {
+        must_pass("chain of joins", seed, &chain_of_joins(seed), by_literal);
+        must_pass("chain of joins", seed, &chain_of_joins(seed), by_plain);
+    }
+}
+
+/// What a wrong fill tells of a revision number, in place of what is right.
+type Wrong = fn(&Day, usize, Told) -> Told;
+
+const WRONG: [(&str, Wrong); 8] = [
+    ("inherited updates count", |day, r, right| {
+        right.map(|(_, total)| (day.visible(r).len() as u32, total))
+    }),
+    ("joined updates do not count", |day, r, right| right.map(|(_, total)| (taken(day, r), total))),
+    ("updates joined through others do not count", |day, r, right| {
+        let joined: u32 = joined_into(day, r).map(|joinee| taken(day, joinee)).sum();
+        right.map(|(_, total)| (taken(day, r) + joined, total))
+    }),
+    ("joined revisions are told too", |day, r, right| {
+        let known = r < day.revisions().len();
+        right.or_else(|| known.then(|| (day.own(r).len() as u32, day.updates().len() as u32)))
+    }),
+    ("numbers never sent are told too", |day, r, right| {
+        let known = r < day.revisions().len();
+        right.or_else(|| (!known).then_some((0, day.updates().len() as u32)))
+    }),
+    ("busy revisions are refused", |day, r, right| right.filter(|_| open(day, r).next().is_none())),
+    ("open transactions do not count", |day, r, right| {
+        right.map(|(own, total)| (own - updates(day, open(day, r)), total))
+    }),
+    ("the total is that of the revision", |_, _, right| right.map(|(own, _)| (own, own))),
+];
+
+/// The vertices of a revision.
+fn vertices(day: &Day, r: usize) -> impl Iterator<Item = VertexId> + '_ {
+    day.diagram().vertices().filter(move |&x| day.revision_of(x) == r)
+}
+
+/// How many of these are updates.
+fn updates(day: &Day, vertices: impl Iterator<Item = VertexId>) -> u32 {
+    let is_update = |&x: &VertexId| matches!(day.diagram().kind(x), VertexKind::Update(_));
+    vertices.filter(is_update).count() as u32
+}
+
+/// How many updates a revision took itself.
+fn taken(day: &Day, r: usize) -> u32 {
+    updates(day, vertices(day, r))
+}
+
+/// The revisions joined into this one, without those joined into them.
+fn joined_into(day: &Day, r: usize) -> impl Iterator<Item = usize> + '_ {
+    vertices(day, r).filter_map(|x| day.diagram().j_edge(x)).map(|last| day.revision_of(last))
+}
+
+/// The events of open transactions on a revision.
+fn open(day: &Day, r: usize) -> impl Iterator<Item = VertexId> + '_ {
+    let open = day.transactions().iter().filter(move |t| t.revision == r && t.yielded.is_none());
+    open.flat_map(|t| t.events.iter().copied())
+}
+
+#[test]
+fn wrong_fills_are_found() {
+    let few_calls = Profile { calls: 100, ..Profile::NESTED };
+    for (name, wrong) in WRONG {
+        let by_wrong = |seed| {
+            let mut day = Day::fresh();
+            fault_of_fills(&random_day(&few_calls, seed), |call| {
+                let right = told(&day.call(call));
+                match call {
+                    Call::Fill { revision } => wrong(&day, usize::from(revision), right),
+                    _ => right,
+                }
+            })
+        };
+        let found = (0..100).filter_map(by_wrong).count();
+        assert!(found >= 5, "{name}: found on {found} days of 100");
+    }
+}
