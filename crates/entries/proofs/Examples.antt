@@ -4,7 +4,7 @@ use mathlib.Core.Path.{_≡_, refl}
 use mathlib.Core.List.{List, [], _∷_, _++_}
 use lib.ListN.{replicate}
 use Rattle.updates.specs.Kinds.{kindNumber}
-use Rattle.updates.specs.Effect.{effect}
+use Rattle.updates.specs.Effect.{effect, penalized}
 use Rattle.updates.specs.Applied.{applied}
 use Rattle.updates.specs.declared.kind.Kind.the-variants.{Time, Penalty, Strike}
 use Rattle.updates.specs.declared.standing.Standing.the-variants.{At}
@@ -34,13 +34,13 @@ first-replaced = refl
 
 -- 61,000 and a Penalty of 5,000; the other way round, the Time is last; no entry is of bib 8
 in-order : standingOf (entryAt two) 7 (0 ∷ 1 ∷ []) ≡ At 66000
-unfolding entryAt decoded kindAfter applied effect
+unfolding entryAt decoded kindAfter applied effect penalized
 in-order = refl
 
 other-order : standingOf (entryAt two) 7 (1 ∷ 0 ∷ []) ≡ At 61000
-unfolding entryAt decoded kindAfter applied effect
+unfolding entryAt decoded kindAfter applied effect penalized
 other-order = refl
 
 other-bib : standingOf (entryAt two) 8 (0 ∷ 1 ∷ []) ≡ At 0
-unfolding entryAt decoded kindAfter applied effect
+unfolding entryAt decoded kindAfter applied effect penalized
 other-bib = refl

@@ -1,4 +1,4 @@
--- 01, "Edges of a race day": the starred edges E1 to E9 as one table of calls with what each gives; and 02, U1 and U2.
+-- 01, "Edges of a race day": the starred edges E1 to E9 as one table of calls with what each gives; and 02, U1 to U3.
 use Prim.Native.Nat.{ℕ}
 use mathlib.Core.List.{List, [], _∷_}
 use Rattle.updates.specs.declared.standing.State.{State}
@@ -81,6 +81,8 @@ edges =
     ∷ edge (Update 0 0 time 7 9 ∷ Update 0 0 strike 7 0 ∷ Update 0 0 penalty 7 9 ∷ Query 0 0 7 ∷ []) (ok 0 ∷ ok 1 ∷ ok 2 ∷ struck ∷ [])
     ∷ edge (Update 0 0 strike 7 0 ∷ Update 0 0 time 7 9 ∷ Query 0 0 7 ∷ []) (ok 0 ∷ ok 1 ∷ timed 9 ∷ [])
     ∷ edge (Update 0 0 strike 7 0 ∷ Update 0 0 time 7 0 ∷ Query 0 0 7 ∷ []) (ok 0 ∷ ok 1 ∷ neither ∷ [])
+    -- U3: "Penalty 5000, then Earliest 60000, gives 60000, and after the Penalty alone the query gives 0"
+    ∷ edge (Update 0 0 penalty 7 5000 ∷ Query 0 0 7 ∷ Update 0 0 earliest 7 60000 ∷ Query 0 0 7 ∷ []) (ok 0 ∷ neither ∷ ok 1 ∷ timed 60000 ∷ [])
     -- a refused query answers neither, also of a struck bib
     ∷ edge (Update 0 0 strike 7 0 ∷ Query 1 0 7 ∷ []) (ok 0 ∷ no 7 ∷ [])
     ∷ []

@@ -7,7 +7,7 @@ use native.Mathlib.Omega.{arith}
 use lib.Dec.{eqb, ltb}
 use borrow.Author.Tests.{eqb-true}
 use Rattle.updates.specs.Kinds.{pick, kindNumber, kindCheck}
-use Rattle.updates.specs.Effect.{earliest, effect, valueIn}
+use Rattle.updates.specs.Effect.{earliest, penalized, effect, valueIn}
 use Rattle.updates.specs.Applied.{Update, applied}
 use Rattle.updates.specs.declared.kind.Kind.{Kind}
 use Rattle.updates.specs.declared.kind.Kind.the-variants.{Time, Earliest, Penalty, Strike}
@@ -56,13 +56,13 @@ pick-below false n x y hx hy = hy
 
 -- a value stays one of 32 bits
 pub effect-fits : (k : Kind) (v : ℕ) (s : Standing) → v < 2 ^ 32 → valueIn s < 2 ^ 32 → valueIn (effect k v s) < 2 ^ 32
-unfolding effect earliest valueIn
+unfolding effect earliest penalized valueIn
 effect-fits Time v s hv hx = hv
 effect-fits Earliest v Struck hv hx = hx
 effect-fits Earliest v (At x) hv hx =
     pick-below (eqb x 0) _ v _ hv (pick-below (eqb v 0) _ x _ hx (pick-below (ltb x v) _ x v hx hv))
 effect-fits Penalty v Struck hv hx = hx
-effect-fits Penalty v (At x) hv hx = omega arith
+effect-fits Penalty v (At x) hv hx = pick-below (eqb x 0) _ 0 _ (omega arith) (omega arith)
 effect-fits Strike v s hv hx = omega arith
 
 -- updates in a row: first the one list, then the other

@@ -1,4 +1,4 @@
--- 01, "Edges of a race day": those that speak of one bib alone, as one table of updates with the standing they give; and 02, U2.
+-- 01, "Edges of a race day": those that speak of one bib alone, as one table of updates with the standing they give; and 02, U2 and U3.
 use Prim.Native.Nat.{ℕ}
 use mathlib.Core.List.{List, [], _∷_}
 use Rattle.updates.specs.Applied.{Update, applied, freshStanding}
@@ -38,6 +38,11 @@ edges =
     ∷ edge (update Strike 0 ∷ update Penalty 5 ∷ []) Struck
     ∷ edge (update Strike 0 ∷ update Time 5 ∷ []) (At 5)
     ∷ edge (update Strike 0 ∷ update Time 0 ∷ []) (At 0)
+    -- U3: "Penalty 5000, then Earliest 60000, gives 60000", and the Penalty alone 0; after a wrap to 0 a Penalty has no effect
+    ∷ edge (update Penalty 5000 ∷ update Earliest 60000 ∷ []) (At 60000)
+    ∷ edge (update Penalty 5000 ∷ []) (At 0)
+    ∷ edge (update Time 1 ∷ update Penalty 4294967295 ∷ update Penalty 5 ∷ []) (At 0)
+    ∷ edge (update Time 7 ∷ update Penalty 0 ∷ []) (At 7)
     ∷ []
 
 abbrev pub computed : List Edge → List Standing

@@ -3,7 +3,7 @@ ghost use mathlib.Core.Path.{_≡_};
 ghost use Rattle.updates.specs.Effect.{effect};
 ghost use Rattle.updates.specs.declared.kind.Kind.the-variants.{Earliest, Penalty};
 use crate::kind::Kind;
-use crate::value::earlier;
+use crate::value;
 
 // Struck, or else a value.
 pub enum Standing {
@@ -23,7 +23,7 @@ fn earliest(v: u32, standing: Standing) -> Standing
 {
     match standing {
         Standing::Struck => Standing::Struck,
-        Standing::At(value) => Standing::At(earlier(value, v)),
+        Standing::At(value) => Standing::At(value::earlier(value, v)),
     }
 }
 
@@ -32,7 +32,7 @@ fn penalty(v: u32, standing: Standing) -> Standing
 {
     match standing {
         Standing::Struck => Standing::Struck,
-        Standing::At(value) => Standing::At(std::num::wrapping_add_u32(value, v)),
+        Standing::At(value) => Standing::At(value::penalty(value, v)),
     }
 }
 

@@ -1,6 +1,6 @@
-// The earlier of two times.
+// The earlier of two times, and a time with a penalty.
 ghost use mathlib.Core.Path.{_≡_};
-ghost use Rattle.updates.specs.Effect.{earliest};
+ghost use Rattle.updates.specs.Effect.{earliest, penalized};
 
 // 0 is no time.
 pub fn earlier(value: u32, v: u32) -> u32
@@ -13,4 +13,14 @@ pub fn earlier(value: u32, v: u32) -> u32
         return value;
     }
     v
+}
+
+// A penalty belongs to a finish: without a time it has no effect.
+pub fn penalty(value: u32, v: u32) -> u32
+    ensures { λ r. ⌜ r ≡ penalized value v ⌝ }
+{
+    if value == 0 {
+        return 0;
+    }
+    std::num::wrapping_add_u32(value, v)
 }

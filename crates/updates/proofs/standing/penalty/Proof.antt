@@ -12,7 +12,7 @@ returns c = rw (c .enum-told .given .1)
 
 returns-2 : tie.Need-returns-2
 unfolding effect
-returns-2 c = rw (c .before .before .standing .given .1) (ap At (c .wrapping-add-u32 .ensures))
+returns-2 c = rw (c .before .before .standing .given .1) (ap At (c .penalty .ensures))
 
 pub penalty-spec : {M : Type 1} → statement M
 penalty-spec = tie.close (tie.spec (λ c. search needs) (λ c. search needs) (λ c κs. search needs) returns returns-2)
