@@ -14,7 +14,7 @@ use Rattle.plain.proofs.LineUp.{lined-up}
 use Rattle.plain.proofs.Never.{never-one}
 use Rattle.table.specs.Halves.{bytes}
 use Rattle.consistency.specs.Table.{Request, onPaper, calls, replies}
-use Rattle.consistency.specs.Demand.{NeverOne, DemandThree, asked, asking, codesOf, computedOn, EdgesHold}
+use Rattle.consistency.specs.Demand.{NeverOne, DemandThree, asked, asking, saidOn, computedOn, EdgesHold}
 use Rattle.consistency.proofs.Table.Follows.{table-follows}
 
 never-from : (qs : List Request) (p : PlainDay) → NeverOne (replies qs (answersFrom p (calls qs)))
@@ -48,17 +48,17 @@ same-calls : (cs : List Call) → calls (asking cs) ≡ cs
 same-calls [] = refl
 same-calls (c ∷ cs) = let first = same-call c in let rest = same-calls cs in λ i. first i ∷ rest i
 
-codes-from : (qs : List Request) (p : PlainDay) → codesOf (replies qs (answersFrom p (calls qs))) ≡ Edges.said (answersFrom p (calls qs))
+said-from : (qs : List Request) (p : PlainDay) → saidOn (replies qs (answersFrom p (calls qs))) ≡ Edges.said (answersFrom p (calls qs))
 unfolding replies answersFrom
-codes-from [] p = refl
-codes-from (q ∷ qs) p = let a = called p (onPaper q) .answer in ap (λ z. (a .code, a .value) ∷ z) (codes-from qs (called p (onPaper q) .next))
+said-from [] p = refl
+said-from (q ∷ qs) p = let a = called p (onPaper q) .answer in ap (λ z. record { code = a .code; state = a .state; value = a .value } ∷ z) (said-from qs (called p (onPaper q) .next))
 
 module _ (t : List ℕ) (h : length t ≡ bytes) where
   same-computed : (es : List Edge) → computedOn t es ≡ computed es
   unfolding answers
   same-computed [] = refl
   same-computed (e ∷ es) =
-      let first = ap codesOf (table-follows t h .2 (asking (e .calls))) ∙ codes-from (asking (e .calls)) freshDay ∙ ap (λ cs. Edges.said (answers cs)) (same-calls (e .calls)) in
+      let first = ap saidOn (table-follows t h .2 (asking (e .calls))) ∙ said-from (asking (e .calls)) freshDay ∙ ap (λ cs. Edges.said (answers cs)) (same-calls (e .calls)) in
       let rest = same-computed es in
       λ i. first i ∷ rest i
 

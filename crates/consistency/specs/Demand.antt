@@ -7,7 +7,7 @@ use lib.ListN.{length, replicate}
 use Rattle.plain.specs.Calls as Paper
 use Rattle.plain.specs.Calls.{Call}
 use Rattle.plain.specs.Answers.{answers}
-use Rattle.plain.specs.Edges.{Edge, edges, codes, expected}
+use Rattle.plain.specs.Edges.{Edge, Said, edges, codes, expected}
 use Rattle.plain.specs.LineUp.{LineUp}
 use Rattle.table.specs.Halves.{bytes}
 use Rattle.table.specs.Calls.{freshOut}
@@ -46,13 +46,13 @@ abbrev pub asking : List Call → List Request
 asking [] = []
 asking (c ∷ cs) = asked c ∷ asking cs
 
-abbrev pub codesOf : List Reply → List (ℕ × ℕ)
-codesOf [] = []
-codesOf (r ∷ rs) = (r .code, r .value) ∷ codesOf rs
+abbrev pub saidOn : List Reply → List Said
+saidOn [] = []
+saidOn (r ∷ rs) = record { code = r .code; state = r .state; value = r .value } ∷ saidOn rs
 
-abbrev pub computedOn : List ℕ → List Edge → List (List (ℕ × ℕ))
+abbrev pub computedOn : List ℕ → List Edge → List (List Said)
 computedOn t [] = []
-computedOn t (e ∷ es) = codesOf (repliesOn (freshOut t .lent) (asking (e .calls))) ∷ computedOn t es
+computedOn t (e ∷ es) = saidOn (repliesOn (freshOut t .lent) (asking (e .calls))) ∷ computedOn t es
 
 abbrev pub EdgesHold : Type 0
 EdgesHold = (t : List ℕ) → length t ≡ bytes → (computedOn t edges ≡ expected edges) × (computedOn t codes ≡ expected codes)

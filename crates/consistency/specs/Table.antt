@@ -4,6 +4,8 @@ use Prim.Native.Nat.{ℕ, _*_}
 use mathlib.Core.Path.{_≡_}
 use mathlib.Core.List.{List, [], _∷_, _++_}
 use lib.ListN.{length, drop}
+use Rattle.updates.specs.declared.standing.State.{State}
+use Rattle.updates.specs.declared.standing.State.the-variants.{Neither}
 use Rattle.entries.specs.declared.entry.Entry as Stored
 use Rattle.listing.specs.Lines.{line}
 use Rattle.plain.specs.Calls as Paper
@@ -38,10 +40,11 @@ abbrev pub calls : List Request → List Call
 calls [] = []
 calls (q ∷ qs) = onPaper q ∷ calls qs
 
--- what a caller has of a call: its code, its value, of a fill the whole table's number besides, and the bytes of the sheet, if
--- one was lent
+-- what a caller has of a call: its code, of a query the bib's state, its value, of a fill the whole table's number besides, and the
+-- bytes of the sheet, if one was lent
 pub record Reply : Type 0 where
   pub code : ℕ
+  pub state : State
   pub value : ℕ
   pub total : ℕ
   pub sheet : List ℕ
@@ -52,13 +55,13 @@ pub record Served : Type 0 where
 
 -- a call that has the table lent to be written, one that has a sheet lent, and a fill
 abbrev pub onTable : Out → Served
-onTable u = record { reply = record { code = u .code; value = u .value; total = 0; sheet = [] }; table = u .lent }
+onTable u = record { reply = record { code = u .code; state = u .state; value = u .value; total = 0; sheet = [] }; table = u .lent }
 
 abbrev pub onSheet : List ℕ → Out → Served
-onSheet t u = record { reply = record { code = u .code; value = u .value; total = 0; sheet = u .lent }; table = t }
+onSheet t u = record { reply = record { code = u .code; state = u .state; value = u .value; total = 0; sheet = u .lent }; table = t }
 
 abbrev pub onLevel : List ℕ → Level → Served
-onLevel t f = record { reply = record { code = f .code; value = f .own; total = f .total; sheet = [] }; table = t }
+onLevel t f = record { reply = record { code = f .code; state = Neither; value = f .own; total = f .total; sheet = [] }; table = t }
 
 abbrev pub served : List ℕ → Request → Served
 served t (Update c n k bib v) = onTable (updateOut t c n k bib v)
@@ -102,7 +105,7 @@ sheetAfter (Show n sheet) a = sheetWith (a .lines) sheet
 sheetAfter (Fill n) a = []
 
 abbrev pub said : Request → Answer → Reply
-said q a = record { code = a .code; value = a .value; total = a .total; sheet = sheetAfter q a }
+said q a = record { code = a .code; state = a .state; value = a .value; total = a .total; sheet = sheetAfter q a }
 
 unfoldable pub replies : List Request → List Answer → List Reply
 replies [] more = []

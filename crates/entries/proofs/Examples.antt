@@ -4,12 +4,13 @@ use mathlib.Core.Path.{_≡_, refl}
 use mathlib.Core.List.{List, [], _∷_, _++_}
 use lib.ListN.{replicate}
 use Rattle.updates.specs.Kinds.{kindNumber}
-use Rattle.updates.specs.Effect.{effect}
+use Rattle.updates.specs.Effect.{effect, penalized}
 use Rattle.updates.specs.Applied.{applied}
 use Rattle.updates.specs.declared.kind.Kind.the-variants.{Time, Penalty, Strike}
+use Rattle.updates.specs.declared.standing.Standing.the-variants.{At}
 use Rattle.entries.specs.Stored.{entry, stored, kindAfter, decoded}
 use Rattle.entries.specs.Entries.{entryAt, wrote}
-use Rattle.entries.specs.Folded.{valueOf}
+use Rattle.entries.specs.Folded.{standingOf}
 
 -- tablet 15 strikes bib 999; tablet 2 enters 61,000 for bib 7
 largest : stored (entry Strike 15 999 4294967295) ≡ 231 ∷ 255 ∷ 255 ∷ 255 ∷ 255 ∷ 255 ∷ []
@@ -32,14 +33,14 @@ unfolding wrote stored kindNumber
 first-replaced = refl
 
 -- 61,000 and a Penalty of 5,000; the other way round, the Time is last; no entry is of bib 8
-in-order : valueOf (entryAt two) 7 (0 ∷ 1 ∷ []) ≡ 66000
-unfolding entryAt decoded kindAfter applied effect
+in-order : standingOf (entryAt two) 7 (0 ∷ 1 ∷ []) ≡ At 66000
+unfolding entryAt decoded kindAfter applied effect penalized
 in-order = refl
 
-other-order : valueOf (entryAt two) 7 (1 ∷ 0 ∷ []) ≡ 61000
-unfolding entryAt decoded kindAfter applied effect
+other-order : standingOf (entryAt two) 7 (1 ∷ 0 ∷ []) ≡ At 61000
+unfolding entryAt decoded kindAfter applied effect penalized
 other-order = refl
 
-other-bib : valueOf (entryAt two) 8 (0 ∷ 1 ∷ []) ≡ 0
-unfolding entryAt decoded kindAfter applied effect
+other-bib : standingOf (entryAt two) 8 (0 ∷ 1 ∷ []) ≡ At 0
+unfolding entryAt decoded kindAfter applied effect penalized
 other-bib = refl

@@ -1,7 +1,7 @@
-// The entries of updates, six bytes each, in 24,576 lent bytes; and a value folded from them. Knows no revision.
+// The entries of updates, six bytes each, in 24,576 lent bytes; and a standing folded from them. Knows no revision.
 pub mod entry; // entry.rt: an update as it was entered
 pub mod load; // load.rt: six bytes decoded
 pub mod read; // read.rt: an entry by its number
 pub mod store; // store.rt: an entry put into six bytes
-pub mod value; // value.rt: the value of a bib, from numbered entries
+pub mod standing; // standing.rt: the standing of a bib, from numbered entries
 pub mod write; // write.rt: the entry of a number replaced

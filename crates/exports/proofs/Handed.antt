@@ -1,11 +1,21 @@
 -- An export hands back what its call of `table` answers and leaves.
-use Prim.Native.Nat.{ℕ}
+use Prim.Native.Nat.{ℕ, _+_, _*_}
 use mathlib.Core.List.{List}
 use mathlib.Core.Path.{_≡_, _∙_, ap}
+use native.Mathlib.Omega.{arith}
 use Rattle.table.specs.declared.answer.Answer.{Answer}
-use Rattle.table.specs.Answers.{Out, left}
-use Rattle.exports.specs.Packed.{handed, packed, exported}
+use Rattle.table.specs.declared.query.Reading.{Reading}
+use Rattle.table.specs.Answers.{Out, left, leftRead}
+use Rattle.exports.specs.Packed.{handed, packed, packedState, stateNumber, exported}
+
+-- no state is no more than the code and the value
+no-state : (n : ℕ) → n ≡ 0 * 1099511627776 + n
+no-state n = omega arith
 
 pub hands : {r : ℕ} {t : List ℕ} {o : Out} (a : Answer) → r ≡ packed (a .code) (a .value) → left a t ≡ o → handed r t ≡ exported o
+unfolding exported stateNumber
+hands {t = t} a p q = ap (λ n. handed n t) (p ∙ no-state (packed (a .code) (a .value))) ∙ ap exported q
+
+pub hands-state : {r : ℕ} {t : List ℕ} {o : Out} (a : Reading) → r ≡ packedState (a .code) (a .state) (a .value) → leftRead a t ≡ o → handed r t ≡ exported o
 unfolding exported
-hands {t = t} a p q = ap (λ n. handed n t) p ∙ ap exported q
+hands-state {t = t} a p q = ap (λ n. handed n t) p ∙ ap exported q

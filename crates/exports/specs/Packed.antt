@@ -1,12 +1,24 @@
 -- What an export hands back: the answer in one number, beside the lent bytes as the call leaves them.
 use Prim.Native.Nat.{ℕ, _+_, _*_}
 use mathlib.Core.List.{List}
+use Rattle.updates.specs.declared.standing.State.{State}
+use Rattle.updates.specs.declared.standing.State.the-variants.{Neither, Timed, Struck}
 use Rattle.table.specs.Answers.{Out}
 use Rattle.table.specs.declared.fill.Level.{Level}
 
 -- the code in the upper 32 bits, the value in the lower
 abbrev pub packed : ℕ → ℕ → ℕ
 packed code value = code * 4294967296 + value
+
+-- 02, U2: the numbers of a bib's states, of other calls than a query 0
+unfoldable pub stateNumber : State → ℕ
+stateNumber Neither = 0
+stateNumber Timed = 1
+stateNumber Struck = 2
+
+-- the state above the code, in bits 40 and 41
+abbrev pub packedState : ℕ → State → ℕ → ℕ
+packedState code state value = stateNumber state * 1099511627776 + packed code value
 
 pub record Handed : Type 0 where
   pub result : ℕ
@@ -18,7 +30,7 @@ handed result lent = record { result = result; lent = lent }
 
 -- an answer of 01 as its export hands it back
 unfoldable pub exported : Out → Handed
-exported o = handed (packed (o .code) (o .value)) (o .lent)
+exported o = handed (packedState (o .code) (o .state) (o .value)) (o .lent)
 
 -- a fill's two numbers, 16 bits each: the table's above the revision's own
 unfoldable pub exportedLevel : Level → ℕ

@@ -1,14 +1,33 @@
 // The calls of the table for C and Rust: numbers and byte slices alone, the answer packed into one number
 // (specs/Packed.antt). A slice is passed as a pointer and a length.
 ghost use mathlib.Core.Path.{_≡_};
+ghost use Prim.Native.Nat.{_≤_};
 ghost use Rattle.table.specs.Calls.{fillOut, forkOut, freshOut, joinOut, listOut, queryOut, updateOut, yieldOut};
-ghost use Rattle.exports.specs.Packed.{exported, exportedLevel, handed, packed};
+ghost use Rattle.exports.specs.Packed.{exported, exportedLevel, handed, packed, packedState, stateNumber};
+use updates::standing::State;
 
 // The code in the upper 32 bits, the value in the lower.
 fn pack(code: u8, value: u32) -> u64
     ensures { λ r. ⌜ r ≡ packed code value ⌝ }
 {
     (code as u64) * 4294967296 + (value as u64)
+}
+
+fn state_number(state: State) -> u64
+    ensures { λ r. ⌜ (r ≡ stateNumber state) × (r ≤ 2) ⌝ }
+{
+    match state {
+        State::Neither => 0,
+        State::Timed => 1,
+        State::Struck => 2,
+    }
+}
+
+// A query's state besides, above the code.
+fn pack_state(code: u8, state: State, value: u32) -> u64
+    ensures { λ r. ⌜ r ≡ packedState code state value ⌝ }
+{
+    state_number(state) * 1099511627776 + ((code as u64) * 4294967296 + (value as u64))
 }
 
 #[no_mangle]
@@ -39,7 +58,8 @@ pub extern "C" fn silttongs_query(t: &mut [u8], client: u8, revision: u8, bib: u
     ensures { λ r. ⌜ handed r (now (t .exit)) ≡ exported (queryOut (now (t .entry)) client revision bib) ⌝ }
 {
     let a = table::query::query(t, client, revision, bib);
-    pack(a.code, a.value)
+    let state = a.state;
+    pack_state(a.code, state, a.value)
 }
 
 #[no_mangle]

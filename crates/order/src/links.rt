@@ -11,6 +11,14 @@ ghost use Rattle.cells.specs.Decode.{cells};
 ghost use Rattle.cells.specs.Range.{inRange};
 use fields::read;
 use fields::table::Revision;
+use fields::table::Table;
+
+// Room for a list.
+pub fn room() -> [u16; Table::UPDATES]
+    ensures { λ r. ⌜ length r ≡ updates ⌝ }
+{
+    [0; Table::UPDATES]
+}
 
 // How many of n entries are left to the next call: all but 64, or none.
 fn rest(n: usize) -> usize

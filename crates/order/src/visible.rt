@@ -17,7 +17,6 @@ use crate::links;
 use fields::read;
 use fields::table::Revision;
 use fields::table::RevisionCheck;
-use fields::table::Table;
 use fields::table::check_revision;
 
 // x goes behind the first n, if there is room.
@@ -76,7 +75,7 @@ fn add_some(d: &[u8], r: Revision, base: usize, x: Revision, out: &mut [u16], n:
     requires { ⌜ (length (now d) ≡ bytes) × (inRange (now d) ≡ true) × (r .0 < revisions) × (x .0 < revisions) × (length (now out) ≡ updates) × (n ≤ updates) ⌝ }
     ensures { λ m. ⌜ Added (now (out .entry)) n (picks base (marked (cells (now (d .entry))) (r .0)) (own (cells (now (d .entry))) (x .0))) (now (out .exit)) m ⌝ }
 {
-    let mut list = [0u16; Table::UPDATES];
+    let mut list = links::room();
     let many = links::own_list(d, x, &mut list);
     sift(d, r, base, &list[..many], out, n)
 }

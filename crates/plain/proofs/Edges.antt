@@ -5,7 +5,8 @@ use mathlib.Core.Path.{_≡_, refl}
 use mathlib.Core.List.{List, [], _∷_, _++_}
 use Rattle.updates.specs.declared.kind.Kind.the-variants.{Time, Penalty, Strike}
 use Rattle.updates.specs.Kinds.{kindCheck}
-use Rattle.updates.specs.Effect.{earliest, effect}
+use Rattle.updates.specs.Effect.{earliest, penalized, effect, stateOf, valueIn}
+use Rattle.updates.specs.declared.standing.State.the-variants.{Neither}
 use Rattle.updates.specs.Applied.{applied}
 use Rattle.diagram.specs.Sizes.{revisionLimit, clientLimit, updateLimit}
 use Rattle.diagram.specs.Diagram.{leads}
@@ -17,14 +18,14 @@ use Rattle.diagram.specs.Examples.{withCounts}
 use Rattle.plain.specs.Calls.{Call, Update, Query, Yield, Fork, Join, Show, Fill, Entry, Line}
 use Rattle.plain.specs.Record.{PlainDay, freshDay}
 use Rattle.plain.specs.Answers.{called, dayFrom, dayAfter, answersFrom, answers}
-use Rattle.plain.specs.Edges.{edges, codes, said, expected, computed}
+use Rattle.plain.specs.Edges.{edges, codes, said, expected, computed, ok, no, neither}
 
 pub edges-hold : computed edges ≡ expected edges
-unfolding called answersFrom answers after leads tabulate meant nextNumber unknownClient openElsewhere busyByOther busy stale logFull noneLeft notJoinable revisionLimit clientLimit updateLimit kindCheck effect earliest applied
+unfolding called answersFrom answers after leads tabulate meant nextNumber unknownClient openElsewhere busyByOther busy stale logFull noneLeft notJoinable revisionLimit clientLimit updateLimit kindCheck effect earliest penalized stateOf valueIn applied
 edges-hold = refl
 
 pub codes-hold : computed codes ≡ expected codes
-unfolding called answersFrom answers after leads tabulate meant nextNumber unknownClient openElsewhere busyByOther busy stale logFull noneLeft notJoinable revisionLimit clientLimit updateLimit kindCheck effect earliest applied
+unfolding called answersFrom answers after leads tabulate meant nextNumber unknownClient openElsewhere busyByOther busy stale logFull noneLeft notJoinable revisionLimit clientLimit updateLimit kindCheck effect earliest penalized stateOf valueIn applied
 codes-hold = refl
 
 -- the fresh day, but with this many updates taken and boxes sent
@@ -33,14 +34,14 @@ counted updates revisions = record { day = withCounts updates revisions; entries
 
 -- 9 once 4,096 updates are taken, after 8; and not before
 log-full : said (answersFrom (counted 4095 1) (Fork 0 ∷ Update 0 0 1 7 5 ∷ Yield 0 ∷ Update 0 1 1 7 5 ∷ Update 0 0 1 7 5 ∷ Query 0 0 8 ∷ []))
-    ≡ (0, 1) ∷ (0, 4095) ∷ (0, 0) ∷ (8, 0) ∷ (9, 0) ∷ (0, 0) ∷ []
-unfolding called answersFrom answers after leads tabulate meant nextNumber unknownClient openElsewhere busyByOther busy stale logFull noneLeft notJoinable revisionLimit clientLimit updateLimit kindCheck effect earliest applied
+    ≡ ok 1 ∷ ok 4095 ∷ ok 0 ∷ no 8 ∷ no 9 ∷ neither ∷ []
+unfolding called answersFrom answers after leads tabulate meant nextNumber unknownClient openElsewhere busyByOther busy stale logFull noneLeft notJoinable revisionLimit clientLimit updateLimit kindCheck effect earliest penalized stateOf valueIn applied
 log-full = refl
 
 -- 10 once 64 boxes are started, after 3 and 7; and not before
 none-left : said (answersFrom (counted 0 63) (Fork 0 ∷ Fork 64 ∷ Query 0 0 7 ∷ Fork 0 ∷ Yield 0 ∷ Fork 0 ∷ []))
-    ≡ (0, 63) ∷ (3, 0) ∷ (0, 0) ∷ (7, 0) ∷ (0, 0) ∷ (10, 0) ∷ []
-unfolding called answersFrom answers after leads tabulate meant nextNumber unknownClient openElsewhere busyByOther busy stale logFull noneLeft notJoinable revisionLimit clientLimit updateLimit kindCheck effect earliest applied
+    ≡ ok 63 ∷ no 3 ∷ neither ∷ no 7 ∷ ok 0 ∷ no 10 ∷ []
+unfolding called answersFrom answers after leads tabulate meant nextNumber unknownClient openElsewhere busyByOther busy stale logFull noneLeft notJoinable revisionLimit clientLimit updateLimit kindCheck effect earliest penalized stateOf valueIn applied
 none-left = refl
 
 -- the joinee's update 1 is listed behind the joiner's update 2, each with its number and as it was entered
@@ -58,11 +59,11 @@ lines-listed : called (dayAfter joining) (Show 0 36) .answer .lines
     ∷ entered (record { kind = Strike; client = 3; bib = 8; v = 6 }) 2
     ∷ entered (record { kind = Penalty; client = 1; bib = 999; v = 5 }) 1
     ∷ []
-unfolding called answersFrom answers after leads tabulate meant nextNumber unknownClient openElsewhere busyByOther busy stale logFull noneLeft notJoinable revisionLimit clientLimit updateLimit kindCheck effect earliest applied dayFrom dayAfter
+unfolding called answersFrom answers after leads tabulate meant nextNumber unknownClient openElsewhere busyByOther busy stale logFull noneLeft notJoinable revisionLimit clientLimit updateLimit kindCheck effect earliest penalized stateOf valueIn applied dayFrom dayAfter
 lines-listed = refl
 
 -- before that join: each box's own updates, and those of the whole table
-fills-told : (called (dayAfter apart) (Fill 0) .answer ≡ record { code = 0; value = 2; total = 3; lines = [] })
-    × (called (dayAfter apart) (Fill 1) .answer ≡ record { code = 0; value = 1; total = 3; lines = [] })
-unfolding called answersFrom answers after leads tabulate meant nextNumber unknownClient openElsewhere busyByOther busy stale logFull noneLeft notJoinable revisionLimit clientLimit updateLimit kindCheck effect earliest applied dayFrom dayAfter
+fills-told : (called (dayAfter apart) (Fill 0) .answer ≡ record { code = 0; state = Neither; value = 2; total = 3; lines = [] })
+    × (called (dayAfter apart) (Fill 1) .answer ≡ record { code = 0; state = Neither; value = 1; total = 3; lines = [] })
+unfolding called answersFrom answers after leads tabulate meant nextNumber unknownClient openElsewhere busyByOther busy stale logFull noneLeft notJoinable revisionLimit clientLimit updateLimit kindCheck effect earliest penalized stateOf valueIn applied dayFrom dayAfter
 fills-told = (refl, refl)

@@ -20,7 +20,7 @@ use Rattle.diagram.specs.Steps.{accepted}
 use Rattle.diagram.proofs.Days.Accepting.{meant-given, accept-event, accept-yield, accept-fork, accept-join}
 use Rattle.plain.specs.Calls.{Update, Query, Yield, Fork, Join, Show, Fill}
 use Rattle.plain.specs.Record.{PlainDay, pathResult, noted}
-use Rattle.plain.specs.Answers.{Outcome, refused, taken, shown, told, check, given, badBib, named, stepped, called}
+use Rattle.plain.specs.Answers.{Outcome, refused, taken, answered, shown, told, check, given, badBib, named, stepped, called}
 
 pub data Ends (p : PlainDay) (Yes : Outcome → Type 0) : Outcome → Type 0 where
   no : (k : ℕ) → Ends p Yes (refused p (suc (suc k)))
@@ -77,7 +77,7 @@ update-ends p c n k bib v =
 
 pub record QueryTaken (p : PlainDay) (c n bib : ℕ) (o : Outcome) : Type 0 where
   pub step : Steps1 p n (λ r. Steps.Event c r false)
-  pub is : o ≡ taken (stepped p (Steps.Event c (step .revision) false)) (pathResult (stepped p (Steps.Event c (step .revision) false)) (length (p .day .diagram)) bib)
+  pub is : o ≡ answered (stepped p (Steps.Event c (step .revision) false)) (pathResult (stepped p (Steps.Event c (step .revision) false)) (length (p .day .diagram)) bib)
 
 pub query-ends : (p : PlainDay) (c n bib : ℕ) → Ends p (QueryTaken p c n bib) (called p (Query c n bib))
 unfolding called

@@ -26,11 +26,12 @@ use Rattle.lists.specs.Lists.{_∈_}
 use Rattle.plain.proofs.Ends.{QueryTaken, ShowTaken, UpdateTaken, query-ends, show-ends, update-ends, was-taken}
 use Rattle.plain.proofs.Steps.{day-both, did, ran, steps-both}
 use Rattle.plain.specs.Taken.{ifTaken, onRevision, stepOf, stepsAfter, stepsFrom, stepsOf}
-use Rattle.plain.specs.Answers.{called, dayAfter, dayFrom, shown}
+use Rattle.plain.specs.Answers.{called, dayAfter, dayFrom, shown, stepped}
 use Rattle.plain.specs.Calls.{Call, Entry, Fill, Fork, Join, Query, Show, Update, Yield}
 use Rattle.plain.specs.LineUp.{Answers, GrowsEach, LineUp, Lists, Taken, endOf}
-use Rattle.plain.specs.Record.{PlainDay, freshDay, linesOf, noted, ofBib, valueOf}
-use Rattle.updates.specs.Applied.{applied, freshValue}
+use Rattle.plain.specs.Record.{PlainDay, freshDay, linesOf, noted, ofBib, pathResult, standingOf}
+use Rattle.updates.specs.Applied.{applied, freshStanding}
+use Rattle.updates.specs.Effect.{stateOf, valueIn}
 use Rattle.updates.specs.declared.kind.KindCheck.the-variants.{Known}
 use Rattle.updates.specs.Kinds.{kindCheck}
 use Rattle.updates.specs.declared.kind.Kind.{Kind}
@@ -124,9 +125,9 @@ module _ (cs : List Call) where
     entries-stay : (n : ℕ) → n < p .day .updates → p .entries n ≡ dayAfter cs .entries n
     entries-stay n h = sym (ap (λ z. z .entries n) day-is ∙ ran (c ∷ rest) p .kept n h)
 
-  queries : (before rest : List Call) (c n bib : ℕ) → Taken cs before (Query c n bib) rest → Answers cs (A .order) (length (endOf before .diagram)) bib (called (dayAfter before) (Query c n bib) .answer .value)
+  queries : (before rest : List Call) (c n bib : ℕ) → Taken cs before (Query c n bib) rest → Answers cs (A .order) (length (endOf before .diagram)) bib (called (dayAfter before) (Query c n bib) .answer)
   unfolding after
-  queries before rest c n bib T = record { updates = shown; shown = rw (e, same before) (A .queries (stepsAfter before) more c r place); is = ap (λ o. o .answer .value) (h .is) ∙ ap (λ y. valueOf (q .entries) bib (view (after y (Event c r false) .diagram) (length (y .diagram)))) (same before) ∙ ap (λ us. applied us freshValue) (ofBib-same (q .entries) (dayAfter cs .entries) bib shown kept) }
+  queries before rest c n bib T = record { updates = shown; shown = rw (e, same before) (A .queries (stepsAfter before) more c r place); state = ap (λ o. o .answer .state) (h .is) ∙ ap stateOf stands; value = ap (λ o. o .answer .value) (h .is) ∙ ap valueIn stands }
     where
       q : PlainDay
       q = dayAfter before
@@ -157,6 +158,9 @@ module _ (cs : List Call) where
 
       kept : (n : ℕ) → n ∈ shown → q .entries n ≡ dayAfter cs .entries n
       kept n i = entries-stay before (Query c _ bib) rest T n (rw (same before) (low n i))
+
+      stands : pathResult (stepped q (Event c r false)) (length (q .day .diagram)) bib ≡ standingOf (dayAfter cs .entries) bib shown
+      stands = ap (λ y. standingOf (q .entries) bib (view (after y (Event c r false) .diagram) (length (y .diagram)))) (same before) ∙ ap (λ us. applied us freshStanding) (ofBib-same (q .entries) (dayAfter cs .entries) bib shown kept)
 
   listed : (before rest : List Call) (n room r : ℕ) → Taken cs before (Show n room) rest → meant (endOf before) n ≡ some r → Lists cs (A .order) (endOf before .terminal r) (called (dayAfter before) (Show n room) .answer)
   listed before rest n room r T m = record {

@@ -11,7 +11,7 @@ use Rattle.diagram.specs.Steps.{AcceptedFrom, Event, Step, accepted, after, run
 use Rattle.lists.proofs.Changed.{changed-other}
 use Rattle.plain.proofs.Ends.{Ends, fill-ends, fork-ends, join-ends, no, query-ends, show-ends, update-ends, yes, yield-ends}
 use Rattle.plain.specs.Answers.{Outcome, called, dayFrom, stepped, taken}
-use Rattle.plain.specs.Calls.{Call, Fill, Fork, Join, Query, Show, Update, Yield}
+use Rattle.plain.specs.Calls.{Answer, Call, Fill, Fork, Join, Query, Show, Update, Yield}
 use Rattle.plain.specs.Taken.{ifTaken, onRevision, stepOf, stepsFrom, stepsOf}
 use Rattle.plain.specs.Record.{PlainDay, noted}
 use Rattle.updates.specs.declared.kind.Kind.{Kind}
@@ -41,9 +41,9 @@ more-after y (Steps.Yield c) = by (y .openBy c)
 more-after y (Steps.Fork r) = omega arith
 more-after y (Steps.Join a b) = omega arith
 
-did-step : (p : PlainDay) (s : Step) (value : ℕ) (o : Outcome) → accepted (p .day) s ≡ true → o ≡ taken (stepped p s) value → Did p o (s ∷ [])
+did-step : (p : PlainDay) (s : Step) (answer : Answer) (o : Outcome) → accepted (p .day) s ≡ true → answer .code ≡ 0 → o ≡ record { next = stepped p s; answer = answer } → Did p o (s ∷ [])
 unfolding runFrom
-did-step p s value o a e = rw e (record { accepts = (a, tt); same = refl; more = more-after (p .day) s; kept = λ n h. refl })
+did-step p s answer o a z e = rw (e, z) (record { accepts = (a, tt); same = refl; more = more-after (p .day) s; kept = λ n h. refl })
 
 did-note : (p : PlainDay) (c r : ℕ) (kind : Kind) (bib v value : ℕ) (o : Outcome) → accepted (p .day) (Event c r true) ≡ true → o ≡ taken (noted p c r kind bib v) value → Did p o (Event c r true ∷ [])
 unfolding runFrom
@@ -53,11 +53,11 @@ did-note p c r kind bib v value o a e =
 pub did : (p : PlainDay) (c : Call) → Did p (called p c) (stepOf p c)
 unfolding runFrom
 did p (Update c n k bib v) = did-end (λ o h. subst (λ m. Did p o (onRevision m (λ r. Event c r true ∷ []))) (sym (h .step .means)) (did-note p c (h .step .revision) (h .kind) bib v (p .day .updates) o (h .step .accepts) (h .is))) (update-ends p c n k bib v)
-did p (Query c n bib) = did-end (λ o h. subst (λ m. Did p o (onRevision m (λ r. Event c r false ∷ []))) (sym (h .step .means)) (did-step p (Event c (h .step .revision) false) _ o (h .step .accepts) (h .is))) (query-ends p c n bib)
-did p (Yield c) = did-end (λ o h. did-step p (Steps.Yield c) 0 o (h .accepts) (h .is)) (yield-ends p c)
-did p (Fork n) = did-end (λ o h. subst (λ m. Did p o (onRevision m (λ r. Steps.Fork r ∷ []))) (sym (h .step .means)) (did-step p (Steps.Fork (h .step .revision)) _ o (h .step .accepts) (h .is))) (fork-ends p n)
+did p (Query c n bib) = did-end (λ o h. subst (λ m. Did p o (onRevision m (λ r. Event c r false ∷ []))) (sym (h .step .means)) (did-step p (Event c (h .step .revision) false) _ o (h .step .accepts) refl (h .is))) (query-ends p c n bib)
+did p (Yield c) = did-end (λ o h. did-step p (Steps.Yield c) _ o (h .accepts) refl (h .is)) (yield-ends p c)
+did p (Fork n) = did-end (λ o h. subst (λ m. Did p o (onRevision m (λ r. Steps.Fork r ∷ []))) (sym (h .step .means)) (did-step p (Steps.Fork (h .step .revision)) _ o (h .step .accepts) refl (h .is))) (fork-ends p n)
 did p (Join n m) =
-    did-end (λ o h. subst (λ i. Did p o (onRevision i (λ a. onRevision (meant (p .day) m) (λ b. Steps.Join a b ∷ [])))) (sym (h .means)) (subst (λ i. Did p o (onRevision i (λ b. Steps.Join (h .joiner) b ∷ []))) (sym (h .step .means)) (did-step p (Steps.Join (h .joiner) (h .step .revision)) _ o (h .step .accepts) (h .is))))
+    did-end (λ o h. subst (λ i. Did p o (onRevision i (λ a. onRevision (meant (p .day) m) (λ b. Steps.Join a b ∷ [])))) (sym (h .means)) (subst (λ i. Did p o (onRevision i (λ b. Steps.Join (h .joiner) b ∷ []))) (sym (h .step .means)) (did-step p (Steps.Join (h .joiner) (h .step .revision)) _ o (h .step .accepts) refl (h .is))))
     (join-ends p n m)
 did p (Show n room) = did-end (λ o h. rw (h .is) (record { accepts = tt; same = refl; more = omega arith; kept = λ i q. refl })) (show-ends p n room)
 did p (Fill n) = did-end (λ o h. rw (h .is) (record { accepts = tt; same = refl; more = omega arith; kept = λ i q. refl })) (fill-ends p n)

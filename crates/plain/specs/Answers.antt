@@ -9,7 +9,10 @@ use lib.Dec.{ltb}
 use Rattle.updates.specs.declared.kind.Kind.{Kind}
 use Rattle.updates.specs.declared.kind.KindCheck.{KindCheck}
 use Rattle.updates.specs.declared.kind.KindCheck.the-variants.{Known, Unknown}
+use Rattle.updates.specs.declared.standing.Standing.{Standing}
+use Rattle.updates.specs.declared.standing.State.the-variants as state
 use Rattle.updates.specs.Kinds.{kindCheck}
+use Rattle.updates.specs.Effect.{stateOf, valueIn}
 use Rattle.diagram.specs.Effects.{own, view}
 use Rattle.diagram.specs.Day.{meant, nextNumber}
 use Rattle.diagram.specs.Checks.{unknownClient, openElsewhere, busyByOther, busy, stale, logFull, noneLeft, notJoinable}
@@ -24,18 +27,22 @@ pub record Outcome : Type 0 where
 
 -- "a refused one changes nothing" and "A refusal gives value 0"
 abbrev pub refused : PlainDay → ℕ → Outcome
-refused p code = record { next = p; answer = record { code = code; value = 0; total = 0; lines = [] } }
+refused p code = record { next = p; answer = record { code = code; state = state.Neither; value = 0; total = 0; lines = [] } }
 
 abbrev pub taken : PlainDay → ℕ → Outcome
-taken p value = record { next = p; answer = record { code = 0; value = value; total = 0; lines = [] } }
+taken p value = record { next = p; answer = record { code = 0; state = state.Neither; value = value; total = 0; lines = [] } }
+
+-- a query: "the state .. with the value, 0 if struck"
+abbrev pub answered : PlainDay → Standing → Outcome
+answered p s = record { next = p; answer = record { code = 0; state = stateOf s; value = valueIn s; total = 0; lines = [] } }
 
 -- "List: nothing" happens to the day; the numbers of the updates are shown, each with what it was
 abbrev pub shown : PlainDay → List ℕ → Outcome
-shown p numbers = record { next = p; answer = record { code = 0; value = length numbers; total = 0; lines = linesOf (p .entries) numbers } }
+shown p numbers = record { next = p; answer = record { code = 0; state = state.Neither; value = length numbers; total = 0; lines = linesOf (p .entries) numbers } }
 
 -- a fill is no event: the day stays
 abbrev pub told : PlainDay → ℕ → ℕ → Outcome
-told p own total = record { next = p; answer = record { code = 0; value = own; total = total; lines = [] } }
+told p own total = record { next = p; answer = record { code = 0; state = state.Neither; value = own; total = total; lines = [] } }
 
 -- a check that applies ends the call
 abbrev pub check : Bool → ℕ → PlainDay → Outcome → Outcome
@@ -72,7 +79,7 @@ called p (Update c n k bib v) =
     check (stale (p .day) c r) 8 p (
     check (logFull (p .day)) 9 p (
     taken (noted p c r kind bib v) (p .day .updates))))))))))
--- "Query: 1 to 8 (of 5, the bib only)"; its value: the path-result of its vertex
+-- "Query: 1 to 8 (of 5, the bib only)"; its state and value: the path-result of its vertex
 called p (Query c n bib) =
     check (unknownClient c) 2 p (
     given (meant (p .day) n) p (λ r.
@@ -81,7 +88,7 @@ called p (Query c n bib) =
     check (openElsewhere (p .day) c r) 6 p (
     check (busyByOther (p .day) c r) 7 p (
     check (stale (p .day) c r) 8 p (
-    taken (stepped p (Steps.Event c r false)) (pathResult (stepped p (Steps.Event c r false)) (length (p .day .diagram)) bib))))))))
+    answered (stepped p (Steps.Event c r false)) (pathResult (stepped p (Steps.Event c r false)) (length (p .day .diagram)) bib))))))))
 -- "Yield: 1, 2"; value 0
 called p (Yield c) =
     check (unknownClient c) 2 p (

@@ -1,7 +1,8 @@
--- The calls of a day and what they answer with: 01, "Codes of the desk" and "Listing a box"; 02, U1.
+-- The calls of a day and what they answer with: 01, "Codes of the desk" and "Listing a box"; 02, U1 and U2.
 use Prim.Native.Nat.{ℕ}
 use mathlib.Core.List.{List}
 use Rattle.updates.specs.declared.kind.Kind.{Kind}
+use Rattle.updates.specs.declared.standing.State.{State}
 
 -- arguments as they come, of any size. Of a list's sheet the day is told "only the length".
 pub data Call : Type 0 where
@@ -28,6 +29,8 @@ pub record Line : Type 0 where
 -- "Each call's code and all that it answers with, and the entries a taken list writes"
 pub record Answer : Type 0 where
   pub code : ℕ
+  -- 02, U2, of a query: "struck, timed or neither; a refused one neither"; of any other call neither
+  pub state : State
   pub value : ℕ
   -- of a fill, besides its value: "the number taken by the whole table"
   pub total : ℕ

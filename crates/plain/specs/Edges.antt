@@ -1,15 +1,39 @@
--- 01, "Edges of a race day": the starred edges E1 to E9 as one table of calls with the code and value that each gives.
+-- 01, "Edges of a race day": the starred edges E1 to E9 as one table of calls with what each gives; and 02, U1 to U3.
 use Prim.Native.Nat.{ℕ}
 use mathlib.Core.List.{List, [], _∷_}
+use Rattle.updates.specs.declared.standing.State.{State}
+use Rattle.updates.specs.declared.standing.State.the-variants as state
 use Rattle.plain.specs.Calls.{Call, Update, Query, Yield, Fork, Join, Show, Fill, Answer}
 use Rattle.plain.specs.Answers.{answers}
 
+-- what a call gives
+pub record Said : Type 0 where
+  pub code : ℕ
+  pub state : State
+  pub value : ℕ
+
 pub record Edge : Type 0 where
   pub calls : List Call
-  pub says : List (ℕ × ℕ)
+  pub says : List Said
 
-abbrev edge : List Call → List (ℕ × ℕ) → Edge
+abbrev edge : List Call → List Said → Edge
 edge calls says = record { calls = calls; says = says }
+
+-- refused; a query that finds a bib timed, neither or struck; any other call that is taken
+abbrev pub no : ℕ → Said
+no code = record { code = code; state = state.Neither; value = 0 }
+
+abbrev timed : ℕ → Said
+timed value = record { code = 0; state = state.Timed; value = value }
+
+abbrev pub neither : Said
+neither = record { code = 0; state = state.Neither; value = 0 }
+
+abbrev struck : Said
+struck = record { code = 0; state = state.Struck; value = 0 }
+
+abbrev pub ok : ℕ → Said
+ok value = record { code = 0; state = state.Neither; value = value }
 
 -- the numbers of the kinds
 abbrev time : ℕ
@@ -30,28 +54,37 @@ edges =
     edge
     (Update 0 0 time 7 61000 ∷ Yield 0 ∷ Fork 0 ∷ Update 1 1 penalty 7 5000 ∷ Fork 1 ∷ Yield 1 ∷ Update 0 0 time 7 60000
     ∷ Yield 0 ∷ Query 0 1 7 ∷ Join 0 1 ∷ Query 1 0 7 ∷ Update 0 1 strike 7 0 ∷ [])
-    ((0, 0) ∷ (0, 0) ∷ (0, 1) ∷ (0, 1) ∷ (7, 0) ∷ (0, 0) ∷ (0, 2) ∷ (0, 0) ∷ (8, 0) ∷ (0, 1) ∷ (0, 65000) ∷ (4, 0) ∷ [])
+    (ok 0 ∷ ok 0 ∷ ok 1 ∷ ok 1 ∷ no 7 ∷ ok 0 ∷ ok 2 ∷ ok 0 ∷ no 8 ∷ ok 1 ∷ timed 65000 ∷ no 4 ∷ [])
     -- E2 "Box 0 sends 1, 1 sends 2: join 0 with 2 gives 11, and so does join 2 with 1; after join 0 with 1, join 0 with 2
     -- is taken."
     ∷ edge
     (Fork 0 ∷ Fork 1 ∷ Join 0 2 ∷ Join 2 1 ∷ Join 0 1 ∷ Join 0 2 ∷ [])
-    ((0, 1) ∷ (0, 2) ∷ (11, 0) ∷ (11, 0) ∷ (0, 0) ∷ (0, 0) ∷ [])
+    (ok 1 ∷ ok 2 ∷ no 11 ∷ no 11 ∷ ok 0 ∷ ok 0 ∷ [])
     -- E3 "Box 0 sends 1, then 2: join 1 with 2 gives 11, and after it join 2 with 1 is taken."
-    ∷ edge (Fork 0 ∷ Fork 0 ∷ Join 1 2 ∷ Join 2 1 ∷ []) ((0, 1) ∷ (0, 2) ∷ (11, 0) ∷ (0, 0) ∷ [])
+    ∷ edge (Fork 0 ∷ Fork 0 ∷ Join 1 2 ∷ Join 2 1 ∷ []) (ok 1 ∷ ok 2 ∷ no 11 ∷ ok 0 ∷ [])
     -- E4 "Join 0 with 0: 11, but 7 while box 0 is busy."
-    ∷ edge (Join 0 0 ∷ Query 3 0 7 ∷ Join 0 0 ∷ []) ((11, 0) ∷ (0, 0) ∷ (7, 0) ∷ [])
+    ∷ edge (Join 0 0 ∷ Query 3 0 7 ∷ Join 0 0 ∷ []) (no 11 ∷ neither ∷ no 7 ∷ [])
     -- E5 "Penalty 4,294,967,295 on value 1 gives 0."
-    ∷ edge (Update 0 0 time 7 1 ∷ Update 0 0 penalty 7 4294967295 ∷ Query 0 0 7 ∷ []) ((0, 0) ∷ (0, 1) ∷ (0, 0) ∷ [])
+    ∷ edge (Update 0 0 time 7 1 ∷ Update 0 0 penalty 7 4294967295 ∷ Query 0 0 7 ∷ []) (ok 0 ∷ ok 1 ∷ neither ∷ [])
     -- E6 "Earliest: 0 and 9 give 9; 9 and 0 give 9; 9 and 9 give 9."
     ∷ edge
     (Update 0 0 earliest 1 9 ∷ Query 0 0 1 ∷ Update 0 0 earliest 1 0 ∷ Query 0 0 1 ∷ Update 0 0 earliest 1 9 ∷ Query 0 0 1 ∷ [])
-    ((0, 0) ∷ (0, 9) ∷ (0, 1) ∷ (0, 9) ∷ (0, 2) ∷ (0, 9) ∷ [])
+    (ok 0 ∷ timed 9 ∷ ok 1 ∷ timed 9 ∷ ok 2 ∷ timed 9 ∷ [])
     -- E7 "Two yields in a row: both taken."
-    ∷ edge (Update 2 0 time 5 8 ∷ Yield 2 ∷ Yield 2 ∷ []) ((0, 0) ∷ (0, 0) ∷ (0, 0) ∷ [])
+    ∷ edge (Update 2 0 time 5 8 ∷ Yield 2 ∷ Yield 2 ∷ []) (ok 0 ∷ ok 0 ∷ ok 0 ∷ [])
     -- E8 "A join of a box without updates gains 0."
-    ∷ edge (Update 0 0 time 5 8 ∷ Yield 0 ∷ Fork 0 ∷ Join 0 1 ∷ []) ((0, 0) ∷ (0, 0) ∷ (0, 1) ∷ (0, 0) ∷ [])
+    ∷ edge (Update 0 0 time 5 8 ∷ Yield 0 ∷ Fork 0 ∷ Join 0 1 ∷ []) (ok 0 ∷ ok 0 ∷ ok 1 ∷ ok 0 ∷ [])
     -- E9 "Bib 999 is taken; 1,000 gives 5."
-    ∷ edge (Update 0 0 time 999 8 ∷ Update 0 0 time 1000 8 ∷ Query 0 0 1000 ∷ []) ((0, 0) ∷ (5, 0) ∷ (5, 0) ∷ [])
+    ∷ edge (Update 0 0 time 999 8 ∷ Update 0 0 time 1000 8 ∷ Query 0 0 1000 ∷ []) (ok 0 ∷ no 5 ∷ no 5 ∷ [])
+    -- 02, U2: Strike, then Earliest, Penalty, Time and Time 0
+    ∷ edge (Update 0 0 strike 7 1 ∷ Query 0 0 7 ∷ Update 0 0 earliest 7 9 ∷ Query 0 0 7 ∷ []) (ok 0 ∷ struck ∷ ok 1 ∷ struck ∷ [])
+    ∷ edge (Update 0 0 time 7 9 ∷ Update 0 0 strike 7 0 ∷ Update 0 0 penalty 7 9 ∷ Query 0 0 7 ∷ []) (ok 0 ∷ ok 1 ∷ ok 2 ∷ struck ∷ [])
+    ∷ edge (Update 0 0 strike 7 0 ∷ Update 0 0 time 7 9 ∷ Query 0 0 7 ∷ []) (ok 0 ∷ ok 1 ∷ timed 9 ∷ [])
+    ∷ edge (Update 0 0 strike 7 0 ∷ Update 0 0 time 7 0 ∷ Query 0 0 7 ∷ []) (ok 0 ∷ ok 1 ∷ neither ∷ [])
+    -- U3: "Penalty 5000, then Earliest 60000, gives 60000, and after the Penalty alone the query gives 0"
+    ∷ edge (Update 0 0 penalty 7 5000 ∷ Query 0 0 7 ∷ Update 0 0 earliest 7 60000 ∷ Query 0 0 7 ∷ []) (ok 0 ∷ neither ∷ ok 1 ∷ timed 60000 ∷ [])
+    -- a refused query answers neither, also of a struck bib
+    ∷ edge (Update 0 0 strike 7 0 ∷ Query 1 0 7 ∷ []) (ok 0 ∷ no 7 ∷ [])
     ∷ []
 
 -- the codes, where several apply: the lowest one ends the call; and the updates of another bib, which do not count
@@ -59,40 +92,40 @@ abbrev pub codes : List Edge
 codes =
     edge
     (Update 16 9 0 1000 0 ∷ Update 0 9 0 1000 0 ∷ Update 0 0 0 7 0 ∷ Update 0 0 5 7 0 ∷ Update 0 0 strike 999 1 ∷ [])
-    ((2, 0) ∷ (3, 0) ∷ (5, 0) ∷ (5, 0) ∷ (0, 0) ∷ [])
+    (no 2 ∷ no 3 ∷ no 5 ∷ no 5 ∷ ok 0 ∷ [])
     ∷ edge
     (Fork 0 ∷ Join 0 1 ∷ Update 0 1 0 1000 0 ∷ Query 0 1 1000 ∷ Show 1 0 ∷ Join 0 1 ∷ Show 0 0 ∷ [])
-    ((0, 1) ∷ (0, 0) ∷ (4, 0) ∷ (4, 0) ∷ (4, 0) ∷ (4, 0) ∷ (0, 0) ∷ [])
+    (ok 1 ∷ ok 0 ∷ no 4 ∷ no 4 ∷ no 4 ∷ no 4 ∷ ok 0 ∷ [])
     ∷ edge
     (Fork 0 ∷ Update 0 0 time 7 5 ∷ Update 1 1 time 7 6 ∷ Update 0 1 time 7 6 ∷ Update 2 1 time 7 6 ∷ Show 1 0 ∷ Fork 1 ∷ Join 0 1
     ∷ Yield 0 ∷ Yield 1 ∷ Update 0 1 time 7 6 ∷ Show 1 11 ∷ Show 1 12 ∷ Join 0 1 ∷ [])
-    ((0, 1) ∷ (0, 0) ∷ (0, 1) ∷ (6, 0) ∷ (7, 0) ∷ (7, 0) ∷ (7, 0) ∷ (7, 0) ∷ (0, 0) ∷ (0, 0) ∷ (8, 0) ∷ (12, 0) ∷ (0, 1) ∷ (0, 1) ∷ [])
+    (ok 1 ∷ ok 0 ∷ ok 1 ∷ no 6 ∷ no 7 ∷ no 7 ∷ no 7 ∷ no 7 ∷ ok 0 ∷ ok 0 ∷ no 8 ∷ no 12 ∷ ok 1 ∷ ok 1 ∷ [])
     -- the calls other than update: 2, 3 and 4; a joinee that was never sent before a joiner that is handed in, and 4 before 11
     ∷ edge
     (Query 16 1 1000 ∷ Query 0 1 1000 ∷ Yield 16 ∷ Yield 15 ∷ Fork 1 ∷ Join 1 0 ∷ Join 0 1 ∷ Show 1 0 ∷ Fork 0 ∷ Join 0 1 ∷ Fork 1 ∷ Join 1 2
     ∷ Join 1 0 ∷ [])
-    ((2, 0) ∷ (3, 0) ∷ (2, 0) ∷ (0, 0) ∷ (3, 0) ∷ (3, 0) ∷ (3, 0) ∷ (3, 0) ∷ (0, 1) ∷ (0, 0) ∷ (4, 0) ∷ (3, 0) ∷ (4, 0) ∷ [])
+    (no 2 ∷ no 3 ∷ no 2 ∷ ok 0 ∷ no 3 ∷ no 3 ∷ no 3 ∷ no 3 ∷ ok 1 ∷ ok 0 ∷ no 4 ∷ no 3 ∷ no 4 ∷ [])
     -- join: 7 of either box; query: 6, 7 and 8, each before the next
     ∷ edge
     (Fork 0 ∷ Query 0 0 7 ∷ Join 0 1 ∷ Join 1 0 ∷ Query 1 0 7 ∷ Query 1 1 7 ∷ Query 0 1 1000 ∷ Query 0 1 7 ∷ Yield 0 ∷ Query 0 1 7 ∷ Yield 1 ∷ Query 0 1 7 ∷ [])
-    ((0, 1) ∷ (0, 0) ∷ (7, 0) ∷ (7, 0) ∷ (7, 0) ∷ (0, 0) ∷ (5, 0) ∷ (6, 0) ∷ (0, 0) ∷ (7, 0) ∷ (0, 0) ∷ (8, 0) ∷ [])
+    (ok 1 ∷ neither ∷ no 7 ∷ no 7 ∷ no 7 ∷ neither ∷ no 5 ∷ no 6 ∷ ok 0 ∷ no 7 ∷ ok 0 ∷ no 8 ∷ [])
     -- fill (02, U1): 3 and 4; what was inherited does not count, what was joined in does, through others too, and a busy box is told
     ∷ edge
     (Update 0 0 time 7 5 ∷ Yield 0 ∷ Fork 0 ∷ Fork 1 ∷ Update 1 1 time 7 6 ∷ Update 2 2 time 7 7 ∷ Fill 0 ∷ Fill 1 ∷ Fill 2 ∷ Fill 3
     ∷ Yield 1 ∷ Yield 2 ∷ Join 1 2 ∷ Fill 1 ∷ Fill 2 ∷ Join 0 1 ∷ Fill 0 ∷ Fill 1 ∷ [])
-    ((0, 0) ∷ (0, 0) ∷ (0, 1) ∷ (0, 2) ∷ (0, 1) ∷ (0, 2) ∷ (0, 1) ∷ (0, 1) ∷ (0, 1) ∷ (3, 0)
-    ∷ (0, 0) ∷ (0, 0) ∷ (0, 1) ∷ (0, 2) ∷ (4, 0) ∷ (0, 2) ∷ (0, 3) ∷ (4, 0) ∷ [])
-    ∷ edge (Update 0 0 time 7 5 ∷ Update 0 0 time 8 6 ∷ Query 0 0 7 ∷ Query 0 0 8 ∷ Query 0 0 9 ∷ []) ((0, 0) ∷ (0, 1) ∷ (0, 5) ∷ (0, 6) ∷ (0, 0) ∷ [])
+    (ok 0 ∷ ok 0 ∷ ok 1 ∷ ok 2 ∷ ok 1 ∷ ok 2 ∷ ok 1 ∷ ok 1 ∷ ok 1 ∷ no 3
+    ∷ ok 0 ∷ ok 0 ∷ ok 1 ∷ ok 2 ∷ no 4 ∷ ok 2 ∷ ok 3 ∷ no 4 ∷ [])
+    ∷ edge (Update 0 0 time 7 5 ∷ Update 0 0 time 8 6 ∷ Query 0 0 7 ∷ Query 0 0 8 ∷ Query 0 0 9 ∷ []) (ok 0 ∷ ok 1 ∷ timed 5 ∷ timed 6 ∷ neither ∷ [])
     ∷ []
 
-abbrev pub said : List Answer → List (ℕ × ℕ)
+abbrev pub said : List Answer → List Said
 said [] = []
-said (a ∷ more) = (a .code, a .value) ∷ said more
+said (a ∷ more) = record { code = a .code; state = a .state; value = a .value } ∷ said more
 
-abbrev pub expected : List Edge → List (List (ℕ × ℕ))
+abbrev pub expected : List Edge → List (List Said)
 expected [] = []
 expected (e ∷ es) = e .says ∷ expected es
 
-abbrev pub computed : List Edge → List (List (ℕ × ℕ))
+abbrev pub computed : List Edge → List (List Said)
 computed [] = []
 computed (e ∷ es) = said (answers (e .calls)) ∷ computed es

@@ -11,13 +11,14 @@ use Rattle.lists.specs.Lists.{_∈_, _⊑_, flat}
 use Rattle.updates.specs.declared.kind.Kind.{Kind}
 use Rattle.updates.specs.declared.kind.KindCheck.the-variants.{Known}
 use Rattle.updates.specs.Kinds.{kindCheck}
+use Rattle.updates.specs.Effect.{stateOf, valueIn}
 use Rattle.diagram.specs.Effects.{view, numbers}
 use Rattle.diagram.specs.Day.{Day, IsOut, meant}
 use Rattle.diagram.specs.Steps.{Accepted, run}
 use Rattle.diagram.specs.Witness.{Witness}
 use Rattle.diagram.specs.Arbitration.{IsEvent, eventsOf, Sees, SeesTransaction, Shows, WholeAt, Extends}
 use Rattle.plain.specs.Calls.{Call, Update, Query, Show, Answer}
-use Rattle.plain.specs.Record.{PlainDay, freshDay, valueOf, linesOf}
+use Rattle.plain.specs.Record.{PlainDay, freshDay, standingOf, linesOf}
 use Rattle.plain.specs.Answers.{called, dayAfter}
 use Rattle.plain.specs.Taken.{stepsAfter}
 
@@ -30,11 +31,12 @@ pub record Taken (cs before : List Call) (c : Call) (rest : List Call) : Type 0 
   pub place : cs ≡ before ++ (c ∷ rest)
   pub code : called (dayAfter before) c .answer .code ≡ 0
 
--- what is shown at vertex x, in the order of a line-up, with the value of one bib
-pub record Answers (cs : List Call) (order : List ℕ) (x bib value : ℕ) : Type 0 where
+-- what is shown at vertex x, in the order of a line-up, with the state and value of one bib
+pub record Answers (cs : List Call) (order : List ℕ) (x bib : ℕ) (answer : Answer) : Type 0 where
   pub updates : List ℕ
   pub shown : Shows (endOf cs) order x updates
-  pub is : value ≡ valueOf (dayAfter cs .entries) bib updates
+  pub state : answer .state ≡ stateOf (standingOf (dayAfter cs .entries) bib updates)
+  pub value : answer .value ≡ valueIn (standingOf (dayAfter cs .entries) bib updates)
 
 -- what a taken list wrote: the updates seen at vertex x, in the order of a line-up, each as it was entered
 pub record Lists (cs : List Call) (order : List ℕ) (x : ℕ) (answer : Answer) : Type 0 where
@@ -69,7 +71,7 @@ pub record LineUp (cs : List Call) : Type 0 where
   -- "A taken query answers as its bib stands after the updates it sees, and no others, are applied to the fresh values, each
   -- once, in line-up order, and as entered within a transaction." Its vertex is the next one of the day before it.
   pub queries : (before rest : List Call) (c n bib : ℕ) → Taken cs before (Query c n bib) rest
-      → Answers cs order (length (endOf before .diagram)) bib (called (dayAfter before) (Query c n bib) .answer .value)
+      → Answers cs order (length (endOf before .diagram)) bib (called (dayAfter before) (Query c n bib) .answer)
   -- "The visible updates of a box are those its line end sees, in the listing's order, busy or not."
   pub visible : (r : ℕ) → IsOut (endOf cs) r → Shows (endOf cs) order (endOf cs .terminal r) (view (endOf cs .diagram) (endOf cs .terminal r))
   pub in-order : (r : ℕ) → IsOut (endOf cs) r → view (endOf cs .diagram) (endOf cs .terminal r) ⊑ numbers (endOf cs .diagram) (flat (eventsOf (endOf cs)) order)

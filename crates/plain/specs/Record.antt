@@ -6,7 +6,8 @@ use lib.Dec.{eqb}
 use Rattle.lists.specs.Lists.{changed}
 use Rattle.updates.specs.declared.kind.Kind.{Kind}
 use Rattle.updates.specs.declared.kind.Kind.the-variants.{Time}
-use Rattle.updates.specs.Applied.{Update, applied, freshValue}
+use Rattle.updates.specs.declared.standing.Standing.{Standing}
+use Rattle.updates.specs.Applied.{Update, applied, freshStanding}
 use Rattle.diagram.specs.Effects.{view}
 use Rattle.diagram.specs.Day as Day
 use Rattle.diagram.specs.Day.{Day}
@@ -29,13 +30,13 @@ ofBib entries bib (n ∷ ns) =
     cond (eqb (entries n .bib) bib) (record { kind = entries n .kind; v = entries n .v } ∷ ofBib entries bib ns) (ofBib entries bib ns)
 
 -- "applied to the fresh values"
-abbrev pub valueOf : (ℕ → Entry) → ℕ → List ℕ → ℕ
-valueOf entries bib ns = applied (ofBib entries bib ns) freshValue
+abbrev pub standingOf : (ℕ → Entry) → ℕ → List ℕ → Standing
+standingOf entries bib ns = applied (ofBib entries bib ns) freshStanding
 
 -- 002, Definition 9: the path-result of a vertex, for one bib. 01: "A query's answer is the effects along its path from the
 -- root that uses no join edge, applied to the fresh values."
-abbrev pub pathResult : PlainDay → ℕ → ℕ → ℕ
-pathResult p x bib = valueOf (p .entries) bib (view (p .day .diagram) x)
+abbrev pub pathResult : PlainDay → ℕ → ℕ → Standing
+pathResult p x bib = standingOf (p .entries) bib (view (p .day .diagram) x)
 
 -- the lines of some numbers, in their order
 abbrev pub linesOf : (ℕ → Entry) → List ℕ → List Line

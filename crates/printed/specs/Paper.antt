@@ -37,7 +37,7 @@ answerAt f i = outcome (paperAfter f i) (stepAt f i) .answer
 -- "one line a record: index from 0, code, value"
 unfoldable pub paperLines : List ℕ → ℕ → List ℕ
 paperLines f zero = []
-paperLines f (suc i) = paperLines f i ++ line i (answerAt f i .code) (answerAt f i .value)
+paperLines f (suc i) = paperLines f i ++ line i (answerAt f i .code) (answerAt f i .state) (answerAt f i .value)
 
 abbrev pub paperAs : FileCheck → List ℕ → List ℕ
 paperAs Bad f = ascii "bad file\n"

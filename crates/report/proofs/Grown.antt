@@ -3,8 +3,8 @@ use Prim.Native.Nat.{ℕ, _+_}
 use mathlib.Core.Path.{_≡_, refl, ap}
 use mathlib.Core.List.{List, [], _++_}
 use native.Mathlib.Numerals.{add-one}
-use Rattle.table.specs.declared.answer.Answer.{Answer}
-use Rattle.table.specs.Answers.{Out, left}
+use Rattle.table.specs.declared.query.Reading.{Reading}
+use Rattle.table.specs.Answers.{Out, leftRead}
 use Rattle.report.specs.Run.{tableAfter, outAt}
 use Rattle.report.specs.Printed.{line, lines}
 
@@ -17,11 +17,11 @@ module _ (t f : List ℕ) where
   unfolding lines
   lines-none = refl
 
-  module _ (i : ℕ) (a : Answer) (after : List ℕ) (h : left a after ≡ outAt t f i) where
+  module _ (i : ℕ) (a : Reading) (after : List ℕ) (h : leftRead a after ≡ outAt t f i) where
     pub table-more : after ≡ tableAfter t f (i + 1)
     unfolding tableAfter
     table-more = rw add-one (ap (λ (o : Out). o .lent) h)
 
-    pub lines-more : lines t f i ++ line i (a .code) (a .value) ≡ lines t f (i + 1)
+    pub lines-more : lines t f i ++ line i (a .code) (a .state) (a .value) ≡ lines t f (i + 1)
     unfolding lines
-    lines-more = rw add-one (ap (λ (o : Out). lines t f i ++ line i (o .code) (o .value)) h)
+    lines-more = rw add-one (ap (λ (o : Out). lines t f i ++ line i (o .code) (o .state) (o .value)) h)

@@ -4,6 +4,8 @@ use mathlib.Core.Bool.{cond}
 use mathlib.Core.List.{List, [], _++_}
 use lib.Dec.{ltb}
 use lib.ListN.{length, replicate}
+use Rattle.updates.specs.declared.standing.State.{State}
+use Rattle.updates.specs.declared.standing.State.the-variants.{Neither, Timed, Struck}
 use Rattle.text.specs.Placed.{ascii}
 use Rattle.text.specs.Decimal.{ended}
 use Rattle.records.specs.File.{fileCheck}
@@ -19,14 +21,20 @@ blank = 32
 abbrev pub lineFeed : ℕ
 lineFeed = 10
 
+-- 02, U2: "the printed day has `struck` for the value"
+unfoldable pub valueText : State → ℕ → List ℕ
+valueText Struck value = ascii "struck\n"
+valueText Neither value = ended value lineFeed
+valueText Timed value = ended value lineFeed
+
 -- "one line a record: index from 0, code, value"
-unfoldable pub line : ℕ → ℕ → ℕ → List ℕ
-line index code value = ended index blank ++ ended code blank ++ ended value lineFeed
+unfoldable pub line : ℕ → ℕ → State → ℕ → List ℕ
+line index code state value = ended index blank ++ ended code blank ++ valueText state value
 
 -- the lines of the first n records
 unfoldable pub lines : List ℕ → List ℕ → ℕ → List ℕ
 lines t f zero = []
-lines t f (suc i) = lines t f i ++ line i (outAt t f i .code) (outAt t f i .value)
+lines t f (suc i) = lines t f i ++ line i (outAt t f i .code) (outAt t f i .state) (outAt t f i .value)
 
 unfoldable pub freshTable : List ℕ
 freshTable = freshOut (replicate bytes 0) .lent

@@ -1,13 +1,26 @@
 // One step on the table.
 ghost use mathlib.Core.Path.{_≡_};
-ghost use Rattle.table.specs.Answers.{left};
+ghost use Rattle.table.specs.Answers.{leftRead};
+ghost use Rattle.updates.specs.declared.standing.State.the-variants.{Neither};
 ghost use Rattle.report.specs.Run.{stepOut};
 use records::step::Step;
 use table::answer::Answer;
+use table::query::Reading;
+use updates::standing::State;
+
+fn without_state(a: Answer) -> Reading
+    ensures { λ r. ⌜ r ≡ record { code = a .code; state = Neither; value = a .value } ⌝ }
+{
+    Reading {
+        code: a.code,
+        state: State::Neither,
+        value: a.value,
+    }
+}
 
 // Code 13 is the program's own: a strange step changes nothing.
-pub(crate) fn run(t: &mut [u8], step: Step) -> Answer
-    ensures { λ a. ⌜ left a (now (t .exit)) ≡ stepOut (now (t .entry)) step ⌝ }
+pub(crate) fn run(t: &mut [u8], step: Step) -> Reading
+    ensures { λ a. ⌜ leftRead a (now (t .exit)) ≡ stepOut (now (t .entry)) step ⌝ }
 {
     match step {
         Step::Update {
@@ -16,15 +29,19 @@ pub(crate) fn run(t: &mut [u8], step: Step) -> Answer
             kind,
             bib,
             v,
-        } => table::update::update(t, client, revision, kind, bib, v),
+        } => without_state(table::update::update(t, client, revision, kind, bib, v)),
         Step::Query {
             client,
             revision,
             bib,
         } => table::query::query(t, client, revision, bib),
-        Step::Yield(client) => table::yields::yields(t, client),
-        Step::Fork(revision) => table::fork::fork(t, revision),
-        Step::Join(joiner, joinee) => table::join::join(t, joiner, joinee),
-        Step::Strange => Answer { code: 13, value: 0 },
+        Step::Yield(client) => without_state(table::yields::yields(t, client)),
+        Step::Fork(revision) => without_state(table::fork::fork(t, revision)),
+        Step::Join(joiner, joinee) => without_state(table::join::join(t, joiner, joinee)),
+        Step::Strange => Reading {
+            code: 13,
+            state: State::Neither,
+            value: 0,
+        },
     }
 }

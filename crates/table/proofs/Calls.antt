@@ -21,8 +21,11 @@ use Rattle.revisions.specs.declared.checks.GivenCheck.{GivenCheck}
 use Rattle.revisions.specs.declared.checks.GivenCheck.the-variants as given
 use Rattle.revisions.specs.declared.checks.LeftCheck.the-variants as left
 use Rattle.table.specs.Halves.{low, high, cellsOf, isTable}
-use Rattle.table.specs.Answers.{Out, refused, taken, named}
-use Rattle.table.specs.Calls.{updateOut, queryOut, yieldOut, forkOut, joinOut, listOut, shownOut, fillOut, fillIn, noFill, told, valueAt}
+use Rattle.table.specs.Answers.{Out, refused, taken, answered, leftRead, named}
+use Rattle.table.specs.declared.query.Reading.{Reading}
+use Rattle.updates.specs.Effect.{stateOf, valueIn}
+use Rattle.updates.specs.declared.standing.Standing.{Standing}
+use Rattle.table.specs.Calls.{updateOut, queryOut, yieldOut, forkOut, joinOut, listOut, shownOut, fillOut, fillIn, noFill, told, standingAt}
 use Rattle.table.specs.Found.{onClient, onGiven, onLeft, onKind, onQuiet, onEvent, onPair}
 use Rattle.table.specs.Checks.{quietCheck, forkCheck, bothCheck, meetCheck, joinCheck, placeCheck, turnCheck, queryCheck, updateCheck}
 use Rattle.table.specs.declared.quiet.QuietCheck.{QuietCheck}
@@ -145,7 +148,7 @@ module _ (t : List ℕ) (h : isTable t ≡ true) where
   yield-by c z e = rw (← e) (simp (client-is, h))
 
   pub query-by : (c n b : ℕ) (z : EventCheck) → queryCheck (low t) c n b ≡ z
-      → onEvent z (refused t) (λ x y. taken (queryBytes (low t) (x .0) (y .0) ++ high t) (valueAt t (y .0) b)) ≡ queryOut t c n b
+      → onEvent z (refused t) (λ x y. answered (queryBytes (low t) (x .0) (y .0) ++ high t) (standingAt t (y .0) b)) ≡ queryOut t c n b
   unfolding queryCheck placeCheck turnCheck queryOut onEvent
   query-by c n b z e = rw (← e) (simp (client-is, given-is, event-cond, h))
 
@@ -189,6 +192,9 @@ module _ (d : List ℕ) (n : ℕ) where
 pub fill-of : (t : List ℕ) (n : ℕ) → isTable t ≡ true → fillIn (cells (low t)) n ≡ fillOut t n
 unfolding fillOut
 fill-of t n h = rw h
+
+pub same-answered : (a : Reading) (l b : List ℕ) (s z : Standing) → a ≡ record { code = 0; state = stateOf s; value = valueIn s } → l ≡ b → s ≡ z → leftRead a l ≡ answered b z
+same-answered a l b s z e f g = rw (e, f, g)
 
 pub same-taken : (a b : List ℕ) (v w : ℕ) → a ≡ b → v ≡ w → taken a v ≡ taken b w
 same-taken a b v w e f = rw (e, f)

@@ -11,10 +11,11 @@ use Rattle.cells.specs.Sizes.{updates}
 use Rattle.cells.specs.Order.{order}
 use Rattle.entries.specs.Sizes as Upper
 use Rattle.entries.specs.Entries.{entryAt, wrote}
-use Rattle.entries.specs.Folded.{valueOf}
+use Rattle.entries.specs.Folded.{standingOf}
 use Rattle.entries.specs.declared.entry.Entry.{Entry}
+use Rattle.updates.specs.declared.standing.Standing.{Standing}
 use Rattle.table.specs.Halves.{bytes, low, high, cellsOf}
-use Rattle.table.specs.Calls.{valueAt}
+use Rattle.table.specs.Calls.{standingAt}
 
 pub low-of : (a b : List ℕ) → length a ≡ Lower.bytes → low (a ++ b) ≡ a
 unfolding low
@@ -70,12 +71,10 @@ pub high-whole : (t : List ℕ) → length t ≡ bytes → take Upper.bytes (hig
 unfolding high
 high-whole t h = to-end Lower.bytes Upper.bytes t h
 
--- the value along what was listed
-pub value-along : (t l z : List ℕ) (n r b v : ℕ) → length t ≡ bytes → n ≡ length (order (cellsOf t) r) → l ≡ order (cellsOf t) r ++ z
-    → v ≡ valueOf (entryAt (take Upper.bytes (high t))) b (take n l) → v ≡ valueAt t r b
-unfolding valueAt
-value-along t l z n r b v h e el ev =
-    ev ∙ ap (λ (u : List ℕ). valueOf (entryAt u) b (take n l)) (high-whole t h) ∙ ap (valueOf (entryAt (high t)) b) (fits n (order (cellsOf t) r) z l e el .1)
+-- the standing along what was listed
+pub standing-along : (t l : List ℕ) (r b : ℕ) (s : Standing) → length t ≡ bytes → l ≡ order (cellsOf t) r → s ≡ standingOf (entryAt (take Upper.bytes (high t))) b l → s ≡ standingAt t r b
+unfolding standingAt
+standing-along t l r b s h e ev = ev ∙ ap (λ (u : List ℕ). standingOf (entryAt u) b l) (high-whole t h) ∙ ap (standingOf (entryAt (high t)) b) e
 
 pub below : (u w : ℕ) → u ≡ w → w < updates → u < updates
 below u w e h = omega arith

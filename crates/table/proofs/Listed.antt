@@ -2,7 +2,7 @@
 use Prim.Native.Nat.{ℕ, _*_, _≤_}
 use mathlib.Core.Bool.{true, false, cond}
 use mathlib.Core.Path.{_≡_, sym, _∙_, ap}
-use mathlib.Core.List.{List, _++_}
+use mathlib.Core.List.{List}
 use native.Mathlib.Omega.{arith}
 use lib.Dec.{ltb}
 use lib.ListN.{length, take}
@@ -17,7 +17,7 @@ use Rattle.table.specs.Answers.{refused, taken}
 use Rattle.table.specs.Calls.{shownOut}
 use Rattle.table.specs.Checks.{sheetCheck}
 use Rattle.table.specs.declared.list.SheetCheck.the-variants.{Fits, Short}
-use Rattle.table.proofs.Halves.{fits, high-whole}
+use Rattle.table.proofs.Halves.{high-whole}
 use Rattle.table.proofs.Calls.{same-taken}
 
 different : Short ≡ Fits → ⊥
@@ -40,11 +40,10 @@ module _ (t s : List ℕ) (r n : ℕ) (en : n ≡ length (order (cellsOf t) r)) 
   unfolding shownOut
   listed-short e = sym (ap (λ b. cond b (refused s 12) (taken (sheet (entryAt (high t)) (order (cellsOf t) r) s) (length (order (cellsOf t) r)))) (ap (λ k. ltb (length s) (12 * k)) (sym en) ∙ is-short (length s) n e))
 
-  pub listed-done : (l z q : List ℕ) → length t ≡ bytes → l ≡ order (cellsOf t) r ++ z → sheetCheck (length s) n ≡ Fits
-      → q ≡ sheet (entryAt (take Upper.bytes (high t))) (take n l) s → taken q n ≡ shownOut t r s
+  pub listed-done : (l q : List ℕ) → length t ≡ bytes → l ≡ order (cellsOf t) r → sheetCheck (length s) n ≡ Fits → q ≡ sheet (entryAt (take Upper.bytes (high t))) l s → taken q n ≡ shownOut t r s
   unfolding shownOut
-  listed-done l z q h el e eq =
+  listed-done l q h el e eq =
       let lines : q ≡ sheet (entryAt (high t)) (order (cellsOf t) r) s =
-      eq ∙ ap (λ (u : List ℕ). sheet (entryAt u) (take n l) s) (high-whole t h) ∙ ap (λ (u : List ℕ). sheet (entryAt (high t)) u s) (fits n (order (cellsOf t) r) z l en el .1) in
+      eq ∙ ap (λ (u : List ℕ). sheet (entryAt u) l s) (high-whole t h) ∙ ap (λ (u : List ℕ). sheet (entryAt (high t)) u s) el in
       same-taken q _ n _ lines en
       ∙ sym (ap (λ b. cond b (refused s 12) (taken (sheet (entryAt (high t)) (order (cellsOf t) r) s) (length (order (cellsOf t) r)))) (ap (λ k. ltb (length s) (12 * k)) (sym en) ∙ is-long (length s) n e))

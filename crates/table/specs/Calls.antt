@@ -12,19 +12,20 @@ use Rattle.cells.specs.Steps.{freshBytes, updateBytes, queryBytes, closeBytes, 
 use Rattle.entries.specs.Sizes as Upper
 use Rattle.entries.specs.Stored.{entry}
 use Rattle.entries.specs.Entries.{entryAt, wrote}
-use Rattle.entries.specs.Folded.{valueOf}
+use Rattle.entries.specs.Folded.{standingOf}
 use Rattle.listing.specs.Lines.{sheet}
 use Rattle.table.specs.Halves.{bytes, low, high, cellsOf, isTable}
-use Rattle.table.specs.Answers.{Out, taken, check, named}
+use Rattle.table.specs.Answers.{Out, taken, answered, check, named}
+use Rattle.updates.specs.declared.standing.Standing.{Standing}
 use Rattle.table.specs.declared.fill.Level.{Level}
 
 -- 5: "bib above 999"
 abbrev pub badBib : ℕ → Bool
 badBib bib = not (ltb bib 1000)
 
--- the value of a bib after the updates visible at revision n
-unfoldable pub valueAt : List ℕ → ℕ → ℕ → ℕ
-valueAt t n bib = valueOf (entryAt (high t)) bib (order (cellsOf t) n)
+-- the standing of a bib after the updates visible at revision n
+unfoldable pub standingAt : List ℕ → ℕ → ℕ → Standing
+standingAt t n bib = standingOf (entryAt (high t)) bib (order (cellsOf t) n)
 
 -- fresh: of 1, the length only
 unfoldable pub freshOut : List ℕ → Out
@@ -56,7 +57,7 @@ queryOut t c n bib =
     check (openElsewhere (cellsOf t) c n) 6 t (
     check (busyByOther (cellsOf t) c n) 7 t (
     check (stale (cellsOf t) c n) 8 t (
-    taken (queryBytes (low t) c n ++ high t) (valueAt t n bib)))))))))
+    answered (queryBytes (low t) c n ++ high t) (standingAt t n bib)))))))))
 
 -- "Yield: 1, 2"
 unfoldable pub yieldOut : List ℕ → ℕ → Out

@@ -12,4 +12,5 @@ pub mod query; // query.rt: the call query
 pub mod quiet; // quiet.rt: the checks of a revision that must not be busy
 pub mod sound; // sound.rt: the check that the buffer is a table
 pub mod update; // update.rt: the call update
+pub mod visible; // visible.rt: the updates visible at a revision
 pub mod yields; // yields.rt: the call yield

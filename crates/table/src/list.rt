@@ -14,6 +14,7 @@ use crate::quiet;
 use crate::quiet::QuietCheck;
 use crate::sound;
 use crate::sound::TableCheck;
+use crate::visible::visible;
 use fields::table::Revision;
 
 // Code 12.
@@ -39,8 +40,8 @@ fn show(t: &[u8], r: Revision, sheet: &mut [u8]) -> Answer
     requires { ⌜ (length (now t) ≡ bytes) × (inRange (low (now t)) ≡ true) × (r .0 < revisions) ⌝ }
     ensures { λ a. ⌜ left a (now (sheet .exit)) ≡ shownOut (now (t .entry)) (r .0) (now (sheet .entry)) ⌝ }
 {
-    let mut out = [0u16; 4096];
-    let n = order::visible::list(&t[0..40960], r, &mut out);
+    let mut out = order::links::room();
+    let n = visible(t, r, &mut out);
     let SheetCheck::Fits = check_sheet(sheet, n) else {
         return Answer { code: 12, value: 0 };
     };

@@ -1,4 +1,4 @@
-// The call query: a bib's value at a revision.
+// The call query: a bib's state and value at a revision.
 ghost use mathlib.Core.Bool.{true};
 ghost use mathlib.Core.List.{_++_};
 ghost use mathlib.Core.Path.{_≡_};
@@ -8,28 +8,62 @@ ghost use Rattle.cells.specs.Sizes as Lower;
 ghost use Rattle.cells.specs.Sizes.{clients, revisions};
 ghost use Rattle.cells.specs.Range.{inRange};
 ghost use Rattle.cells.specs.Steps.{queryBytes};
+ghost use Rattle.updates.specs.Effect.{stateOf, valueIn};
 ghost use Rattle.table.specs.Halves.{bytes, high, isTable, low};
-ghost use Rattle.table.specs.Answers.{left};
-ghost use Rattle.table.specs.Calls.{queryOut, valueAt};
+ghost use Rattle.table.specs.Answers.{leftRead};
+ghost use Rattle.table.specs.Calls.{queryOut, standingAt};
 ghost use Rattle.table.specs.Checks.{eventIn, queryCheck};
-use crate::answer::Answer;
 use crate::bib;
 use crate::bib::BibCheck;
 use crate::event;
 use crate::event::EventCheck;
 use crate::sound;
 use crate::sound::TableCheck;
+use crate::visible::visible;
 use fields::table::Client;
 use fields::table::Revision;
+use updates::standing::Standing;
+use updates::standing::State;
 
-// The value of a bib after the updates visible at r.
-fn value_at(t: &[u8], r: Revision, bib: u16) -> u32
-    requires { ⌜ (length (now t) ≡ bytes) × (inRange (low (now t)) ≡ true) × (r .0 < revisions) ⌝ }
-    ensures { λ v. ⌜ v ≡ valueAt (now (t .entry)) (r .0) bib ⌝ }
+pub struct Reading {
+    pub code: u8,
+    pub state: State,
+    pub value: u32,
+}
+
+// What a query tells of a standing.
+fn tell(standing: Standing) -> Reading
+    ensures { λ a. ⌜ a ≡ record { code = 0; state = stateOf standing; value = valueIn standing } ⌝ }
 {
-    let mut out = [0u16; 4096];
-    let n = order::visible::list(&t[0..40960], r, &mut out);
-    entries::value::value(&t[40960..65536], &out, n, bib)
+    let Standing::At(value) = standing else {
+        return Reading {
+            code: 0,
+            state: State::Struck,
+            value: 0,
+        };
+    };
+    if value == 0 {
+        return Reading {
+            code: 0,
+            state: State::Neither,
+            value: 0,
+        };
+    }
+    Reading {
+        code: 0,
+        state: State::Timed,
+        value,
+    }
+}
+
+// The standing of a bib after the updates visible at r.
+fn standing_at(t: &[u8], r: Revision, bib: u16) -> Standing
+    requires { ⌜ (length (now t) ≡ bytes) × (inRange (low (now t)) ≡ true) × (r .0 < revisions) ⌝ }
+    ensures { λ s. ⌜ s ≡ standingAt (now (t .entry)) (r .0) bib ⌝ }
+{
+    let mut out = order::links::room();
+    let n = visible(t, r, &mut out);
+    entries::standing::standing(&t[40960..65536], &out, n, bib)
 }
 
 // The query is r's last event, and opens or continues its client's transaction.
@@ -56,26 +90,34 @@ fn check_query(d: &[u8], client: u8, revision: u8, bib: u16) -> EventCheck
 }
 
 // The call on bytes that are a table.
-fn query_sound(t: &mut [u8], client: u8, revision: u8, bib: u16) -> Answer
+fn query_sound(t: &mut [u8], client: u8, revision: u8, bib: u16) -> Reading
     requires { ⌜ (isTable (now t) ≡ true) × (length (now t) ≡ bytes) × (inRange (low (now t)) ≡ true) ⌝ }
-    ensures { λ a. ⌜ left a (now (t .exit)) ≡ queryOut (now (t .entry)) client revision bib ⌝ }
+    ensures { λ a. ⌜ leftRead a (now (t .exit)) ≡ queryOut (now (t .entry)) client revision bib ⌝ }
 {
     let found = check_query(&t[0..40960], client, revision, bib);
     match found {
-        EventCheck::Refused(code) => Answer { code, value: 0 },
+        EventCheck::Refused(code) => Reading {
+            code,
+            state: State::Neither,
+            value: 0,
+        },
         EventCheck::Allowed(c, r) => {
-            let value = value_at(t, r, bib);
+            let standing = standing_at(t, r, bib);
             ask(t, c, r);
-            Answer { code: 0, value }
+            tell(standing)
         }
     }
 }
 
-pub fn query(t: &mut [u8], client: u8, revision: u8, bib: u16) -> Answer
-    ensures { λ a. ⌜ left a (now (t .exit)) ≡ queryOut (now (t .entry)) client revision bib ⌝ }
+pub fn query(t: &mut [u8], client: u8, revision: u8, bib: u16) -> Reading
+    ensures { λ a. ⌜ leftRead a (now (t .exit)) ≡ queryOut (now (t .entry)) client revision bib ⌝ }
 {
     let TableCheck::Sound = sound::check_table(t) else {
-        return Answer { code: 1, value: 0 };
+        return Reading {
+            code: 1,
+            state: State::Neither,
+            value: 0,
+        };
     };
     query_sound(t, client, revision, bib)
 }

@@ -1,9 +1,8 @@
-// What one update makes of a value: the four effects, each total on 32-bit values.
+// The earlier of two times, and a time with a penalty.
 ghost use mathlib.Core.Path.{_≡_};
-ghost use Rattle.updates.specs.Effect.{earliest, effect};
-use crate::kind::Kind;
+ghost use Rattle.updates.specs.Effect.{earliest, penalized};
 
-// The earlier of two times, where 0 is no time.
+// 0 is no time.
 pub fn earlier(value: u32, v: u32) -> u32
     ensures { λ r. ⌜ r ≡ earliest value v ⌝ }
 {
@@ -16,14 +15,12 @@ pub fn earlier(value: u32, v: u32) -> u32
     v
 }
 
-// The value after one update.
-pub fn apply(kind: Kind, v: u32, value: u32) -> u32
-    ensures { λ r. ⌜ r ≡ effect kind v value ⌝ }
+// A penalty belongs to a finish: without a time it has no effect.
+pub fn penalty(value: u32, v: u32) -> u32
+    ensures { λ r. ⌜ r ≡ penalized value v ⌝ }
 {
-    match kind {
-        Kind::Time => v,
-        Kind::Earliest => earlier(value, v),
-        Kind::Penalty => std::num::wrapping_add_u32(value, v),
-        Kind::Strike => 0,
+    if value == 0 {
+        return 0;
     }
+    std::num::wrapping_add_u32(value, v)
 }

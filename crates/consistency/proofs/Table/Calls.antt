@@ -11,6 +11,9 @@ use borrow.Author.Tests.{eqb-false, ltb-true, not-false}
 use Rattle.lists.specs.Lists.{changed}
 use Rattle.lists.proofs.Cases.{cases, or-false}
 use Rattle.updates.specs.declared.kind.Kind.{Kind}
+use Rattle.updates.specs.declared.standing.Standing.{Standing}
+use Rattle.updates.specs.declared.standing.State.the-variants.{Neither}
+use Rattle.updates.specs.Effect.{stateOf, valueIn}
 use Rattle.updates.specs.Kinds.{kindCheck}
 use Rattle.diagram.specs.Day.{Day, meant, nextNumber}
 use Rattle.diagram.specs.Checks as Day
@@ -42,7 +45,7 @@ use Rattle.consistency.specs.Table.{sheetWith}
 use Rattle.consistency.proofs.Cells.Passing.{client-is, known}
 use Rattle.consistency.proofs.Table.Stands.{Stands, asEntered, bytes-are, high-size, is-table, numbers-are, stands-next}
 use Rattle.consistency.proofs.Table.Same.{Same, by-check, by-table, by-given, by-named}
-use Rattle.consistency.proofs.Table.Values.{same-order, same-sheet, same-value}
+use Rattle.consistency.proofs.Table.Values.{same-order, same-sheet, same-standing}
 
 module _ (p : PlainDay) (t : List ℕ) (S : Stands p t) where
   abbrev y : Day
@@ -58,14 +61,16 @@ module _ (p : PlainDay) (t : List ℕ) (S : Stands p t) where
   check-given : (n : ℕ) (rest : ℕ → Outcome) (u : Out) → ((r : ℕ) → meant y n ≡ some r → Same OnTable (rest r) u) → Same OnTable (Plain.given (meant y n) p rest) (Table.check (not (Asked.givenOut (cellsOf t) n)) 3 t u)
   check-given = by-given p t S OnTable t S
 
-  -- a step that notes no entry
+  -- a step that notes no entry: the table that it leaves, and the call's end, of a query and of any other
+  stepped-on : (s : Step) → accepted y s ≡ true → after y s .updates ≡ y .updates → (b : List ℕ) → b ≡ stepBytes (low t) s → Stands (stepped p s) (b ++ high t)
+  stepped-on s e q b x = subst (λ k. Stands (stepped p s) (k ++ high t)) (sym x) (stands-next p t S s e (stepped p s) refl (high t) (high-size p t S) (λ n h. S .entries-are n (subst (λ k. n < k) q h)))
+
   by-step : (s : Step) → accepted y s ≡ true → after y s .updates ≡ y .updates → (value w : ℕ) → w ≡ value → (b : List ℕ) → b ≡ stepBytes (low t) s → Same OnTable (Plain.taken (stepped p s) value) (Table.taken (b ++ high t) w)
-  by-step s e q value w z b x = record {
-    code = refl;
-    value = z;
-    total = refl;
-    lent = subst (λ k. Stands (stepped p s) (k ++ high t)) (sym x) (stands-next p t S s e (stepped p s) refl (high t) (high-size p t S) (λ n h. S .entries-are n (subst (λ k. n < k) q h)));
-  }
+  by-step s e q value w z b x = record { code = refl; state = refl; value = z; total = refl; lent = stepped-on s e q b x }
+
+  by-query : (s : Step) → accepted y s ≡ true → after y s .updates ≡ y .updates → (standing w : Standing) → w ≡ standing → (b : List ℕ) → b ≡ stepBytes (low t) s
+      → Same OnTable (Plain.answered (stepped p s) standing) (Table.answered (b ++ high t) w)
+  by-query s e q standing w z b x = record { code = refl; state = ap stateOf z; value = ap valueIn z; total = refl; lent = stepped-on s e q b x }
 
   client : (c : ℕ) → not (Asked.isClient c) ≡ Day.unknownClient c
   client c = client-is y (cellsOf t) (bytes-are p t S .follow) c
@@ -81,6 +86,7 @@ module _ (p : PlainDay) (t : List ℕ) (S : Stands p t) where
   unfolding after
   noted-same c r kind bib v e e5 e9 = record {
     code = refl;
+    state = refl;
     value = is;
     total = refl;
     lent = stands-next p t S (Steps.Event c r true) e (noted p c r kind bib v) refl (wrote (high t) (cellsOf t .updates) (entry kind c bib v)) (wrote-length (high t) (cellsOf t .updates) (entry kind c bib v) (high-size p t S) (room e9)) kept;
@@ -123,9 +129,9 @@ module _ (p : PlainDay) (t : List ℕ) (S : Stands p t) where
       check-table _ (Day.openElsewhere y c r) 6 _ _ (number n r e3 .same-elsewhere c (known y (cellsOf t) (bytes-are p t S .follow) c e2)) λ e6.
       check-table _ (Day.busyByOther y c r) 7 _ _ (number n r e3 .same-busyByOther c) λ e7.
       check-table _ (Day.stale y c r) 8 _ _ (number n r e3 .out e4 .same-stale c (known y (cellsOf t) (bytes-are p t S .follow) c e2)) λ e8.
-      let value = same-value p t S n r e3 e4 c bib in
+      let standing = same-standing p t S n r e3 e4 c bib in
       let accepts = accept-event y c r false e2 (meant-given y n r e3) e4 e6 e7 e8 refl in
-      by-step (Steps.Event c r false) accepts refl _ _ value _ (ap (queryBytes (low t) c) (meant-same y n r e3)))
+      by-query (Steps.Event c r false) accepts refl _ _ standing _ (ap (queryBytes (low t) c) (meant-same y n r e3)))
 
   pub yield-same : (c : ℕ) → Same OnTable (called p (Paper.Yield c)) (yieldOut t c)
   unfolding called yieldOut stepBytes after
@@ -172,11 +178,12 @@ module _ (p : PlainDay) (t : List ℕ) (S : Stands p t) where
       by-check p t S (OnSheet s) s (S, refl) _ (Day.busy y r) 7 _ _ (number n r e3 .same-busy) λ e7.
       let same = same-order p t S n r e3 e4 in
       by-check p t S (OnSheet s) s (S, refl) _ (ltb (length s) (12 * length (view (y .diagram) (y .terminal r)))) 12 _ _ (ap (λ z. ltb (length s) (12 * length z)) same) λ e12.
-      record { code = refl; value = ap length same; total = refl; lent = (S, same-sheet p t S n r e3 e4 s) })
+      record { code = refl; state = refl; value = ap length same; total = refl; lent = (S, same-sheet p t S n r e3 e4 s) })
 
   -- a fill's end: the same numbers, and the day stays
   pub record SameLevel (o : Outcome) (f : Level) : Type 0 where
     pub code : f .code ≡ o .answer .code
+    pub state : Neither ≡ o .answer .state
     pub own : f .own ≡ o .answer .value
     pub total : f .total ≡ o .answer .total
     pub next : o .next ≡ p
@@ -186,10 +193,10 @@ module _ (p : PlainDay) (t : List ℕ) (S : Stands p t) where
   fill-same n = rw (is-table p t S, numbers-are p t S .same-given n) (pick (meant y n) refl)
     where
       out : (r : ℕ) → meant y n ≡ some r → (b : Bool) → y .joined r ≡ b → SameLevel (Plain.check b 4 p (Plain.told p (length (own (y .diagram) (y .terminal r))) (y .updates))) (cond b (noFill 4) (told (cellsOf t) n))
-      out r e true j = record { code = refl; own = refl; total = refl; next = refl }
-      out r e false j = record { code = refl; own = number n r e .out j .same-gain; total = bytes-are p t S .follow .same-updates; next = refl }
+      out r e true j = record { code = refl; state = refl; own = refl; total = refl; next = refl }
+      out r e false j = record { code = refl; state = refl; own = number n r e .out j .same-gain; total = bytes-are p t S .follow .same-updates; next = refl }
 
       pick : (m : Option ℕ) → meant y n ≡ m
           → SameLevel (Plain.given m p (λ r. Plain.check (y .joined r) 4 p (Plain.told p (length (own (y .diagram) (y .terminal r))) (y .updates)))) (cond (not (isGiven m)) (noFill 3) (cond (Asked.joined (cellsOf t) n) (noFill 4) (told (cellsOf t) n)))
-      pick none e = record { code = refl; own = refl; total = refl; next = refl }
+      pick none e = record { code = refl; state = refl; own = refl; total = refl; next = refl }
       pick (some r) e = rw (number n r e .same-joined) (out r e (y .joined r) refl)

@@ -1,4 +1,4 @@
--- A revision that a number means, on the table and on the day: what it shows, and the value of a bib on it.
+-- A revision that a number means, on the table and on the day: what it shows, and the standing of a bib on it.
 use Prim.Native.Nat.{ℕ, suc, _*_, _<_}
 use mathlib.Core.Bool.{false}
 use mathlib.Core.Path.{_≡_, refl, sym, _∙_, ap}
@@ -6,7 +6,7 @@ use mathlib.Core.Option.{none, some}
 use mathlib.Core.List.{List, [], _∷_, _++_, append-nil}
 use lib.ListN.{length, drop}
 use Rattle.lists.specs.Lists.{_∈_}
-use Rattle.updates.specs.Applied.{applied, freshValue}
+use Rattle.updates.specs.Applied.{applied, freshStanding}
 use Rattle.diagram.specs.Diagram.{event}
 use Rattle.diagram.specs.Day.{meant}
 use Rattle.diagram.specs.Effects.{view, viewStep}
@@ -54,12 +54,12 @@ module _ (p : PlainDay) (t : List ℕ) (S : Stands p t) (n r : ℕ) (m : meant (
   entries-same : (k : ℕ) → k ∈ view (p .day .diagram) (p .day .terminal r) → asEntered (entryAt (high t) k) ≡ p .entries k
   entries-same k i = S .entries-are k (shown-low k i)
 
-  pub same-value : (c bib : ℕ) → Table.valueAt t n bib ≡ pathResult (stepped p (Event c r false)) (length (p .day .diagram)) bib
-  unfolding Table.valueAt after
-  same-value c bib =
+  pub same-standing : (c bib : ℕ) → Table.standingAt t n bib ≡ pathResult (stepped p (Event c r false)) (length (p .day .diagram)) bib
+  unfolding Table.standingAt after
+  same-standing c bib =
       let seen : view (event (p .day .terminal r) c none ∷ p .day .diagram) (length (p .day .diagram)) ≡ view (p .day .diagram) (p .day .terminal r)
       = tabulate-newest viewStep [] (event (p .day .terminal r) c none) (p .day .diagram) ∙ append-nil _ in
-      ap (λ us. applied us freshValue) (ap (Folded.ofBib (entryAt (high t)) bib) same-order ∙ ofBib-is (entryAt (high t)) bib (view (p .day .diagram) (p .day .terminal r)) ∙ ofBib-same _ (p .entries) bib (view (p .day .diagram) (p .day .terminal r)) entries-same ∙ ap (Plain.ofBib (p .entries) bib) (sym seen))
+      ap (λ us. applied us freshStanding) (ap (Folded.ofBib (entryAt (high t)) bib) same-order ∙ ofBib-is (entryAt (high t)) bib (view (p .day .diagram) (p .day .terminal r)) ∙ ofBib-same _ (p .entries) bib (view (p .day .diagram) (p .day .terminal r)) entries-same ∙ ap (Plain.ofBib (p .entries) bib) (sym seen))
 
   lines-same : inBytes (linesOf (p .entries) (view (p .day .diagram) (p .day .terminal r))) ≡ lines (entryAt (high t)) (order (cellsOf t) n)
   lines-same =

@@ -11,20 +11,21 @@ use Rattle.order.proofs.visible.add_some.Tie as tie
 slice-aggregate-sift : tie.Need-slice-aggregate-sift
 slice-aggregate-sift c =
     let at-own-list = c .before .before in
-    let start = at-own-list .before .before .before .before in
+    let start = at-own-list .before .before .before .before .before in
     gathered-length (cells (start .args .d .now)) (start .args .x .0) _ _ _ (at-own-list .own-list .ensures .0) (at-own-list .own-list .ensures .2)
 
 returns : tie.Need-returns
 returns c =
     let at-sift = c .before .before in
     let at-own-list = at-sift .before .before .before .before in
-    let start = at-own-list .before .before .before .before in
+    let start = at-own-list .before .before .before .before .before in
     let s = start .args in
     let k = cells (s .d .now) in
     added-as (ap (picks (s .base) (marked k (s .r .0))) (gathered k (s .x .0) _ _ _ (at-own-list .own-list .ensures .0) (at-own-list .own-list .ensures .2))) (at-sift .sift .ensures)
 
 pub add-some-spec : {M : Type 1} → statement M
 add-some-spec = tie.close (tie.spec
+    (λ c κs. search needs)
     (λ c. search needs)
     (λ c κs. search needs)
     (λ c. search needs)

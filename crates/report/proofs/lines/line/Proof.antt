@@ -1,4 +1,4 @@
--- `report::lines::line` meets its contract: three numbers, one behind the other. Assumes nothing.
+-- `report::lines::line` meets its contract: two numbers and the value, one behind the other. Assumes nothing.
 use Prim.Native.Nat.{ℕ, _+_, _≤_}
 use mathlib.Core.List.{List, _++_}
 use mathlib.Core.Path.{_≡_}
@@ -8,7 +8,7 @@ use borrow.Author.Needs.{needs}
 use Rattle.text.specs.Placed.{placed}
 use Rattle.text.specs.Decimal.{ended}
 use Rattle.text.proofs.Places.{first-fits, next-fits, both-put}
-use Rattle.report.specs.Printed.{blank, lineFeed, line}
+use Rattle.report.specs.Printed.{blank, line, valueText}
 use Rattle.report.proofs.Bounds.{line-length}
 use Rattle.report.proofs.lines.line.Statement.{statement}
 use Rattle.report.proofs.lines.line.Tie as tie
@@ -22,10 +22,10 @@ module _ (s : tie.Start) where
   second = ended (s .args .code) blank
 
   abbrev third : List ℕ
-  third = ended (s .args .value) lineFeed
+  third = valueText (s .args .state) (s .args .value)
 
-  short : length (line (s .args .index) (s .args .code) (s .args .value)) ≤ 20
-  short = line-length (s .args .index) (s .args .code) (s .args .value) (s .pre .0) (omega arith) (omega arith)
+  short : length (line (s .args .index) (s .args .code) (s .args .state) (s .args .value)) ≤ 20
+  short = line-length (s .args .index) (s .args .code) (s .args .state) (s .args .value) (s .pre .0) (omega arith) (omega arith)
 
   all-fit : s .args .at + length (first ++ second ++ third) ≤ length (s .args .out .now)
   unfolding line
@@ -50,8 +50,8 @@ two-put c =
     let s = p .before .before .before in
     both-put (s .args .out .now) (first s) (second s) (s .args .at) (two-fit s) (p .number .last .0) (p .number .result) (p .number .ensures) (c .number2 .result) (c .number2 .last .0) (c .number2 .ensures)
 
-number-requires-3 : tie.Need-number-requires-3
-number-requires-3 c κs =
+value-text-requires : tie.Need-value-text-requires
+value-text-requires c κs =
     let q = c .before .before .before in
     let s = q .before .before .before .before .before .before .before in
     next-fits (s .args .out .now) (first s ++ second s) (third s) (s .args .at) (all-fit s) (q .number2 .last .0) (q .number2 .result) (two-put q)
@@ -62,8 +62,8 @@ returns c =
     let r = c .before .before in
     let q = r .before .before .before .before in
     let s = q .before .before .before .before .before .before .before in
-    let all = both-put (s .args .out .now) (first s ++ second s) (third s) (s .args .at) (all-fit s) (q .number2 .last .0) (q .number2 .result) (two-put q) (r .number3 .result) (r .number3 .last .0) (r .number3 .ensures) in
+    let all = both-put (s .args .out .now) (first s ++ second s) (third s) (s .args .at) (all-fit s) (q .number2 .last .0) (q .number2 .result) (two-put q) (r .value-text .result) (r .value-text .last .0) (r .value-text .ensures) in
     (omega (arith, all .0, short s), all .0, all .1)
 
 pub line-spec : {M : Type 1} → statement M
-line-spec = tie.close (tie.spec number-requires number-requires-2 number-requires-3 (λ c. search needs) returns)
+line-spec = tie.close (tie.spec number-requires number-requires-2 value-text-requires (λ c. search needs) returns)

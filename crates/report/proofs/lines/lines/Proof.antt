@@ -9,7 +9,7 @@ use Rattle.text.specs.Placed.{placed}
 use Rattle.text.proofs.Places.{placed-none, both-put}
 use Rattle.report.proofs.Grown.{table-none, lines-none, table-more, lines-more}
 use Rattle.records.specs.Record.{stepAt}
-use Rattle.table.specs.Answers.{left}
+use Rattle.table.specs.Answers.{leftRead}
 use Rattle.report.specs.Run.{outAt, stepOut, tableAfter}
 use Rattle.report.specs.Printed.{line as lineOf, lines as linesOf}
 use Rattle.report.proofs.lines.lines.Statement.{statement}
@@ -47,8 +47,8 @@ loop-again c =
     let f = s .args .f .now in
     let p = c .before .before .before .before .before .before in
     let turn = c .before .before .before .before .before .before .before .before .before .loop-test .taken in
-    let made : left (p .run .result) (p .run .last .0) ≡ outAt t f (l .i) = p .run .ensures ∙ ap (stepOut (l .t)) (p .before .step-at .ensures) ∙ ap (λ b. stepOut b (stepAt f (l .i))) (l .inv .4) in
-    let line = lineOf (l .i) (p .run .result .code) (p .run .result .value) in
+    let made : leftRead (p .run .result) (p .run .last .0) ≡ outAt t f (l .i) = p .run .ensures ∙ ap (stepOut (l .t)) (p .before .step-at .ensures) ∙ ap (λ b. stepOut b (stepAt f (l .i))) (l .inv .4) in
+    let line = lineOf (l .i) (p .run .result .code) (p .run .result .state) (p .run .result .value) in
     let grown = lines-more t f (l .i) (p .run .result) (p .run .last .0) made in
     let fits : s .args .at + length (linesOf t f (l .i) ++ line) ≤ length (s .args .out .now) = omega (arith, length-append (linesOf t f (l .i)) line, q .line .ensures .0, q .line .ensures .1, l .inv .1, l .inv .5, s .pre .1, turn) in
     let both = both-put (s .args .out .now) (linesOf t f (l .i)) line (s .args .at) fits (l .out) (l .end) (l .inv .5, l .inv .6) (q .line .result) (q .line .last .0) (q .line .ensures .1, q .line .ensures .2) in

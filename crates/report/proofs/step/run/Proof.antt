@@ -1,39 +1,52 @@
 -- `report::step::run` meets its contract: each step is its call. Assumes nothing.
+use Prim.Native.Nat.{ℕ}
+use mathlib.Core.List.{List}
+use mathlib.Core.Path.{_≡_, _∙_, ap}
 use borrow.Author.Needs.{needs}
+use Rattle.updates.specs.declared.standing.State.the-variants.{Neither}
+use Rattle.table.specs.declared.answer.Answer.{Answer}
+use Rattle.table.specs.declared.query.Reading.{Reading}
+use Rattle.table.specs.Answers.{Out, left, leftRead}
 use Rattle.report.proofs.step.run.Statement.{statement}
 use Rattle.report.proofs.step.run.Tie as tie
 
+-- a call without a state
+plain : (r : Reading) (a : Answer) (lent : List ℕ) (o : Out) → r ≡ record { code = a .code; state = Neither; value = a .value } → left a lent ≡ o → leftRead r lent ≡ o
+plain r a lent o e f = ap (λ x. leftRead x lent) e ∙ f
+
 returns : tie.Need-returns
-returns c = let q = c .before .before in rw (q .before .before .before .step .given .1) (q .update .ensures)
+returns c = let q = c .before .before .before in rw (q .before .before .before .step .given .1) (plain _ _ _ _ (c .without-state .ensures) (q .update .ensures))
 
 returns-2 : tie.Need-returns-2
 returns-2 c = let q = c .before .before in rw (q .before .before .before .step2 .given .1) (q .query .ensures)
 
 returns-3 : tie.Need-returns-3
-returns-3 c = let q = c .before .before in rw (q .before .before .before .step3 .given .1) (q .yields .ensures)
+returns-3 c = let q = c .before .before .before in rw (q .before .before .before .step3 .given .1) (plain _ _ _ _ (c .without-state2 .ensures) (q .yields .ensures))
 
 returns-4 : tie.Need-returns-4
-returns-4 c = let q = c .before .before in rw (q .before .before .before .step4 .given .1) (q .fork .ensures)
+returns-4 c = let q = c .before .before .before in rw (q .before .before .before .step4 .given .1) (plain _ _ _ _ (c .without-state3 .ensures) (q .fork .ensures))
 
 returns-5 : tie.Need-returns-5
-returns-5 c = let q = c .before .before in rw (q .before .before .before .step5 .given .1) (q .join .ensures)
+returns-5 c = let q = c .before .before .before in rw (q .before .before .before .step5 .given .1) (plain _ _ _ _ (c .without-state4 .ensures) (q .join .ensures))
 
 returns-6 : tie.Need-returns-6
 returns-6 c = rw (c .enum-told .given .1)
 
 pub run-spec : {M : Type 1} → statement M
-run-spec =
-    tie.close
-    (tie.spec
+run-spec = tie.close (tie.spec
     (λ c. search needs)
+    (λ c κs. search needs)
     (λ c κs. search needs)
     (λ c. search needs)
     (λ c κs. search needs)
     (λ c. search needs)
     (λ c κs. search needs)
-    (λ c. search needs)
     (λ c κs. search needs)
     (λ c. search needs)
+    (λ c κs. search needs)
+    (λ c κs. search needs)
+    (λ c. search needs)
+    (λ c κs. search needs)
     (λ c κs. search needs)
     (λ c. search needs)
     (λ c. search needs)

@@ -4,12 +4,12 @@ use borrow.Author.Needs.{needs}
 use Rattle.table.specs.Halves.{low}
 use Rattle.table.specs.Found.{onEvent}
 use Rattle.table.proofs.Halves.{low-length}
-use Rattle.table.proofs.Calls.{query-by, same-taken}
+use Rattle.table.proofs.Calls.{query-by, same-answered}
 use Rattle.table.proofs.query.query_sound.Statement.{statement}
 use Rattle.table.proofs.query.query_sound.Tie as tie
 
-value-at-requires : tie.Need-value-at-requires
-value-at-requires c κs =
+standing-at-requires : tie.Need-standing-at-requires
+standing-at-requires c κs =
     let at-found = c .before .before in
     let at-check = at-found .before .before in
     let start = at-check .before .before .before .before in
@@ -35,13 +35,13 @@ returns c =
 returns-2 : tie.Need-returns-2
 unfolding low onEvent
 returns-2 c =
-    let at-ask = c .before .before in
+    let at-ask = c .before .before .before in
     let at-value = at-ask .before .before in
     let at-found = at-value .before .before .before in
     let at-check = at-found .before .before in
     let start = at-check .before .before .before .before in
     let s = start .args in
-    same-taken _ _ _ _ (at-ask .ask .ensures) (at-value .value-at .ensures)
+    same-answered _ _ _ _ _ (c .tell .ensures) (at-ask .ask .ensures) (at-value .standing-at .ensures)
     ∙ query-by (s .t .now) (start .pre .0) (s .client) (s .revision) (s .bib) _ (sym (at-check .check-query .ensures .0) ∙ at-found .found2 .given .1)
 
 pub query-sound-spec : {M : Type 1} → statement M
@@ -52,8 +52,9 @@ query-sound-spec = tie.close (tie.spec
     (λ c κs. low-length (c .before .before .before .args .t .now) (c .before .before .before .pre .1))
     (λ c. search needs)
     (λ c. search needs)
-    value-at-requires
+    standing-at-requires
     ask-requires
+    (λ c κs. search needs)
     (λ c. search needs)
     returns
     (λ c. search needs)

@@ -1,9 +1,9 @@
--- `updates::value::apply` meets its contract: each arm knows its kind, and what it calls gives that kind's effect.
+-- `updates::standing::apply` meets its contract: each arm knows its kind, and what it calls gives that kind's effect.
 -- Assumes nothing.
 use borrow.Author.Needs.{needs}
 use Rattle.updates.specs.Effect.{effect}
-use Rattle.updates.proofs.value.apply.Statement.{statement}
-use Rattle.updates.proofs.value.apply.Tie as tie
+use Rattle.updates.proofs.standing.apply.Statement.{statement}
+use Rattle.updates.proofs.standing.apply.Tie as tie
 
 returns : tie.Need-returns
 unfolding effect
@@ -11,11 +11,11 @@ returns c = rw (c .enum-told .given .1)
 
 returns-2 : tie.Need-returns-2
 unfolding effect
-returns-2 c = rw (c .before .enum-told2 .given .1) (c .earlier .ensures)
+returns-2 c = rw (c .before .enum-told2 .given .1) (c .earliest .ensures)
 
 returns-3 : tie.Need-returns-3
 unfolding effect
-returns-3 c = rw (c .before .enum-told3 .given .1) (c .wrapping-add-u32 .ensures)
+returns-3 c = rw (c .before .enum-told3 .given .1) (c .penalty .ensures)
 
 returns-4 : tie.Need-returns-4
 unfolding effect

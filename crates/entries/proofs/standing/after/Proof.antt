@@ -1,9 +1,9 @@
--- `entries::value::after` meets its contract: the entry is of the bib, or not. Assumes nothing.
+-- `entries::standing::after` meets its contract: the entry is of the bib, or not. Assumes nothing.
 use borrow.Author.Needs.{needs}
 use borrow.Author.Tests.{eq-eqb, ne-eqb}
 use Rattle.updates.specs.Applied.{applied}
-use Rattle.entries.proofs.value.after.Statement.{statement}
-use Rattle.entries.proofs.value.after.Tie as tie
+use Rattle.entries.proofs.standing.after.Statement.{statement}
+use Rattle.entries.proofs.standing.after.Tie as tie
 
 returns : tie.Need-returns
 unfolding applied

@@ -1,4 +1,4 @@
--- `entries::value::value` meets its contract: the value after the first i numbers, one more at each turn. Assumes nothing.
+-- `entries::standing::standing` meets its contract: the standing after the first i numbers, one more at each turn. Assumes nothing.
 use Prim.Native.Nat.{_-_, _≤_}
 use mathlib.Core.Path.{_≡_, refl, sym, _∙_, ap}
 use native.Mathlib.Omega.{arith}
@@ -6,16 +6,16 @@ use lib.ListN.{take}
 use borrow.Author.Needs.{needs}
 use Rattle.updates.specs.Applied.{applied}
 use Rattle.entries.specs.Entries.{entryAt}
-use Rattle.entries.specs.Folded.{valueOf}
-use Rattle.entries.proofs.Folded.{value-more}
-use Rattle.entries.proofs.value.value.Statement.{statement}
-use Rattle.entries.proofs.value.value.Tie as tie
+use Rattle.entries.specs.Folded.{standingOf}
+use Rattle.entries.proofs.Folded.{standing-more}
+use Rattle.entries.proofs.standing.standing.Statement.{statement}
+use Rattle.entries.proofs.standing.standing.Tie as tie
 
 abbrev Inv-loop : tie.InvT-loop
-Inv-loop t order count bib value₀ i₀ value i = (i ≤ count) × (value ≡ valueOf (entryAt t) bib (take i order))
+Inv-loop t order count bib s₀ i₀ s i = (i ≤ count) × (s ≡ standingOf (entryAt t) bib (take i order))
 
 abbrev μ-loop : tie.MeasureT-loop
-μ-loop t order count bib value₀ i₀ value i = count - i
+μ-loop t order count bib s₀ i₀ s i = count - i
 
 loop-holds : tie.Need-loop-holds Inv-loop μ-loop
 unfolding applied
@@ -25,16 +25,16 @@ loop-again : tie.Need-loop-again Inv-loop μ-loop
 loop-again c =
     let s = c .before .before .before .before .before .before .args in
     let l = c .before .before .before .loop in
-    (omega arith, c .after .ensures ∙ ap (applied _) (l .inv .1) ∙ sym (value-more (entryAt (s .t .now)) (s .bib) (s .order .now) (l .i) (omega arith)))
+    (omega arith, c .after .ensures ∙ ap (applied _) (l .inv .1) ∙ sym (standing-more (entryAt (s .t .now)) (s .bib) (s .order .now) (l .i) (omega arith)))
 
 returns : tie.Need-returns Inv-loop μ-loop
 returns c =
     let s = c .before .before .before .before .args in
     let e : c .before .loop .i ≡ s .count = omega arith in
-    c .before .loop .inv .1 ∙ ap (λ k. valueOf (entryAt (s .t .now)) (s .bib) (take k (s .order .now))) e
+    c .before .loop .inv .1 ∙ ap (λ k. standingOf (entryAt (s .t .now)) (s .bib) (take k (s .order .now))) e
 
-pub value-spec : {M : Type 1} → statement M
-value-spec =
+pub standing-spec : {M : Type 1} → statement M
+standing-spec =
     tie.close
     (tie.spec
     Inv-loop
