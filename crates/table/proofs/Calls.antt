@@ -32,7 +32,7 @@ use Rattle.table.specs.declared.pair.PairCheck.the-variants as pair
 use Rattle.table.specs.declared.update.UpdateCheck.{UpdateCheck}
 use Rattle.table.specs.declared.update.UpdateCheck.the-variants as update
 
-unfoldable pub onUpdate : UpdateCheck → (ℕ → Out) → (Client → Revision → Kind → Out) → Out
+unfoldable onUpdate : UpdateCheck → (ℕ → Out) → (Client → Revision → Kind → Out) → Out
 onUpdate (update.Refused k) end rest = end k
 onUpdate (update.Allowed x y kind) end rest = rest x y kind
 
@@ -139,15 +139,33 @@ module _ (t : List ℕ) (h : isTable t ≡ true) where
   unfolding yieldOut
   yield-by c z e = rw (← e) (simp (client-is, h))
 
-  pub query-by : (c n b : ℕ) (z : EventCheck) → queryCheck (low t) c n b ≡ z
+  query-by : (c n b : ℕ) (z : EventCheck) → queryCheck (low t) c n b ≡ z
       → onEvent z (refused t) (λ x y. taken (queryBytes (low t) (x .0) (y .0) ++ high t) (valueAt t (y .0) b)) ≡ queryOut t c n b
   unfolding queryCheck placeCheck turnCheck queryOut onEvent
   query-by c n b z e = rw (← e) (simp (client-is, given-is, event-cond, h))
 
-  pub update-by : (c n k b v : ℕ) (z : UpdateCheck) → updateCheck (low t) c n k b ≡ z
+  module _ (c n b : ℕ) (f : EventCheck) (e : f ≡ queryCheck (low t) c n b) where
+    pub query-refused : (k : ℕ) → f ≡ event.Refused k → refused t k ≡ queryOut t c n b
+    unfolding onEvent
+    query-refused k g = query-by c n b (event.Refused k) (sym e ∙ g)
+
+    pub query-taken : (x : Client) (y : Revision) → f ≡ event.Allowed x y → {q : List ℕ} {v : ℕ} → q ≡ queryBytes (low t) (x .0) (y .0) ++ high t → v ≡ valueAt t (y .0) b → taken q v ≡ queryOut t c n b
+    unfolding onEvent
+    query-taken x y g eq ev = rw (eq, ev) (query-by c n b (event.Allowed x y) (sym e ∙ g))
+
+  update-by : (c n k b v : ℕ) (z : UpdateCheck) → updateCheck (low t) c n k b ≡ z
       → onUpdate z (refused t) (λ x y kind. taken (updateBytes (low t) (x .0) (y .0) ++ wrote (high t) (cellsOf t .updates) (entry kind (x .0) b v)) (cellsOf t .updates)) ≡ updateOut t c n k b v
   unfolding updateCheck placeCheck turnCheck updateOut onEvent onUpdate
   update-by c n k b v z e = rw (← e) (simp (client-is, given-is, kind-is, event-cond, update-cond, h))
+
+  module _ (c n k b v : ℕ) (f : UpdateCheck) (e : f ≡ updateCheck (low t) c n k b) where
+    pub update-refused : (code : ℕ) → f ≡ update.Refused code → refused t code ≡ updateOut t c n k b v
+    unfolding onUpdate
+    update-refused code g = update-by c n k b v (update.Refused code) (sym e ∙ g)
+
+    pub update-taken : (x : Client) (y : Revision) (kind : Kind) → f ≡ update.Allowed x y kind → {q : List ℕ} {u : ℕ} → q ≡ updateBytes (low t) (x .0) (y .0) ++ wrote (high t) (cellsOf t .updates) (entry kind (x .0) b v) → u ≡ cellsOf t .updates → taken q u ≡ updateOut t c n k b v
+    unfolding onUpdate
+    update-taken x y kind g eq eu = rw (eq, eu) (update-by c n k b v (update.Allowed x y kind) (sym e ∙ g))
 
   pub fork-by : (n : ℕ) (z : PairCheck) → forkCheck (low t) n ≡ z
       → onPair z (refused t) (λ p c. taken (forkBytes (low t) (p .0) (c .0) ++ high t) (c .0)) ≡ forkOut t n
