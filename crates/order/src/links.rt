@@ -31,6 +31,32 @@ fn rest(n: usize) -> usize
     n - 64
 }
 
+// What is left of a walk: so many updates, which end at `at`.
+pub struct Walk {
+    pub at: usize,
+    pub left: usize,
+}
+
+// Of the n updates that end at `at` the last ones, in their places: one, and those before it as long as their numbers follow one
+// another and more than m are left. So the next number is known before the link that says so is read.
+fn run(d: &[u8], at: usize, n: usize, m: usize, out: &mut [u16]) -> Walk
+    requires { ⌜ (length (now d) ≡ bytes) × (at < updates) × (m < n) × (n ≤ length (now out)) ⌝ }
+    ensures { λ w. ⌜ (w .at < updates) × (m ≤ w .left) × (w .left < n) × (chain (cells (now (d .entry)) .link) (w .at) (w .left) ++ drop (w .left) (now (out .exit)) ≡ chain (cells (now (d .entry)) .link) at n ++ drop n (now (out .entry))) ⌝ }
+{
+    let mut u = at;
+    let mut i = n;
+    while m < i {
+        let v = read::link(d, u);
+        i -= 1;
+        out[i] = u as u16;
+        if v + 1 != u {
+            return Walk { at: v, left: i };
+        }
+        u -= 1;
+    }
+    Walk { at: u, left: i }
+}
+
 // Of the n updates that end at `at` all but the first m, in their places; the last of those m.
 fn gather_some(d: &[u8], at: usize, n: usize, m: usize, out: &mut [u16]) -> usize
     requires { ⌜ (length (now d) ≡ bytes) × (at < updates) × (m ≤ n) × (n ≤ length (now out)) ⌝ }
@@ -39,9 +65,9 @@ fn gather_some(d: &[u8], at: usize, n: usize, m: usize, out: &mut [u16]) -> usiz
     let mut u = at;
     let mut i = n;
     while m < i {
-        i -= 1;
-        out[i] = u as u16;
-        u = read::link(d, u);
+        let w = run(d, u, i, m, out);
+        u = w.at;
+        i = w.left;
     }
     u
 }

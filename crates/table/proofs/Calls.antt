@@ -36,7 +36,7 @@ use Rattle.table.specs.declared.pair.PairCheck.the-variants as pair
 use Rattle.table.specs.declared.update.UpdateCheck.{UpdateCheck}
 use Rattle.table.specs.declared.update.UpdateCheck.the-variants as update
 
-unfoldable pub onUpdate : UpdateCheck → (ℕ → Out) → (Client → Revision → Kind → Out) → Out
+unfoldable onUpdate : UpdateCheck → (ℕ → Out) → (Client → Revision → Kind → Out) → Out
 onUpdate (update.Refused k) end rest = end k
 onUpdate (update.Allowed x y kind) end rest = rest x y kind
 
@@ -147,15 +147,34 @@ module _ (t : List ℕ) (h : isTable t ≡ true) where
   unfolding yieldOut
   yield-by c z e = rw (← e) (simp (client-is, h))
 
-  pub query-by : (c n b : ℕ) (z : EventCheck) → queryCheck (low t) c n b ≡ z
+  query-by : (c n b : ℕ) (z : EventCheck) → queryCheck (low t) c n b ≡ z
       → onEvent z (refused t) (λ x y. answered (queryBytes (low t) (x .0) (y .0) ++ high t) (standingAt t (y .0) b)) ≡ queryOut t c n b
   unfolding queryCheck placeCheck turnCheck queryOut onEvent
   query-by c n b z e = rw (← e) (simp (client-is, given-is, event-cond, h))
 
-  pub update-by : (c n k b v : ℕ) (z : UpdateCheck) → updateCheck (low t) c n k b ≡ z
+  module _ (c n b : ℕ) (f : EventCheck) (e : f ≡ queryCheck (low t) c n b) where
+    pub query-refused : (k : ℕ) → f ≡ event.Refused k → refused t k ≡ queryOut t c n b
+    unfolding onEvent
+    query-refused k g = query-by c n b (event.Refused k) (sym e ∙ g)
+
+    pub query-answered : (x : Client) (y : Revision) → f ≡ event.Allowed x y → {a : Reading} {q : List ℕ} {s : Standing} → a ≡ record { code = 0; state = stateOf s; value = valueIn s } → q ≡ queryBytes (low t) (x .0) (y .0) ++ high t
+        → s ≡ standingAt t (y .0) b → leftRead a q ≡ queryOut t c n b
+    unfolding onEvent
+    query-answered x y g ea eq es = rw (ea, eq, es) (query-by c n b (event.Allowed x y) (sym e ∙ g))
+
+  update-by : (c n k b v : ℕ) (z : UpdateCheck) → updateCheck (low t) c n k b ≡ z
       → onUpdate z (refused t) (λ x y kind. taken (updateBytes (low t) (x .0) (y .0) ++ wrote (high t) (cellsOf t .updates) (entry kind (x .0) b v)) (cellsOf t .updates)) ≡ updateOut t c n k b v
   unfolding updateCheck placeCheck turnCheck updateOut onEvent onUpdate
   update-by c n k b v z e = rw (← e) (simp (client-is, given-is, kind-is, event-cond, update-cond, h))
+
+  module _ (c n k b v : ℕ) (f : UpdateCheck) (e : f ≡ updateCheck (low t) c n k b) where
+    pub update-refused : (code : ℕ) → f ≡ update.Refused code → refused t code ≡ updateOut t c n k b v
+    unfolding onUpdate
+    update-refused code g = update-by c n k b v (update.Refused code) (sym e ∙ g)
+
+    pub update-taken : (x : Client) (y : Revision) (kind : Kind) → f ≡ update.Allowed x y kind → {q : List ℕ} {u : ℕ} → q ≡ updateBytes (low t) (x .0) (y .0) ++ wrote (high t) (cellsOf t .updates) (entry kind (x .0) b v) → u ≡ cellsOf t .updates → taken q u ≡ updateOut t c n k b v
+    unfolding onUpdate
+    update-taken x y kind g eq eu = rw (eq, eu) (update-by c n k b v (update.Allowed x y kind) (sym e ∙ g))
 
   pub fork-by : (n : ℕ) (z : PairCheck) → forkCheck (low t) n ≡ z
       → onPair z (refused t) (λ p c. taken (forkBytes (low t) (p .0) (c .0) ++ high t) (c .0)) ≡ forkOut t n
@@ -192,9 +211,6 @@ module _ (d : List ℕ) (n : ℕ) where
 pub fill-of : (t : List ℕ) (n : ℕ) → isTable t ≡ true → fillIn (cells (low t)) n ≡ fillOut t n
 unfolding fillOut
 fill-of t n h = rw h
-
-pub same-answered : (a : Reading) (l b : List ℕ) (s z : Standing) → a ≡ record { code = 0; state = stateOf s; value = valueIn s } → l ≡ b → s ≡ z → leftRead a l ≡ answered b z
-same-answered a l b s z e f g = rw (e, f, g)
 
 pub same-taken : (a b : List ℕ) (v w : ℕ) → a ≡ b → v ≡ w → taken a v ≡ taken b w
 same-taken a b v w e f = rw (e, f)

@@ -1,6 +1,6 @@
 -- The end of a list: too short a sheet, or the lines of what was listed.
 use Prim.Native.Nat.{ℕ, _*_, _≤_}
-use mathlib.Core.Bool.{true, false, cond}
+use mathlib.Core.Bool.{true, false}
 use mathlib.Core.Path.{_≡_, sym, _∙_, ap}
 use mathlib.Core.List.{List}
 use native.Mathlib.Omega.{arith}
@@ -13,12 +13,11 @@ use Rattle.entries.specs.Sizes as Upper
 use Rattle.entries.specs.Entries.{entryAt}
 use Rattle.listing.specs.Lines.{sheet}
 use Rattle.table.specs.Halves.{bytes, high, cellsOf}
-use Rattle.table.specs.Answers.{refused, taken}
+use Rattle.table.specs.Answers.{Out, check, refused, taken}
 use Rattle.table.specs.Calls.{shownOut}
 use Rattle.table.specs.Checks.{sheetCheck}
 use Rattle.table.specs.declared.list.SheetCheck.the-variants.{Fits, Short}
 use Rattle.table.proofs.Halves.{high-whole}
-use Rattle.table.proofs.Calls.{same-taken}
 
 different : Short ≡ Fits → ⊥
 different e = let z : _≡_ {A = ℕ} 0 1 = cc in omega arith
@@ -35,15 +34,16 @@ is-long m n e = cases (ltb m (12 * n)) (λ q. absurd (different (sym (rw q) ∙ 
 pub has-room : (m n : ℕ) → sheetCheck m n ≡ Fits → 12 * n ≤ m
 has-room m n e = ltb-false m (12 * n) (is-long m n e)
 
-module _ (t s : List ℕ) (r n : ℕ) (en : n ≡ length (order (cellsOf t) r)) where
-  pub listed-short : sheetCheck (length s) n ≡ Short → refused s 12 ≡ shownOut t r s
-  unfolding shownOut
-  listed-short e = sym (ap (λ b. cond b (refused s 12) (taken (sheet (entryAt (high t)) (order (cellsOf t) r) s) (length (order (cellsOf t) r)))) (ap (λ k. ltb (length s) (12 * k)) (sym en) ∙ is-short (length s) n e))
+-- too short a sheet, and one with room
+pub put-short : (s : List ℕ) (n : ℕ) (rest : Out) → sheetCheck (length s) n ≡ Short → refused s 12 ≡ check (ltb (length s) (12 * n)) 12 s rest
+put-short s n rest e = rw (is-short (length s) n e)
 
-  pub listed-done : (l q : List ℕ) → length t ≡ bytes → l ≡ order (cellsOf t) r → sheetCheck (length s) n ≡ Fits → q ≡ sheet (entryAt (take Upper.bytes (high t))) l s → taken q n ≡ shownOut t r s
-  unfolding shownOut
-  listed-done l q h el e eq =
-      let lines : q ≡ sheet (entryAt (high t)) (order (cellsOf t) r) s =
-      eq ∙ ap (λ (u : List ℕ). sheet (entryAt u) l s) (high-whole t h) ∙ ap (λ (u : List ℕ). sheet (entryAt (high t)) u s) el in
-      same-taken q _ n _ lines en
-      ∙ sym (ap (λ b. cond b (refused s 12) (taken (sheet (entryAt (high t)) (order (cellsOf t) r) s) (length (order (cellsOf t) r)))) (ap (λ k. ltb (length s) (12 * k)) (sym en) ∙ is-long (length s) n e))
+pub put-done : (t s l q : List ℕ) (n : ℕ) → length t ≡ bytes → sheetCheck (length s) n ≡ Fits → q ≡ sheet (entryAt (take Upper.bytes (high t))) l s
+    → taken q n ≡ check (ltb (length s) (12 * n)) 12 s (taken (sheet (entryAt (high t)) l s) n)
+put-done t s l q n h e eq = rw (is-long (length s) n e) (ap (λ (x : List ℕ). taken x n) (eq ∙ ap (λ (u : List ℕ). sheet (entryAt u) l s) (high-whole t h)))
+
+-- the lines are of what is visible
+pub shown : (t s l : List ℕ) (r n : ℕ) (o : Out) → n ≡ length (order (cellsOf t) r) → l ≡ order (cellsOf t) r
+    → o ≡ check (ltb (length s) (12 * n)) 12 s (taken (sheet (entryAt (high t)) l s) n) → o ≡ shownOut t r s
+unfolding shownOut
+shown t s l r n o en el e = e ∙ rw (en, el)

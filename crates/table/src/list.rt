@@ -1,12 +1,15 @@
 // The call list: the updates visible at a revision, in listed order, into a lent sheet. The table is only read.
 ghost use mathlib.Core.Bool.{true};
 ghost use mathlib.Core.Path.{_≡_};
-ghost use Prim.Native.Nat.{_<_, _≤_};
-ghost use lib.ListN.{length};
+ghost use Prim.Native.Nat.{_*_, _<_, _≤_};
+ghost use lib.Dec.{ltb};
+ghost use lib.ListN.{length, take};
 ghost use Rattle.cells.specs.Sizes.{revisions, updates};
 ghost use Rattle.cells.specs.Range.{inRange};
-ghost use Rattle.table.specs.Halves.{bytes, isTable, low};
-ghost use Rattle.table.specs.Answers.{left};
+ghost use Rattle.entries.specs.Entries.{entryAt};
+ghost use Rattle.listing.specs.Lines as Lines;
+ghost use Rattle.table.specs.Halves.{bytes, high, isTable, low};
+ghost use Rattle.table.specs.Answers.{check, left, taken};
 ghost use Rattle.table.specs.Calls.{listOut, shownOut};
 ghost use Rattle.table.specs.Checks.{sheetCheck};
 use crate::answer::Answer;
@@ -35,6 +38,21 @@ fn check_sheet(sheet: &[u8], n: usize) -> SheetCheck
     }
 }
 
+// The lines of the first n numbers of `order`, if the sheet has room for them.
+fn put(t: &[u8], order: &[u16], n: usize, sheet: &mut [u8]) -> Answer
+    requires { ⌜ (length (now t) ≡ bytes) × (n ≤ updates) × (n ≤ length (now order)) ⌝ }
+    ensures { λ a. ⌜ left a (now (sheet .exit)) ≡ check (ltb (length (now (sheet .entry))) (12 * n)) 12 (now (sheet .entry)) (taken (Lines.sheet (entryAt (high (now (t .entry)))) (take n (now (order .entry))) (now (sheet .entry))) n) ⌝ }
+{
+    let SheetCheck::Fits = check_sheet(sheet, n) else {
+        return Answer { code: 12, value: 0 };
+    };
+    listing::lines::lines(&t[40960..65536], order, n, sheet);
+    Answer {
+        code: 0,
+        value: n as u32,
+    }
+}
+
 // What is visible at r, if the sheet has room for it.
 fn show(t: &[u8], r: Revision, sheet: &mut [u8]) -> Answer
     requires { ⌜ (length (now t) ≡ bytes) × (inRange (low (now t)) ≡ true) × (r .0 < revisions) ⌝ }
@@ -42,14 +60,7 @@ fn show(t: &[u8], r: Revision, sheet: &mut [u8]) -> Answer
 {
     let mut out = order::links::room();
     let n = visible(t, r, &mut out);
-    let SheetCheck::Fits = check_sheet(sheet, n) else {
-        return Answer { code: 12, value: 0 };
-    };
-    listing::lines::lines(&t[40960..65536], &out, n, sheet);
-    Answer {
-        code: 0,
-        value: n as u32,
-    }
+    put(t, &out, n, sheet)
 }
 
 // The call on bytes that are a table.

@@ -1,14 +1,14 @@
--- `order::links::gather_some` meets its contract: at each turn what is left to do makes the whole with what is done. Assumes nothing.
+-- `order::links::gather_some` meets its contract: after each run what is left to do makes the whole with what is done. Assumes
+-- nothing.
 use Prim.Native.Nat.{_<_, _-_, _≤_}
 use mathlib.Core.Path.{_≡_, _∙_, refl}
 use mathlib.Core.List.{_++_}
 use native.Mathlib.Omega.{arith}
-use lib.ListN.{drop, length, length-set}
+use lib.ListN.{drop, length}
 use borrow.Author.Needs.{needs}
 use Rattle.cells.specs.Sizes.{updates}
 use Rattle.cells.specs.Cells.{chain}
 use Rattle.cells.specs.Decode.{cells}
-use Rattle.order.proofs.Laws.{gather-more}
 use Rattle.order.proofs.links.gather_some.Statement.{statement}
 use Rattle.order.proofs.links.gather_some.Tie as tie
 
@@ -21,26 +21,22 @@ abbrev μ-loop : tie.MeasureT-loop
 loop-holds : tie.Need-loop-holds Inv-loop μ-loop
 loop-holds c = (search needs, omega arith, search needs, refl, refl)
 
-slice-write-out : tie.Need-slice-write-out Inv-loop μ-loop
-slice-write-out c =
-    let l = c .before .loop in
-    let h = c .before .before .before .before .pre in
-    let e = l .inv .3 in
-    omega arith
+run-requires : tie.Need-run-requires Inv-loop μ-loop
+run-requires c κs =
+    let at-loop = c .before .before in
+    let h = at-loop .before .before .before .pre in
+    let e = at-loop .loop .inv .3 in
+    (h .0, at-loop .loop .inv .2, omega arith, omega arith)
 
-link-requires : tie.Need-link-requires Inv-loop μ-loop
-link-requires c κs = (c .before .before .before .before .pre .0, c .before .loop .inv .2)
+loop-less : tie.Need-loop-less Inv-loop μ-loop
+loop-less c = let r = c .before .before .run .ensures in omega arith
 
 loop-again : tie.Need-loop-again Inv-loop μ-loop
 loop-again c =
-    let at-loop = c .before .before in
-    let l = at-loop .loop in
-    let h = at-loop .before .before .before .pre in
-    let e = l .inv .3 in
-    (omega arith, omega arith, c .link .ensures .1, simp length-set e, rw (c .link .ensures .0) (gather-more _ (l .u) (l .i) (l .out) (λ z. omega arith) (omega arith) ∙ l .inv .4))
-
-same-length : tie.Need-same-length Inv-loop μ-loop
-same-length c = c .before .loop .inv .3
+    let at-run = c .before .before in
+    let l = at-run .before .before .before .loop in
+    let r = at-run .run .ensures in
+    (r .1, omega arith, r .0, at-run .run .kept .1 .1 .1 .1 .0 ∙ l .inv .3, r .3 ∙ l .inv .4)
 
 returns : tie.Need-returns Inv-loop μ-loop
 returns c =
@@ -53,12 +49,8 @@ gather-some-spec = tie.close (tie.spec
     Inv-loop
     μ-loop
     loop-holds
-    (λ c. search needs)
-    (λ c. search needs)
-    (λ c. search needs)
-    slice-write-out
-    link-requires
-    (λ c. search needs)
+    run-requires
+    loop-less
     loop-again
-    same-length
+    (λ c. c .before .loop .inv .3)
     returns)

@@ -1,10 +1,8 @@
 -- `table::query::query_sound` meets its contract: the checks, then the work. Assumes nothing.
-use mathlib.Core.Path.{sym, _∙_}
 use borrow.Author.Needs.{needs}
 use Rattle.table.specs.Halves.{low}
-use Rattle.table.specs.Found.{onEvent}
 use Rattle.table.proofs.Halves.{low-length}
-use Rattle.table.proofs.Calls.{query-by, same-answered}
+use Rattle.table.proofs.Calls.{query-refused, query-answered}
 use Rattle.table.proofs.query.query_sound.Statement.{statement}
 use Rattle.table.proofs.query.query_sound.Tie as tie
 
@@ -25,15 +23,15 @@ ask-requires c κs =
     (start .pre .1, i .0, i .1)
 
 returns : tie.Need-returns
-unfolding low onEvent
+unfolding low
 returns c =
     let at-check = c .before .before .before in
     let start = at-check .before .before .before .before in
     let s = start .args in
-    query-by (s .t .now) (start .pre .0) (s .client) (s .revision) (s .bib) _ (sym (at-check .check-query .ensures .0) ∙ c .before .found .given .1)
+    query-refused (s .t .now) (start .pre .0) (s .client) (s .revision) (s .bib) (at-check .check-query .result) (at-check .check-query .ensures .0) (c .before .found .given .0 .0) (c .before .found .given .1)
 
 returns-2 : tie.Need-returns-2
-unfolding low onEvent
+unfolding low
 returns-2 c =
     let at-ask = c .before .before .before in
     let at-value = at-ask .before .before in
@@ -41,8 +39,7 @@ returns-2 c =
     let at-check = at-found .before .before in
     let start = at-check .before .before .before .before in
     let s = start .args in
-    same-answered _ _ _ _ _ (c .tell .ensures) (at-ask .ask .ensures) (at-value .standing-at .ensures)
-    ∙ query-by (s .t .now) (start .pre .0) (s .client) (s .revision) (s .bib) _ (sym (at-check .check-query .ensures .0) ∙ at-found .found2 .given .1)
+    query-answered (s .t .now) (start .pre .0) (s .client) (s .revision) (s .bib) (at-check .check-query .result) (at-check .check-query .ensures .0) (at-found .found2 .given .0 .0) (at-found .found2 .given .0 .1 .0) (at-found .found2 .given .1) (c .tell .ensures) (at-ask .ask .ensures) (at-value .standing-at .ensures)
 
 pub query-sound-spec : {M : Type 1} → statement M
 query-sound-spec = tie.close (tie.spec

@@ -1,9 +1,8 @@
 -- `table::update::update_sound` meets its contract: the checks, then the work. Assumes nothing.
-use mathlib.Core.Path.{sym, _∙_}
 use borrow.Author.Needs.{needs}
 use Rattle.table.specs.Halves.{low}
 use Rattle.table.proofs.Halves.{low-length}
-use Rattle.table.proofs.Calls.{onUpdate, update-by, same-taken}
+use Rattle.table.proofs.Calls.{update-refused, update-taken}
 use Rattle.table.proofs.update.update_sound.Statement.{statement}
 use Rattle.table.proofs.update.update_sound.Tie as tie
 
@@ -17,23 +16,23 @@ put-requires c κs =
     (start .pre .1, start .pre .2, i .0, i .1, i .2, i .3)
 
 returns : tie.Need-returns
-unfolding low onUpdate
+unfolding low
 returns c =
     let at-check = c .before .before .before in
     let start = at-check .before .before .before .before in
     let s = start .args in
-    update-by (s .t .now) (start .pre .0) (s .client) (s .revision) (s .kind) (s .bib) (s .v) _ (sym (at-check .check-update .ensures .0) ∙ c .before .found .given .1)
+    update-refused (s .t .now) (start .pre .0) (s .client) (s .revision) (s .kind) (s .bib) (s .v) (at-check .check-update .result) (at-check .check-update .ensures .0) (c .before .found .given .0 .0) (c .before .found .given .1)
 
 returns-2 : tie.Need-returns-2
-unfolding low onUpdate
+unfolding low
 returns-2 c =
     let at-put = c .before .before in
     let at-found = at-put .before .before .before in
     let at-check = at-found .before .before in
     let start = at-check .before .before .before .before in
     let s = start .args in
-    same-taken _ _ _ _ (at-put .put .ensures .1) (at-put .put .ensures .0)
-    ∙ update-by (s .t .now) (start .pre .0) (s .client) (s .revision) (s .kind) (s .bib) (s .v) _ (sym (at-check .check-update .ensures .0) ∙ at-found .found2 .given .1)
+    let g = at-found .found2 .given in
+    update-taken (s .t .now) (start .pre .0) (s .client) (s .revision) (s .kind) (s .bib) (s .v) (at-check .check-update .result) (at-check .check-update .ensures .0) (g .0 .0) (g .0 .1 .0) (g .0 .1 .1 .0) (g .1) (at-put .put .ensures .1) (at-put .put .ensures .0)
 
 pub update-sound-spec : {M : Type 1} → statement M
 update-sound-spec = tie.close (tie.spec
