@@ -69,7 +69,7 @@ fn a_late_box_does_not_lift_a_strike() -> Result<(), Refusal> {
     Ok(())
 }
 
-/// The wrapper takes no state with a refusal: it would not return.
+/// "a refused one neither": the wrapper panics at any other state in a refusal.
 #[test]
 fn a_refused_query_of_a_struck_bib_answers_neither() -> Result<(), Refusal> {
     let mut table = fresh();
