@@ -13,7 +13,7 @@ pub fn update(t: &mut [u8], client: u8, revision: u8, kind: u8, bib: u16, v: u32
 }
 
 pub fn query(t: &mut [u8], client: u8, revision: u8, bib: u16) {
-    say::answer(b"query", table::query::query(t, client, revision, bib));
+    say::reading(b"query", table::query::query(t, client, revision, bib));
 }
 
 pub fn yields(t: &mut [u8], client: u8) {

@@ -1,6 +1,7 @@
 // Lines on standard output.
 use libc::STDOUT_FILENO;
 use table::answer::Answer;
+use table::query::Reading;
 
 fn number(n: u32) {
     io::write_all(STDOUT_FILENO, b" ");
@@ -24,11 +25,19 @@ pub fn count(name: &[u8], n: u32) {
 }
 
 // A call's name, code and value.
-pub fn answer(name: &[u8], a: Answer) {
+fn told(name: &[u8], code: u8, value: u32) {
     io::write_all(STDOUT_FILENO, name);
-    number(a.code as u32);
-    number(a.value);
+    number(code as u32);
+    number(value);
     io::write_all(STDOUT_FILENO, b"\n");
+}
+
+pub fn answer(name: &[u8], a: Answer) {
+    told(name, a.code, a.value);
+}
+
+pub fn reading(name: &[u8], a: Reading) {
+    told(name, a.code, a.value);
 }
 
 // The bytes of a sheet.

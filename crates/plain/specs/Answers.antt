@@ -10,7 +10,7 @@ use Rattle.updates.specs.declared.kind.Kind.{Kind}
 use Rattle.updates.specs.declared.kind.KindCheck.{KindCheck}
 use Rattle.updates.specs.declared.kind.KindCheck.the-variants.{Known, Unknown}
 use Rattle.updates.specs.declared.standing.Standing.{Standing}
-use Rattle.updates.specs.declared.standing.State.the-variants.{Neither}
+use Rattle.updates.specs.declared.standing.State.the-variants as state
 use Rattle.updates.specs.Kinds.{kindCheck}
 use Rattle.updates.specs.Effect.{stateOf, valueIn}
 use Rattle.diagram.specs.Effects.{own, view}
@@ -27,10 +27,10 @@ pub record Outcome : Type 0 where
 
 -- "a refused one changes nothing" and "A refusal gives value 0"
 abbrev pub refused : PlainDay → ℕ → Outcome
-refused p code = record { next = p; answer = record { code = code; state = Neither; value = 0; total = 0; lines = [] } }
+refused p code = record { next = p; answer = record { code = code; state = state.Neither; value = 0; total = 0; lines = [] } }
 
 abbrev pub taken : PlainDay → ℕ → Outcome
-taken p value = record { next = p; answer = record { code = 0; state = Neither; value = value; total = 0; lines = [] } }
+taken p value = record { next = p; answer = record { code = 0; state = state.Neither; value = value; total = 0; lines = [] } }
 
 -- a query: "the state .. with the value, 0 if struck"
 abbrev pub answered : PlainDay → Standing → Outcome
@@ -38,11 +38,11 @@ answered p s = record { next = p; answer = record { code = 0; state = stateOf s;
 
 -- "List: nothing" happens to the day; the numbers of the updates are shown, each with what it was
 abbrev pub shown : PlainDay → List ℕ → Outcome
-shown p numbers = record { next = p; answer = record { code = 0; state = Neither; value = length numbers; total = 0; lines = linesOf (p .entries) numbers } }
+shown p numbers = record { next = p; answer = record { code = 0; state = state.Neither; value = length numbers; total = 0; lines = linesOf (p .entries) numbers } }
 
 -- a fill is no event: the day stays
 abbrev pub told : PlainDay → ℕ → ℕ → Outcome
-told p own total = record { next = p; answer = record { code = 0; state = Neither; value = own; total = total; lines = [] } }
+told p own total = record { next = p; answer = record { code = 0; state = state.Neither; value = own; total = total; lines = [] } }
 
 -- a check that applies ends the call
 abbrev pub check : Bool → ℕ → PlainDay → Outcome → Outcome

@@ -27,7 +27,7 @@ step-same p t S (Query c n bib) = query-same p t S c n bib
 step-same p t S (Yield c) = yield-same p t S c
 step-same p t S (Fork n) = fork-same p t S n
 step-same p t S (Join n m) = join-same p t S n m
-step-same p t S Strange = record { code = refl; value = refl; total = refl; lent = S }
+step-same p t S Strange = record { code = refl; state = refl; value = refl; total = refl; lent = S }
 
 stands : (f : List ℕ) (i : ℕ) → Stands (paperAfter f i) (tableAfter freshTable f i)
 unfolding paperAfter tableAfter freshTable
@@ -39,7 +39,7 @@ unfolding lines paperLines
 lines-same f zero = refl
 lines-same f (suc i) =
     let h = step-same (paperAfter f i) (tableAfter freshTable f i) (stands f i) (stepAt f i) in
-    rw (h .code, h .value, lines-same f i)
+    rw (h .code, h .state, h .value, lines-same f i)
 
 same-text : (c : FileCheck) (f : List ℕ) → printedAs c f ≡ paperAs c f
 unfolding day

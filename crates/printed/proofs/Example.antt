@@ -3,7 +3,7 @@ use Prim.Native.Nat.{ℕ, zero, suc}
 use mathlib.Core.Path.{_≡_, refl, _∙_}
 use mathlib.Core.List.{List, [], _∷_, _++_}
 use Rattle.updates.specs.Kinds.{kindCheck}
-use Rattle.updates.specs.Effect.{earliest, effect}
+use Rattle.updates.specs.Effect.{earliest, effect, stateOf, valueIn}
 use Rattle.updates.specs.Applied.{applied}
 use Rattle.diagram.specs.Sizes.{revisionLimit, clientLimit, updateLimit}
 use Rattle.diagram.specs.Diagram.{leads}
@@ -18,7 +18,7 @@ use Rattle.records.specs.File.{fileCheck}
 use Rattle.records.specs.Record.{stepAt, stepOf}
 use Rattle.records.specs.declared.step.Step.{Step}
 use Rattle.records.specs.declared.step.Step.the-variants.{Update, Query, Yield, Fork, Join}
-use Rattle.report.specs.Printed.{line, printed}
+use Rattle.report.specs.Printed.{line, printed, valueText}
 use Rattle.printed.specs.Paper.{paperAfter, paperLines, paper}
 use Rattle.printed.specs.Example.{crossing, given}
 use Rattle.printed.proofs.Agree.{printed-is-paper}
@@ -36,7 +36,7 @@ unfolding crossing number stepAt stepOf
 as-named = refl
 
 on-paper : paper crossing ≡ given
-unfolding crossing given paper paperLines paperAfter fileCheck number stepAt stepOf line decimal places called after leads tabulate meant nextNumber unknownClient openElsewhere busyByOther busy stale logFull noneLeft notJoinable revisionLimit clientLimit updateLimit kindCheck effect earliest applied
+unfolding crossing given paper paperLines paperAfter fileCheck number stepAt stepOf line valueText decimal places called after leads tabulate meant nextNumber unknownClient openElsewhere busyByOther busy stale logFull noneLeft notJoinable revisionLimit clientLimit updateLimit kindCheck effect earliest stateOf valueIn applied
 on-paper = refl
 
 pub example-printed : printed crossing ≡ given
