@@ -8,8 +8,9 @@
  * answered: what is proved of the calls has no precondition besides.
  *
  * Each call hands back its answer in one number: silttongs_code is 0 if the call was taken, else
- * says why it was refused; silttongs_value is the value named below, 0 in a refusal. A refusal
- * changes no byte. The checks run in ascending order of their codes.
+ * says why it was refused; silttongs_value is the value named below, 0 in a refusal. A query's has
+ * the bib's state besides, silttongs_state. A refusal changes no byte. The checks run in ascending
+ * order of their codes.
  *
  * Nothing is allocated. A call needs up to 48 KiB of stack.
  *
@@ -50,12 +51,19 @@ enum {
     SILTTONGS_SHEET_SHORT = 12    /* the listing needs more bytes */
 };
 
-/* The kinds of update. */
+/* The kinds of update, and what each does to a bib. */
 enum {
-    SILTTONGS_TIME = 1,     /* the value becomes v */
-    SILTTONGS_EARLIEST = 2, /* the smaller of value and v, of those that are not 0 */
-    SILTTONGS_PENALTY = 3,  /* v is added, modulo 2 to the 32nd */
-    SILTTONGS_STRIKE = 4    /* the value becomes 0 */
+    SILTTONGS_TIME = 1,     /* the value becomes v; lifts a strike, with v = 0 too */
+    SILTTONGS_EARLIEST = 2, /* the smaller of value and v, of those not 0; leaves a struck bib so */
+    SILTTONGS_PENALTY = 3,  /* v is added, modulo 2 to the 32nd; leaves a struck bib so */
+    SILTTONGS_STRIKE = 4    /* the bib is struck; v is not looked at */
+};
+
+/* The states of a bib, as a query tells them. */
+enum {
+    SILTTONGS_NEITHER = 0, /* not struck, and its value is 0; also in a refusal */
+    SILTTONGS_TIMED = 1,   /* not struck, and its value is not 0 */
+    SILTTONGS_STRUCK = 2   /* struck; the query's value is 0 */
 };
 
 /* The code of an answer. */
@@ -64,12 +72,15 @@ static inline uint8_t silttongs_code(uint64_t answer) { return (uint8_t)(answer 
 /* The value of an answer. */
 static inline uint32_t silttongs_value(uint64_t answer) { return (uint32_t)answer; }
 
+/* The state of a query's answer; SILTTONGS_NEITHER for all other calls. */
+static inline uint8_t silttongs_state(uint64_t answer) { return (uint8_t)(answer >> 40); }
+
 /* The two numbers of a fill's answer: the box's own updates, and those of the whole table. */
 static inline uint16_t silttongs_own(uint64_t answer) { return (uint16_t)answer; }
 static inline uint16_t silttongs_total(uint64_t answer) { return (uint16_t)(answer >> 16); }
 
-/* Starts a new day, whatever the bytes were: box 0 alone, 0 for every bib. Code 1, for the length
- * only. Value: 0. */
+/* Starts a new day, whatever the bytes were: box 0 alone, every bib 0 and not struck. Code 1, for
+ * the length only. Value: 0. */
 uint64_t silttongs_fresh(uint8_t *table, size_t length);
 
 /* Enters an update of a bib on a box, in the tablet's transaction there, which it opens if need
@@ -78,8 +89,9 @@ uint64_t silttongs_update(uint8_t *table, size_t length, uint8_t tablet, uint8_t
                           uint16_t bib, uint32_t v);
 
 /* Looks up a bib on a box, in the tablet's transaction there, which it opens if need be. It writes
- * to the table: a query is an event. Codes 1 to 8 (of 5, the bib only). Value: the bib's value in
- * thousandths of a second, 0 for no time. */
+ * to the table: a query is an event. Codes 1 to 8 (of 5, the bib only). State: whether the bib is
+ * struck, timed or neither, as the updates visible on the box leave it. Value: its value in
+ * thousandths of a second; 0 if it is struck or has no time. */
 uint64_t silttongs_query(uint8_t *table, size_t length, uint8_t tablet, uint8_t box, uint16_t bib);
 
 /* Closes the tablet's transaction, if it has one. Codes 1, 2. Value: 0. */

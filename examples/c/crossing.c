@@ -1,4 +1,5 @@
-/* The example day of examples/crossing.txt, called from C. From the repository's folder:
+/* The example day of examples/crossing.txt and a strike behind it, called from C. From the
+ * repository's folder:
  *
  *     rt staticlib exports
  *     cc -Iinclude examples/c/crossing.c target/staticlib/libexports.a -o target/crossing
@@ -16,6 +17,12 @@ static uint8_t sheet[SILTTONGS_SHEET];
 static void show(const char *step, uint64_t answer) {
     printf("%-26s code %2u  value %" PRIu32 "\n", step, (unsigned)silttongs_code(answer),
            silttongs_value(answer));
+}
+
+static void show_query(const char *step, uint64_t answer) {
+    static const char *const states[] = {"neither", "timed", "struck"};
+    printf("%-26s code %2u  value %" PRIu32 "  %s\n", step, (unsigned)silttongs_code(answer),
+           silttongs_value(answer), states[silttongs_state(answer)]);
 }
 
 static void show_fill(const char *step, uint64_t answer) {
@@ -37,7 +44,7 @@ static void show_entry(const uint8_t *e) {
 
 int main(void) {
     size_t n = sizeof table;
-    show("query before fresh", silttongs_query(table, n, 0, 0, 7));
+    show_query("query before fresh", silttongs_query(table, n, 0, 0, 7));
     show("fresh", silttongs_fresh(table, n));
     show("update 0/0 Time 61000", silttongs_update(table, n, 0, 0, SILTTONGS_TIME, 7, 61000));
     show("yield 0", silttongs_yield(table, n, 0));
@@ -47,7 +54,7 @@ int main(void) {
     show("yield 1", silttongs_yield(table, n, 1));
     show("update 0/0 Time 60000", silttongs_update(table, n, 0, 0, SILTTONGS_TIME, 7, 60000));
     show("yield 0", silttongs_yield(table, n, 0));
-    show("query 0/1", silttongs_query(table, n, 0, 1, 7));
+    show_query("query 0/1", silttongs_query(table, n, 0, 1, 7));
     show_fill("fill box 0", silttongs_fill(table, n, 0));
     show_fill("fill box 1", silttongs_fill(table, n, 1));
     show("join 0 with 1", silttongs_join(table, n, 0, 1));
@@ -58,7 +65,16 @@ int main(void) {
     show("list box 0", listed);
     for (uint32_t i = 0; i < silttongs_value(listed); i++) show_entry(sheet + SILTTONGS_ENTRY * i);
 
-    show("query 1/0", silttongs_query(table, n, 1, 0, 7));
+    show_query("query 1/0", silttongs_query(table, n, 1, 0, 7));
     show("update 0/1 Strike", silttongs_update(table, n, 0, 1, SILTTONGS_STRIKE, 7, 0));
+
+    /* Struck on the main box, the bib stays so until a Time. */
+    show("update 1/0 Strike", silttongs_update(table, n, 1, 0, SILTTONGS_STRIKE, 7, 0));
+    show("update 1/0 Earliest 59000",
+         silttongs_update(table, n, 1, 0, SILTTONGS_EARLIEST, 7, 59000));
+    show_query("query 1/0", silttongs_query(table, n, 1, 0, 7));
+    show_query("query 0/0", silttongs_query(table, n, 0, 0, 7));
+    show("update 1/0 Time 62000", silttongs_update(table, n, 1, 0, SILTTONGS_TIME, 7, 62000));
+    show_query("query 1/0", silttongs_query(table, n, 1, 0, 7));
     return 0;
 }

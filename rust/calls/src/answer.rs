@@ -2,12 +2,26 @@
 
 use crate::Code;
 
-/// The code, the value, the second number of a fill, and the lines that an accepted list writes.
+/// How a bib stands: 02, U2. It is struck "or, if not, timed exactly if its value isn't 0".
+#[derive(Clone, Copy, Debug, PartialEq, Eq, PartialOrd, Ord)]
+pub enum State {
+    /// Not struck, and its value is 0.
+    Neither,
+    /// Not struck, and its value is not 0.
+    Timed,
+    /// Struck; its value is told as 0.
+    Struck,
+}
+
+/// The code, the state that a query finds, the value, the second number of a fill, and the lines
+/// that an accepted list writes.
 #[derive(Clone, Debug, PartialEq, Eq)]
 pub struct Answer {
     /// Why the call was refused, or that it was accepted.
     pub code: Code,
-    /// 0 in a refusal; of a fill, the revision's own updates.
+    /// How the bib stands; neither but for an accepted query.
+    pub state: State,
+    /// 0 in a refusal; of a query, 0 if the bib is struck; of a fill, the revision's own updates.
     pub value: u32,
     /// The updates taken by the whole table; 0 but for an accepted fill.
     pub total: u32,
@@ -54,24 +68,31 @@ impl Line {
 }
 
 impl Answer {
-    /// A refusal: both numbers 0, nothing written.
+    /// A refusal: state neither, both numbers 0, nothing written.
     pub fn refused(code: Code) -> Self {
-        Answer { code, value: 0, total: 0, lines: Vec::new() }
+        Answer { code, state: State::Neither, value: 0, total: 0, lines: Vec::new() }
     }
 
     /// Accepted, with a value.
     pub fn accepted(value: u32) -> Self {
-        Answer { code: Code::Accepted, value, total: 0, lines: Vec::new() }
+        let code = Code::Accepted;
+        Answer { code, state: State::Neither, value, total: 0, lines: Vec::new() }
+    }
+
+    /// An accepted query: how the bib stands, and its value.
+    pub fn found(state: State, value: u32) -> Self {
+        Answer { state, ..Answer::accepted(value) }
     }
 
     /// An accepted list: its value is the count of its lines.
     pub fn listed(lines: Vec<Line>) -> Self {
-        Answer { code: Code::Accepted, value: lines.len() as u32, total: 0, lines }
+        let count = lines.len() as u32;
+        Answer { lines, ..Answer::accepted(count) }
     }
 
     /// An accepted fill: the revision's own updates, and those of the whole table.
     pub fn filled(own: u32, total: u32) -> Self {
-        Answer { code: Code::Accepted, value: own, total, lines: Vec::new() }
+        Answer { total, ..Answer::accepted(own) }
     }
 }
 

@@ -11,7 +11,7 @@ pub enum Call {
         client: u8,
         /// 01: box.
         revision: u8,
-        /// 1 Time, 2 Earliest, 3 Penalty, 4 Strike.
+        /// 1 Time, 2 Earliest, 3 Penalty, 4 Strike: see [`KINDS`].
         kind: u8,
         /// The bib that is entered.
         bib: u16,
@@ -59,7 +59,12 @@ pub enum Call {
     },
 }
 
-/// The kinds of update by name, kind 1 first.
+/// The kinds of update by name, kind 1 first. What each makes of a bib, by 01 and 02's U2:
+///
+/// - Time: the value becomes v, and the bib is no longer struck.
+/// - Earliest: the smaller of value and v among those that aren't 0; a struck bib stays struck.
+/// - Penalty: v is added modulo 4,294,967,296; a struck bib stays struck.
+/// - Strike: the bib is struck; v isn't looked at.
 pub const KINDS: [&str; 4] = ["Time", "Earliest", "Penalty", "Strike"];
 
 /// The kind that is written without its argument where that is 0.

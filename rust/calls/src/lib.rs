@@ -13,6 +13,6 @@ mod answer;
 mod call;
 mod code;
 
-pub use answer::{Answer, Line};
+pub use answer::{Answer, Line, State};
 pub use call::{Call, KINDS, STRIKE};
 pub use code::Code;

@@ -4,7 +4,7 @@ use std::fmt::Write;
 
 use calls::{Answer, Call, Code, KINDS};
 
-use crate::printed::answers;
+use crate::printed::{answers, value};
 use crate::record::Record;
 
 /// Between two vertices, and between two revisions.
@@ -88,7 +88,7 @@ impl Drawing {
                 self.vertex(revision, "event", &what, &format!("bib {bib}, tablet {client}"));
             }
             Call::Query { client, revision, bib } => {
-                let what = format!("query: {}", answer.value);
+                let what = format!("query: {}", value(answer));
                 self.vertex(revision, "event query", &what, &format!("bib {bib}, tablet {client}"));
             }
             Call::Fork { revision } => {

@@ -21,7 +21,8 @@ usage: dayfile pack   [TEXT [FILE]]   text to day file
        dayfile draw   [FILE [SVG]]    the day's diagram as a picture
        dayfile --help                 this text
 
-A missing name or `-` means standard input or standard output.
+A missing name or `-` means standard input or standard output. `show`, `print`
+and `draw` have `struck` for the value of a query that finds its bib struck.
 
 A text has one step a line. A # begins a comment; blank lines are left out.
 

@@ -2,7 +2,7 @@
 
 use std::fmt::Write;
 
-use calls::{Answer, Code};
+use calls::{Answer, Code, State};
 use plain::Day;
 
 use crate::file::read_file;
@@ -18,13 +18,21 @@ pub fn answers(records: &[Record]) -> Vec<Answer> {
     records.iter().map(answer).collect()
 }
 
+/// The value as it is printed: `struck` for that of a query that finds its bib struck.
+pub(crate) fn value(answer: &Answer) -> String {
+    match answer.state {
+        State::Struck => "struck".to_string(),
+        State::Neither | State::Timed => answer.value.to_string(),
+    }
+}
+
 /// `bad file` alone, or `steps n` and a line for each record: index, code, value.
 pub fn printed_day(bytes: &[u8]) -> String {
     let Ok(records) = read_file(bytes) else { return "bad file\n".to_string() };
     let mut text = format!("steps {}\n", records.len());
     for (index, answer) in answers(&records).iter().enumerate() {
         // Writing to a string does not fail.
-        let _ = writeln!(text, "{index} {} {}", answer.code.number(), answer.value);
+        let _ = writeln!(text, "{index} {} {}", answer.code.number(), value(answer));
     }
     text
 }

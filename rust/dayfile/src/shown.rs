@@ -4,7 +4,7 @@ use std::fmt::Write;
 
 use calls::Code;
 
-use crate::printed::answers;
+use crate::printed::{answers, value};
 use crate::record::Record;
 
 /// A table of the steps: index, step, code, value, and for a refusal its name.
@@ -17,7 +17,7 @@ pub fn shown_day(records: &[Record]) -> String {
             Code::Accepted => String::new(),
             refusal => format!("  {}", refusal.name()),
         };
-        let (code, value) = (answer.code.number(), answer.value);
+        let (code, value) = (answer.code.number(), value(&answer));
         // Writing to a string does not fail.
         let _ = writeln!(text, "{index:>5}  {step:width$}  {code:>4}  {value:>10}{name}");
     }

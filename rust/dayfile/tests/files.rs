@@ -25,6 +25,16 @@ fn the_example_of_01_prints_its_lines() {
     assert_eq!(write_text(&read_file(bytes).unwrap()), text);
 }
 
+/// 02, U2: `struck` for the value, as in `10 0 struck`.
+#[test]
+fn the_example_of_01_with_a_strike_prints_struck() {
+    let text = include_str!("../../../examples/crossing.txt");
+    let text = text.replace("Penalty bib 7 5000", "Strike bib 7");
+    let printed = printed_day(&write_file(&read_text(&text).unwrap()).unwrap());
+    assert_eq!(printed.lines().nth(11), Some("10 0 struck"));
+    assert_eq!(printed.matches("struck").count(), 1);
+}
+
 #[test]
 fn a_file_without_steps() {
     assert_eq!(printed_day(&file(0, 8, 8)), "steps 0\n");

@@ -9,8 +9,8 @@ use std::process::{Command, Stdio};
 
 use calls::Call;
 use common::{file, printed_by_literal, random_record};
-use dayfile::{read_file, Record, LONGEST};
-use days::{chain_of_joins, random_day, seeds, Profile, Rng};
+use dayfile::{read_file, read_text, write_file, Record, LONGEST};
+use days::{chain_of_joins, late_days, random_day, seeds, Profile, Rng};
 
 /// What the program prints of a file on standard input.
 fn printed(bytes: &[u8]) -> String {
@@ -34,14 +34,16 @@ fn printed(bytes: &[u8]) -> String {
     String::from_utf8(output.stdout).unwrap()
 }
 
+/// How many lines of what it prints say `struck`.
 #[track_caller]
-fn must_print(bytes: &[u8], what: &str) {
+fn must_print(bytes: &[u8], what: &str) -> usize {
     let (printed, expected) = (printed(bytes), printed_by_literal(bytes));
     if printed != expected {
         let mut lines = printed.lines().zip(expected.lines());
         let differ = lines.find(|(line, other)| line != other);
         panic!("{what}: {} bytes of {}, {differ:?}", printed.len(), expected.len());
     }
+    printed.lines().filter(|line| line.ends_with(" 0 struck")).count()
 }
 
 /// A record of a step, with any bytes in the fields that the step doesn't use.
@@ -92,16 +94,19 @@ fn random_days() {
         (Profile::NESTED, 60),
         (Profile::STALE, 40),
         (Profile::QUERIES, 40),
+        (Profile::STRIKES, 60),
         (Profile::FORKS, 30),
         (Profile::STRANGE, 60),
         (Profile::FULL, 4),
     ];
+    let mut struck = 0;
     for (profile, count) in kinds {
         for seed in seeds(count) {
             let bytes = day_file(&random_day(&profile, seed), &mut Rng::new(seed));
-            must_print(&bytes, &format!("day `{}`, seed {seed}", profile.name));
+            struck += must_print(&bytes, &format!("day `{}`, seed {seed}", profile.name));
         }
     }
+    assert!(struck >= 500, "{struck} lines say `struck`");
     for seed in seeds(20) {
         let bytes = day_file(&chain_of_joins(seed), &mut Rng::new(seed));
         must_print(&bytes, &format!("chain of joins, seed {seed}"));
@@ -110,12 +115,59 @@ fn random_days() {
 
 #[test]
 fn random_records() {
+    let mut struck = 0;
     for seed in seeds(200) {
         let mut rng = Rng::new(seed);
         let records: Vec<Record> = (0..rng.below(200)).map(|_| random_record(&mut rng)).collect();
         let gap = rng.below(40);
-        must_print(&with_gap(&records, gap, &mut rng), &format!("random records, seed {seed}"));
+        let bytes = with_gap(&records, gap, &mut rng);
+        struck += must_print(&bytes, &format!("random records, seed {seed}"));
     }
+    assert!(struck >= 10, "{struck} lines say `struck`");
+}
+
+/// 02, U2: every short day on which a late box brings updates.
+#[test]
+fn days_with_late_updates() {
+    let mut struck = 0;
+    for (number, calls) in late_days().enumerate() {
+        let records: Vec<Record> =
+            calls.into_iter().filter_map(|call| record(call, &mut Rng::new(0))).collect();
+        let bytes = with_gap(&records, 0, &mut Rng::new(0));
+        struck += must_print(&bytes, &format!("late updates, day {number}"));
+    }
+    assert!(struck >= 100, "{struck} lines say `struck`");
+}
+
+/// `struck` stands for the value of a taken query that finds the bib struck, and nowhere else.
+#[test]
+fn struck_is_printed_for_taken_queries_of_struck_bibs_alone() {
+    let text = "\
+        update 0/0 Strike bib 7\n\
+        query 0/0 bib 7\n\
+        update 0/0 Earliest bib 7 60000\n\
+        query 0/0 bib 7\n\
+        update 0/0 Penalty bib 7 5000\n\
+        query 0/0 bib 7\n\
+        query 1/0 bib 7\n\
+        query 0/0 bib 8\n\
+        yield 0\n\
+        fork box 0\n\
+        query 0/1 bib 7\n\
+        update 0/1 Time bib 7 62000\n\
+        query 0/1 bib 7\n\
+        update 0/1 Strike bib 7 9\n\
+        update 0/1 Time bib 7 0\n\
+        query 0/1 bib 7\n\
+        yield 0\n\
+        join 0 with 1\n\
+        query 0/0 bib 7\n";
+    let lines = "steps 19\n0 0 0\n1 0 struck\n2 0 1\n3 0 struck\n4 0 2\n5 0 struck\n6 7 0\n7 0 0\n\
+        8 0 0\n9 0 1\n10 0 struck\n11 0 3\n12 0 62000\n13 0 4\n14 0 5\n15 0 0\n16 0 0\n17 0 3\n\
+        18 0 0\n";
+    let bytes = write_file(&read_text(text).unwrap()).unwrap();
+    assert_eq!(printed(&bytes), lines);
+    assert_eq!(printed_by_literal(&bytes), lines);
 }
 
 /// Files of which count, offset and length are each wrong in some cases; a few are good.

@@ -82,6 +82,41 @@ fn prints_the_day() {
     assert_eq!(printed.lines().nth(11), Some("10 0 65000"));
 }
 
+/// Each kind after a strike, and a refused query of a struck bib.
+const STRUCK: &str = "\
+update 0/0 Strike bib 7
+query 0/0 bib 7
+update 0/0 Earliest bib 7 60000
+query 0/0 bib 7
+update 0/0 Penalty bib 7 5000
+query 0/0 bib 7
+query 1/0 bib 7
+query 0/0 bib 8
+update 0/0 Time bib 7 62000
+query 0/0 bib 7
+update 0/0 Strike bib 7 9
+query 0/0 bib 7
+update 0/0 Time bib 7 0
+query 0/0 bib 7
+";
+
+#[test]
+fn prints_and_shows_struck() {
+    let file = output(&["pack"], STRUCK.as_bytes());
+    let printed = "steps 14\n0 0 0\n1 0 struck\n2 0 1\n3 0 struck\n4 0 2\n5 0 struck\n6 7 0\n\
+        7 0 0\n8 0 3\n9 0 62000\n10 0 4\n11 0 struck\n12 0 5\n13 0 0\n";
+    assert_eq!(String::from_utf8(output(&["print"], &file)).unwrap(), printed);
+
+    let shown = String::from_utf8(output(&["show"], &file)).unwrap();
+    let lines: Vec<&str> = shown.lines().collect();
+    assert_eq!(lines[4], "    3  query 0/0 bib 7                     0      struck");
+    assert_eq!(lines[7], "    6  query 1/0 bib 7                     7           0  in use");
+    assert_eq!(shown.matches("struck").count(), 4);
+
+    let drawn = String::from_utf8(output(&["draw"], &file)).unwrap();
+    assert_eq!(drawn.matches(">query: struck<").count(), 4);
+}
+
 /// The committed picture is what the tool makes.
 #[test]
 fn draws_the_day() {

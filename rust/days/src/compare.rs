@@ -1,6 +1,6 @@
 //! The literal replay against the plain implementation, answer by answer.
 
-use calls::{Answer, Call};
+use calls::{Answer, Call, State};
 
 /// The first call that the two answer differently, in words.
 pub fn disagreement(calls: &[Call]) -> Option<String> {
@@ -53,6 +53,9 @@ impl Both {
 
 fn described(answer: &Answer) -> String {
     let mut text = format!("code {}, value {}", answer.code.number(), answer.value);
+    if answer.state != State::Neither {
+        text += &format!(", state {:?}", answer.state);
+    }
     if answer.total != 0 {
         text += &format!(", total {}", answer.total);
     }

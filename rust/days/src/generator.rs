@@ -151,7 +151,7 @@ impl<'a> Generator<'a> {
     fn update(&mut self) -> Call {
         let client = self.client();
         let revision = self.place(client);
-        let kind = 1 + self.rng.below(4) as u8;
+        let kind = self.rng.pick(self.profile.kinds);
         let any = self.rng.bits() as u32;
         let small = self.rng.below(100_000) as u32;
         let v = self.rng.pick(&[0, 1, small, small, small, any, u32::MAX]);

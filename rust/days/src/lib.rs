@@ -1,6 +1,6 @@
 //! Random days, and the checkers that judge them.
 //!
-//! Days are made from a seed, and a failed check prints it with the shortest day found that still
+//! Days are made from a seed, but for the short ones of [`late_days`], and a failed check prints it with the shortest day found that still
 //! fails. Three checkers use them: the literal replay and the plain implementation agree on every
 //! answer, demand 3's line-up holds by brute force, and the fills of all revisions come to the
 //! updates accepted.
@@ -13,6 +13,7 @@ mod compare;
 mod facts;
 mod fills;
 mod generator;
+mod late;
 mod line_up;
 mod profile;
 mod report;
@@ -25,6 +26,7 @@ pub use compare::{disagreement, disagreement_with_reads};
 pub use facts::{Facts, Step, View};
 pub use fills::{fault_of_fills, told, Told};
 pub use generator::random_day;
+pub use late::late_days;
 pub use line_up::{broken_sentence, SENTENCES};
 pub use profile::{Profile, Weights};
 pub use report::must_pass;

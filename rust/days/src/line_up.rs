@@ -2,7 +2,7 @@
 //! on, checked of a day's facts and one order of its transactions.
 
 use calls::{Call, Code};
-use literal::VertexKind;
+use literal::{Standing, VertexKind};
 
 use crate::facts::Facts;
 
@@ -68,9 +68,10 @@ fn queries_answer_by_the_order(facts: &Facts, order: &[usize]) -> Option<String>
         let seen = facts.seen_in_order(order, step.vertices);
         let updates = seen.iter().map(|&number| facts.updates[number]);
         let of_bib = updates.filter(|update| update.bib == bib);
-        let value = of_bib.fold(0, |value, update| update.applied_to(value));
-        let wrong = value != step.answer.value;
-        wrong.then(|| format!("`{}` gave {}, not {value}", step.call, step.answer.value))
+        let stands = of_bib.fold(Standing::FRESH, |standing, update| update.applied_to(standing));
+        let right = (stands.state(), stands.value());
+        let given = (step.answer.state, step.answer.value);
+        (given != right).then(|| format!("`{}` gave {given:?}, not {right:?}", step.call))
     })
 }
 

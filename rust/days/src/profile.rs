@@ -30,6 +30,8 @@ pub struct Profile {
     pub clients: u8,
     /// Bibs that are entered.
     pub bibs: u16,
+    /// The kinds of update, each as often as it stands here.
+    pub kinds: &'static [u8],
     /// No fork is tried with so many revisions started.
     pub revisions: usize,
     /// What is tried.
@@ -44,6 +46,9 @@ pub struct Profile {
     pub strange: u32,
 }
 
+/// Every kind of update equally often.
+const ALIKE: &[u8] = &[1, 2, 3, 4];
+
 impl Profile {
     /// Short days that brute force can judge, on few revisions and bibs.
     pub const SMALL: Profile = Profile {
@@ -51,6 +56,7 @@ impl Profile {
         calls: 64,
         clients: 3,
         bibs: 2,
+        kinds: ALIKE,
         revisions: 7,
         weights: Weights {
             update: 30,
@@ -73,6 +79,7 @@ impl Profile {
         calls: 200,
         clients: 16,
         bibs: 5,
+        kinds: ALIKE,
         revisions: 65,
         weights: Weights {
             update: 35,
@@ -95,6 +102,7 @@ impl Profile {
         calls: 200,
         clients: 6,
         bibs: 2,
+        kinds: ALIKE,
         revisions: 65,
         weights: Weights { update: 25, query: 8, yields: 20, fork: 20, join: 24, list: 3, fill: 4 },
         newest: 75,
@@ -109,6 +117,7 @@ impl Profile {
         calls: 200,
         clients: 16,
         bibs: 3,
+        kinds: ALIKE,
         revisions: 65,
         weights: Weights {
             update: 35,
@@ -131,11 +140,35 @@ impl Profile {
         calls: 150,
         clients: 5,
         bibs: 2,
+        kinds: ALIKE,
         revisions: 65,
         weights: Weights { update: 8, query: 40, yields: 22, fork: 12, join: 15, list: 3, fill: 4 },
         newest: 30,
         settle: 80,
         roam: 60,
+        strange: 1,
+    };
+
+    /// Strikes of a single bib on revisions that are soon joined, and queries among them.
+    pub const STRIKES: Profile = Profile {
+        name: "strikes",
+        calls: 150,
+        clients: 10,
+        bibs: 1,
+        kinds: &[1, 2, 3, 4, 4, 4],
+        revisions: 10,
+        weights: Weights {
+            update: 26,
+            query: 22,
+            yields: 16,
+            fork: 14,
+            join: 24,
+            list: 1,
+            fill: 1,
+        },
+        newest: 30,
+        settle: 95,
+        roam: 80,
         strange: 1,
     };
 
@@ -145,6 +178,7 @@ impl Profile {
         calls: 400,
         clients: 4,
         bibs: 2,
+        kinds: ALIKE,
         revisions: 65,
         weights: Weights { update: 12, query: 5, yields: 12, fork: 50, join: 18, list: 3, fill: 4 },
         newest: 40,
@@ -159,6 +193,7 @@ impl Profile {
         calls: 150,
         clients: 16,
         bibs: 1_000,
+        kinds: ALIKE,
         revisions: 65,
         weights: Weights {
             update: 30,
@@ -181,6 +216,7 @@ impl Profile {
         calls: 14_000,
         clients: 4,
         bibs: 20,
+        kinds: ALIKE,
         revisions: 40,
         weights: Weights {
             update: 900,

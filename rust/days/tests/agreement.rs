@@ -1,19 +1,21 @@
 //! Random days of all kinds: the literal replay and the plain implementation give the same code,
-//! value, total and listing for every call.
+//! state, value, total and listing for every call.
 
 use std::collections::BTreeMap;
 
-use calls::{Call, Code};
+use calls::{Call, Code, State, KINDS as NAMES};
 use days::{
-    chain_of_joins, disagreement, disagreement_with_reads, must_pass, random_day, seeds, Profile,
+    chain_of_joins, disagreement, disagreement_with_reads, late_days, must_pass, random_day, seeds,
+    Profile,
 };
 
 /// How many days of each kind are replayed.
-const KINDS: [(Profile, u64); 7] = [
+const KINDS: [(Profile, u64); 8] = [
     (Profile::MIXED, 600),
     (Profile::NESTED, 600),
     (Profile::STALE, 400),
     (Profile::QUERIES, 400),
+    (Profile::STRIKES, 400),
     (Profile::FORKS, 200),
     (Profile::STRANGE, 400),
     (Profile::FULL, 12),
@@ -46,6 +48,13 @@ fn chains_of_joins_agree() {
     }
 }
 
+#[test]
+fn days_with_late_updates_agree() {
+    for (number, day) in late_days().enumerate() {
+        must_pass("late updates", number as u64, &day, disagreement_with_reads);
+    }
+}
+
 /// The random days are worth replaying: each call meets each of its codes, many times over.
 #[test]
 fn every_call_meets_each_of_its_codes() {
@@ -75,6 +84,56 @@ fn every_call_meets_each_of_its_codes() {
             let times = met[&(call, code)];
             assert!(times >= 30, "{call} met code {code} only {times} times");
         }
+    }
+}
+
+/// Queries find a bib in each of the three states, and after each kind of update that follows a
+/// strike: 02, U2, "Earliest and Penalty leave it so; only Time lifts it".
+#[test]
+fn queries_find_bibs_in_every_state() {
+    let mut states: BTreeMap<State, usize> = BTreeMap::new();
+    let mut after_strike: BTreeMap<(&str, State), usize> = BTreeMap::new();
+    let mut brought_late = 0;
+    for (profile, count) in KINDS {
+        for seed in 0..count / 2 {
+            let mut day = literal::Day::fresh();
+            for call in random_day(&profile, seed) {
+                let answer = day.call(call);
+                let Call::Query { revision, bib, .. } = call else { continue };
+                if answer.code != Code::Accepted {
+                    continue;
+                }
+                *states.entry(answer.state).or_default() += 1;
+                let mut visible = day.visible(usize::from(revision));
+                visible.retain(|&number| day.updates()[number].bib == bib);
+                let [.., before, last] = visible[..] else { continue };
+                if day.updates()[before].kind == calls::STRIKE {
+                    let name = name_of(day.updates()[last]);
+                    *after_strike.entry((name, answer.state)).or_default() += 1;
+                    brought_late += usize::from(last < before);
+                }
+            }
+        }
+    }
+    let all: usize = states.values().sum();
+    assert_eq!(states.len(), 3, "{states:?}");
+    assert!(states.values().all(|&times| times >= all / 6), "{states:?}");
+    let expected = [
+        ("Earliest", State::Struck),
+        ("Penalty", State::Struck),
+        ("Strike", State::Struck),
+        ("Time", State::Timed),
+        ("Time 0", State::Neither),
+    ];
+    assert!(after_strike.keys().eq(&expected), "{after_strike:?}");
+    assert!(after_strike.values().all(|&times| times >= 50), "{after_strike:?}");
+    assert!(brought_late >= 30, "{brought_late} updates were brought behind a later strike");
+}
+
+fn name_of(update: literal::Update) -> &'static str {
+    match (update.kind, update.v) {
+        (1, 0) => "Time 0",
+        (kind, _) => NAMES[usize::from(kind) - 1],
     }
 }
 

@@ -1,9 +1,9 @@
 //! Demand 3 on small days, by brute force: one order of all transactions, and each sentence of 01.
 
-use calls::{Call, Code};
+use calls::{Call, Code, State};
 use days::{
-    arbitration_order, broken_sentence, chain_of_joins, must_pass, random_day, seeds, Facts,
-    Profile, SENTENCES,
+    arbitration_order, broken_sentence, chain_of_joins, late_days, must_pass, random_day, seeds,
+    Facts, Profile, SENTENCES,
 };
 
 fn line_up(calls: &[Call]) -> Option<String> {
@@ -19,9 +19,17 @@ fn small_days_have_a_line_up() {
 }
 
 #[test]
+fn days_with_late_updates_have_a_line_up() {
+    for (number, day) in late_days().enumerate() {
+        must_pass("late updates", number as u64, &day, line_up);
+    }
+}
+
+#[test]
 fn days_with_many_revisions_have_a_line_up() {
     let few_calls = |profile: Profile| Profile { calls: 90, ..profile };
-    for profile in [Profile::NESTED, Profile::STALE, Profile::QUERIES].map(few_calls) {
+    let kinds = [Profile::NESTED, Profile::STALE, Profile::QUERIES, Profile::STRIKES];
+    for profile in kinds.map(few_calls) {
         for seed in seeds(300) {
             must_pass(profile.name, seed, &random_day(&profile, seed), line_up);
         }
@@ -83,6 +91,9 @@ fn each_sentence_can_fail() {
     spoil("after all others that it sees", &[2, 0, 1, 3], &|_| {});
     spoil("queries answer by the order", &[0, 1, 2, 3], &|_| {});
     spoil("queries answer by the order", &order, &|facts| facts.steps[10].answer.value = 4);
+    for state in [State::Neither, State::Struck] {
+        spoil("queries answer by the order", &order, &|facts| facts.steps[10].answer.state = state);
+    }
     spoil("visible updates stand in listed order", &[0, 1, 2, 3], &|_| {});
     spoil("visible updates are those seen", &order, &|facts| updates(facts, 9, 0).push(1));
     spoil("visible updates are those seen", &order, &|facts| updates(facts, 5, 1).clear());

@@ -15,4 +15,4 @@ mod update;
 
 pub use day::{Day, Revision, Transaction};
 pub use diagram::{Diagram, VertexId, VertexKind};
-pub use update::Update;
+pub use update::{Standing, Update};

@@ -1,4 +1,6 @@
-//! The four kinds of update and their effect on the values: 01, "Updates".
+//! The four kinds of update and their effect on how a bib stands: 01, "Updates", amended by 02, U2.
+
+use calls::State;
 
 /// How many bibs there are: 0 to 999.
 pub(crate) const BIBS: usize = 1_000;
@@ -16,40 +18,82 @@ pub struct Update {
     pub v: u32,
 }
 
+/// How a bib stands: "a bib is struck or, if not, timed exactly if its value isn't 0".
+#[derive(Clone, Copy, Debug, PartialEq, Eq)]
+pub enum Standing {
+    /// Struck; it has no value.
+    Struck,
+    /// Not struck, with this value.
+    At(u32),
+}
+
+impl Standing {
+    /// "A fresh table has 0 for every bib", and none is struck.
+    pub const FRESH: Standing = Standing::At(0);
+
+    /// "struck, timed or neither"
+    pub fn state(self) -> State {
+        match self {
+            Standing::Struck => State::Struck,
+            Standing::At(0) => State::Neither,
+            Standing::At(_) => State::Timed,
+        }
+    }
+
+    /// "the value, 0 if struck"
+    pub fn value(self) -> u32 {
+        match self {
+            Standing::Struck => 0,
+            Standing::At(value) => value,
+        }
+    }
+}
+
 impl Update {
-    /// What becomes of the value of its own bib.
-    pub fn applied_to(&self, value: u32) -> u32 {
-        match self.kind {
+    /// What becomes of its own bib: "Strike makes it struck; Earliest and Penalty leave it so; only
+    /// Time lifts it."
+    pub fn applied_to(&self, before: Standing) -> Standing {
+        match (self.kind, before) {
             // Time: the value becomes v.
-            1 => self.v,
+            (1, _) => Standing::At(self.v),
+            (2 | 3, Standing::Struck) => Standing::Struck,
             // Earliest: the smaller of value and v among those that aren't 0; 0 if both are 0.
-            2 => [value, self.v].into_iter().filter(|&time| time != 0).min().unwrap_or(0),
+            (2, Standing::At(value)) => {
+                let times = [value, self.v].into_iter().filter(|&time| time != 0);
+                Standing::At(times.min().unwrap_or(0))
+            }
             // Penalty: v is added modulo 4,294,967,296, whatever the value was.
-            3 => ((u64::from(value) + u64::from(self.v)) % 4_294_967_296) as u32,
-            // Strike: the value becomes 0; v isn't looked at.
-            4 => 0,
+            (3, Standing::At(value)) => {
+                let sum = u64::from(value) + u64::from(self.v);
+                Standing::At((sum % 4_294_967_296) as u32)
+            }
+            // Strike: v isn't looked at.
+            (4, _) => Standing::Struck,
             _ => unreachable!("an update that was taken has kind 1 to 4"),
         }
     }
 }
 
-/// The value of a bib after updates are applied, in this order, to the fresh values.
-pub(crate) fn value_after(updates: impl Iterator<Item = Update>, bib: u16) -> u32 {
-    let mut values = [0; BIBS];
+/// How a bib stands after updates are applied, in this order, to a fresh table.
+pub(crate) fn standing_after(updates: impl Iterator<Item = Update>, bib: u16) -> Standing {
+    let mut standings = [Standing::FRESH; BIBS];
     for update in updates {
-        let value = &mut values[usize::from(update.bib)];
-        *value = update.applied_to(*value);
+        let standing = &mut standings[usize::from(update.bib)];
+        *standing = update.applied_to(*standing);
     }
-    values[usize::from(bib)]
+    standings[usize::from(bib)]
 }
 
 #[cfg(test)]
 mod tests {
     use super::*;
 
+    fn applied(kind: u8, before: Standing, v: u32) -> Standing {
+        Update { kind, client: 0, bib: 0, v }.applied_to(before)
+    }
+
     #[test]
     fn each_kind_does_what_01_says() {
-        let applied = |kind, value, v| Update { kind, client: 0, bib: 0, v }.applied_to(value);
         let cases = [
             (1, 5, 0, 0),
             (1, 5, 9, 9),
@@ -62,10 +106,31 @@ mod tests {
             (3, 0, 5, 5),
             (3, 1, u32::MAX, 0),
             (3, u32::MAX, u32::MAX, u32::MAX - 1),
-            (4, 7, 9, 0),
         ];
         for (kind, value, v, after) in cases {
-            assert_eq!(applied(kind, value, v), after, "kind {kind}, value {value}, v {v}");
+            let after = Standing::At(after);
+            assert_eq!(applied(kind, Standing::At(value), v), after, "kind {kind}, {value}, {v}");
         }
+    }
+
+    #[test]
+    fn a_struck_bib_stays_struck_until_a_time() {
+        for v in [0, 9, u32::MAX] {
+            for before in [Standing::FRESH, Standing::At(7), Standing::Struck] {
+                assert_eq!(applied(4, before, v), Standing::Struck, "{before:?}, v {v}");
+            }
+            assert_eq!(applied(1, Standing::Struck, v), Standing::At(v));
+            assert_eq!(applied(2, Standing::Struck, v), Standing::Struck, "Earliest {v}");
+            assert_eq!(applied(3, Standing::Struck, v), Standing::Struck, "Penalty {v}");
+        }
+    }
+
+    #[test]
+    fn state_and_value_of_a_standing() {
+        let told = |standing: Standing| (standing.state(), standing.value());
+        assert_eq!(told(Standing::FRESH), (State::Neither, 0));
+        assert_eq!(told(Standing::At(1)), (State::Timed, 1));
+        assert_eq!(told(Standing::At(u32::MAX)), (State::Timed, u32::MAX));
+        assert_eq!(told(Standing::Struck), (State::Struck, 0));
     }
 }

@@ -7,7 +7,7 @@ use crate::numbers::{Bib, Client};
 use crate::order::UPDATES;
 use crate::range::checked;
 use crate::table;
-use crate::update::Kind;
+use crate::update::{Kind, Standing};
 
 /// Bytes of one entry of a listing.
 pub(crate) const LISTED: usize = 12;
@@ -49,8 +49,8 @@ pub fn update(
     Ok(u32::from(t.append(revision, Entry::new(kind, client, bib, v))))
 }
 
-/// A client looks up a bib on a revision; its value.
-pub fn query(t: &mut [u8], client: u8, revision: u8, bib: u16) -> Result<u32, Code> {
+/// A client looks up a bib on a revision; how it stands.
+pub fn query(t: &mut [u8], client: u8, revision: u8, bib: u16) -> Result<Standing, Code> {
     let mut t = checked(t)?;
     let client = Client::checked(client)?;
     let revision = t.check_given(revision)?;
@@ -59,7 +59,7 @@ pub fn query(t: &mut [u8], client: u8, revision: u8, bib: u16) -> Result<u32, Co
     t.check_may_enter(client, revision)?;
 
     t.enter(client, revision);
-    Ok(t.value(revision, bib))
+    Ok(t.standing(revision, bib))
 }
 
 /// A client ends its transaction, if it has one; 0.

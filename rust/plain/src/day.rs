@@ -1,17 +1,18 @@
 //! A day that owns its table.
 
-use calls::{Answer, Call, Code, Line};
+use calls::{Answer, Call, Code, Line, State};
 
 use crate::calls::{fill, fork, fresh, join, list, query, update, yield_, Fill, LISTED};
 use crate::order::UPDATES;
 use crate::parts::BYTES;
+use crate::update::Standing;
 
 /// A table of its own, and the calls as values.
 #[derive(Clone, Debug)]
 pub struct Day(Vec<u8>);
 
 impl Day {
-    /// The main revision alone, every bib 0.
+    /// The main revision alone, every bib 0 and not struck.
     pub fn fresh() -> Self {
         let mut table = vec![0; BYTES];
         let made = fresh(&mut table);
@@ -36,7 +37,9 @@ pub fn call(t: &mut [u8], call: Call) -> Result<Answer, Code> {
         Call::Update { client, revision, kind, bib, v } => {
             update(t, client, revision, kind, bib, v)?
         }
-        Call::Query { client, revision, bib } => query(t, client, revision, bib)?,
+        Call::Query { client, revision, bib } => {
+            return query(t, client, revision, bib).map(found);
+        }
         Call::Yield { client } => yield_(t, client)?,
         Call::Fork { revision } => fork(t, revision)?,
         Call::Join { joiner, joinee } => join(t, joiner, joinee)?,
@@ -47,6 +50,16 @@ pub fn call(t: &mut [u8], call: Call) -> Result<Answer, Code> {
         }
     };
     Ok(Answer::accepted(value))
+}
+
+/// What a query answers of a bib that stands so.
+fn found(Standing { struck, value }: Standing) -> Answer {
+    let state = match (struck, value) {
+        (true, _) => State::Struck,
+        (false, 0) => State::Neither,
+        (false, _) => State::Timed,
+    };
+    Answer::found(state, value)
 }
 
 /// The lines of a listing, read back from the sheet.

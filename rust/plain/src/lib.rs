@@ -22,3 +22,4 @@ mod update;
 pub use self::calls::{fill, fork, fresh, join, list, query, update, yield_, Fill};
 pub use day::{call, Day};
 pub use parts::BYTES;
+pub use update::Standing;

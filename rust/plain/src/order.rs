@@ -4,6 +4,7 @@ use crate::entry::Entry;
 use crate::numbers::{Bib, Revision};
 use crate::parts::ROW;
 use crate::table::Table;
+use crate::update::Standing;
 
 /// The whole log holds 4,096 updates.
 pub(crate) const UPDATES: usize = 4_096;
@@ -58,14 +59,14 @@ impl Table<'_> {
         &numbers[..count]
     }
 
-    /// The value of a bib at a revision.
-    pub(crate) fn value(&self, r: Revision, bib: Bib) -> u32 {
+    /// How a bib stands at a revision.
+    pub(crate) fn standing(&self, r: Revision, bib: Bib) -> Standing {
         let mut numbers = [0; UPDATES];
         let order = self.order(r, &mut numbers);
         order
             .iter()
             .map(|&u| Entry::from_bytes(self.entry(u)))
             .filter(|entry| entry.bib == bib.0)
-            .fold(0, |value, entry| entry.kind.applied(value, entry.v))
+            .fold(Standing::at(0), |standing, entry| entry.kind.applied(standing, entry.v))
     }
 }

@@ -1,6 +1,22 @@
-//! The four kinds of update and their effect on one value.
+//! The four kinds of update and their effect on one bib.
 
 use calls::Code;
+
+/// How a bib stands.
+#[derive(Clone, Copy, Debug, PartialEq, Eq)]
+pub struct Standing {
+    /// Whether it is struck.
+    pub struck: bool,
+    /// Its value, 0 if it is struck.
+    pub value: u32,
+}
+
+impl Standing {
+    /// Of a bib that is not struck.
+    pub(crate) fn at(value: u32) -> Self {
+        Standing { struck: false, value }
+    }
+}
 
 /// A kind of update.
 #[derive(Clone, Copy, Debug, PartialEq, Eq)]
@@ -38,33 +54,58 @@ impl Kind {
         self as u8 - 1
     }
 
-    /// The value after an update of this kind.
-    pub(crate) fn applied(self, value: u32, v: u32) -> u32 {
+    /// How a bib stands after an update of this kind.
+    pub(crate) fn applied(self, bib: Standing, v: u32) -> Standing {
         match self {
-            Kind::Time => v,
-            Kind::Earliest if value == 0 => v,
-            Kind::Earliest if v == 0 => value,
-            Kind::Earliest => value.min(v),
-            Kind::Penalty => value.wrapping_add(v),
-            Kind::Strike => 0,
+            Kind::Time => Standing::at(v),
+            Kind::Earliest | Kind::Penalty if bib.struck => bib,
+            Kind::Earliest => Standing::at(earliest(bib.value, v)),
+            Kind::Penalty => Standing::at(bib.value.wrapping_add(v)),
+            Kind::Strike => Standing { struck: true, value: 0 },
         }
+    }
+}
+
+/// 0 is no time.
+fn earliest(value: u32, v: u32) -> u32 {
+    match (value, v) {
+        (0, time) | (time, 0) => time,
+        _ => value.min(v),
     }
 }
 
 #[cfg(test)]
 mod tests {
     use super::Kind::{Earliest, Penalty, Strike, Time};
+    use super::Standing;
+
+    const STRUCK: Standing = Standing { struck: true, value: 0 };
 
     #[test]
     fn effects() {
-        assert_eq!(Time.applied(5, 0), 0);
-        assert_eq!(Earliest.applied(0, 0), 0);
-        assert_eq!(Earliest.applied(0, 9), 9);
-        assert_eq!(Earliest.applied(9, 0), 9);
-        assert_eq!(Earliest.applied(9, 8), 8);
-        assert_eq!(Earliest.applied(8, 9), 8);
-        assert_eq!(Penalty.applied(1, u32::MAX), 0);
-        assert_eq!(Penalty.applied(0, 5), 5);
-        assert_eq!(Strike.applied(7, 9), 0);
+        let cases = [
+            (Time, 5, 0, 0),
+            (Earliest, 0, 0, 0),
+            (Earliest, 0, 9, 9),
+            (Earliest, 9, 0, 9),
+            (Earliest, 9, 8, 8),
+            (Earliest, 8, 9, 8),
+            (Penalty, 1, u32::MAX, 0),
+            (Penalty, 0, 5, 5),
+        ];
+        for (kind, value, v, after) in cases {
+            let applied = kind.applied(Standing::at(value), v);
+            assert_eq!(applied, Standing::at(after), "{kind:?} {v} on {value}");
+        }
+        assert_eq!(Strike.applied(Standing::at(7), 9), STRUCK);
+    }
+
+    #[test]
+    fn effects_on_a_struck_bib() {
+        for kind in [Earliest, Penalty, Strike] {
+            assert_eq!(kind.applied(STRUCK, 9), STRUCK, "{kind:?}");
+        }
+        assert_eq!(Time.applied(STRUCK, 9), Standing::at(9));
+        assert_eq!(Time.applied(STRUCK, 0), Standing::at(0));
     }
 }

@@ -4,6 +4,7 @@
 
 use crate::fill::Fill;
 use crate::refusal::{answer, Refusal};
+use crate::standing::Standing;
 
 extern "C" {
     fn silttongs_fresh(table: *mut u8, length: usize) -> u64;
@@ -51,9 +52,10 @@ pub(crate) fn update(
     answer(unsafe { silttongs_update(t.as_mut_ptr(), t.len(), client, revision, kind, bib, v) })
 }
 
-pub(crate) fn query(t: &mut [u8], client: u8, revision: u8, bib: u16) -> Result<u32, Refusal> {
+pub(crate) fn query(t: &mut [u8], client: u8, revision: u8, bib: u16) -> Result<Standing, Refusal> {
     // SAFETY: as above.
-    answer(unsafe { silttongs_query(t.as_mut_ptr(), t.len(), client, revision, bib) })
+    let packed = unsafe { silttongs_query(t.as_mut_ptr(), t.len(), client, revision, bib) };
+    Standing::from_packed(packed)
 }
 
 pub(crate) fn yield_(t: &mut [u8], client: u8) -> Result<u32, Refusal> {

@@ -8,7 +8,7 @@
 //! What box 1 has comes behind when it is handed in.
 //!
 //! ```
-//! use silttongs::{Kind, Refusal, Table, BYTES};
+//! use silttongs::{Kind, Refusal, Standing, Table, BYTES};
 //!
 //! let mut table = Table::fresh(vec![0; BYTES])?;
 //! table.update(0, 0, Kind::Time, 7, 61_000)?;
@@ -20,7 +20,7 @@
 //! table.yield_(0)?;
 //! assert_eq!(table.query(0, sent, 7), Err(Refusal::NotCaughtUp));
 //! assert_eq!(table.join(0, sent), Ok(1));
-//! assert_eq!(table.query(1, 0, 7), Ok(65_000));
+//! assert_eq!(table.query(1, 0, 7), Ok(Standing::Timed(65_000)));
 //! # Ok::<(), Refusal>(())
 //! ```
 
@@ -31,9 +31,11 @@ mod entry;
 mod exports;
 mod fill;
 mod refusal;
+mod standing;
 mod table;
 
 pub use entry::{entries, Entry, SHEET};
 pub use fill::Fill;
 pub use refusal::Refusal;
+pub use standing::Standing;
 pub use table::{Kind, Table, BYTES};

@@ -82,7 +82,8 @@ impl fmt::Display for Refusal {
 
 impl core::error::Error for Refusal {}
 
-/// The answer in a packed number: the code in the upper 32 bits, the value in the lower.
+/// The answer in a packed number: the code in the upper 32 bits, the value in the lower. A query's
+/// is [`Standing::from_packed`](crate::Standing).
 pub(crate) fn answer(packed: u64) -> Result<u32, Refusal> {
     match (packed >> 32) as usize {
         0 => Ok(packed as u32),

@@ -3,21 +3,22 @@
 use crate::exports;
 use crate::fill::Fill;
 use crate::refusal::Refusal;
+use crate::standing::Standing;
 
 /// The length of a table in bytes.
 pub const BYTES: usize = 65_536;
 
-/// The kinds of update.
+/// The kinds of update, and what each does to a bib.
 #[derive(Clone, Copy, Debug, PartialEq, Eq, Hash)]
 #[repr(u8)]
 pub enum Kind {
-    /// The value becomes v.
+    /// The value becomes v. It lifts a strike, with v = 0 too.
     Time = 1,
-    /// The smaller of value and v among those that aren't 0.
+    /// The smaller of value and v among those that aren't 0. A struck bib stays struck.
     Earliest = 2,
-    /// v is added modulo 4,294,967,296.
+    /// v is added modulo 4,294,967,296. A struck bib stays struck.
     Penalty = 3,
-    /// The value becomes 0.
+    /// The bib is struck; v isn't looked at.
     Strike = 4,
 }
 
@@ -48,7 +49,7 @@ impl TryFrom<u8> for Kind {
 pub struct Table<B>(B);
 
 impl<B: AsMut<[u8]>> Table<B> {
-    /// A new day, whatever the bytes were: box 0 alone, 0 for every bib.
+    /// A new day, whatever the bytes were: box 0 alone, every bib 0 and not struck.
     ///
     /// ```
     /// use silttongs::{Refusal, Table, BYTES};
@@ -93,23 +94,40 @@ impl<B: AsMut<[u8]>> Table<B> {
         exports::update(self.0.as_mut(), client, revision, kind.into(), bib, v)
     }
 
-    /// The value of a bib on a box, in the tablet's transaction there, which it opens if need be.
-    /// A query is an event: the tablet is tied to what it saw.
+    /// How a bib stands on a box: struck, timed or neither. It is looked up in the tablet's
+    /// transaction there, which is opened if need be. A query is an event: the tablet is tied to
+    /// what it saw.
     ///
     /// ```
-    /// use silttongs::{Kind, Refusal, Table, BYTES};
+    /// use silttongs::{Kind, Refusal, Standing, Table, BYTES};
     ///
     /// let mut table = Table::fresh([0; BYTES])?;
+    /// assert_eq!(table.query(0, 0, 7), Ok(Standing::Neither));
     /// table.update(0, 0, Kind::Time, 7, 61_000)?;
-    /// assert_eq!(table.query(0, 0, 7), Ok(61_000));
+    /// assert_eq!(table.query(0, 0, 7), Ok(Standing::Timed(61_000)));
+    /// assert_eq!(table.query(0, 0, 7)?.value(), 61_000);
     /// assert_eq!(table.query(1, 0, 7), Err(Refusal::InUse));
+    /// # Ok::<(), Refusal>(())
+    /// ```
+    ///
+    /// A struck bib stays struck until a Time:
+    ///
+    /// ```
+    /// # use silttongs::{Kind, Refusal, Standing, Table, BYTES};
+    /// # let mut table = Table::fresh([0; BYTES])?;
+    /// table.update(0, 0, Kind::Strike, 7, 0)?;
+    /// table.update(0, 0, Kind::Earliest, 7, 60_000)?;
+    /// table.update(0, 0, Kind::Penalty, 7, 5_000)?;
+    /// assert_eq!(table.query(0, 0, 7), Ok(Standing::Struck));
+    /// table.update(0, 0, Kind::Time, 7, 62_000)?;
+    /// assert_eq!(table.query(0, 0, 7), Ok(Standing::Timed(62_000)));
     /// # Ok::<(), Refusal>(())
     /// ```
     ///
     /// # Errors
     ///
     /// Codes 1 to 8.
-    pub fn query(&mut self, client: u8, revision: u8, bib: u16) -> Result<u32, Refusal> {
+    pub fn query(&mut self, client: u8, revision: u8, bib: u16) -> Result<Standing, Refusal> {
         exports::query(self.0.as_mut(), client, revision, bib)
     }
 

@@ -7,7 +7,7 @@ mod common;
 
 use std::collections::BTreeMap;
 
-use calls::Call;
+use calls::{Call, State};
 use cells::{cells, is_table, Cell};
 use common::{difference, first_difference, library, plainly, sheet, Given};
 use days::{random_day, seeds, Profile, Rng};
@@ -28,6 +28,11 @@ fn the_cells_with_a_range() {
     let cells = cells();
     assert_eq!(cells.iter().map(|cell| cell.width).sum::<usize>(), 796);
     assert!(is_table(&cells, &fresh()));
+}
+
+/// What a refusal gives: no state, no number, and the sheet as it was.
+fn refused(call: Call, code: u8) -> Given {
+    Given { code, state: State::Neither, value: 0, total: 0, sheet: sheet(call) }
 }
 
 /// Each cell at the ends of its range and one further.
@@ -82,8 +87,7 @@ fn wrong_lengths() {
         t.resize(length, 0);
         let before = t.clone();
         for call in calls {
-            let refused = Given { code: 1, value: 0, total: 0, sheet: sheet(call) };
-            assert_eq!(library(&mut t, call), refused, "{length} bytes, `{call}`");
+            assert_eq!(library(&mut t, call), refused(call, 1), "{length} bytes, `{call}`");
             assert!(t == before, "{length} bytes, `{call}`: changed");
         }
         assert_eq!(Table::fresh(&mut t[..]).err(), Some(Refusal::NoTable), "{length} bytes");
@@ -105,6 +109,7 @@ fn fresh_on_any_content() {
 fn random_calls_on_damaged_buffers() {
     let cells = cells();
     let mut met: BTreeMap<u8, usize> = BTreeMap::new();
+    let mut states: BTreeMap<State, usize> = BTreeMap::new();
     for seed in seeds(BUFFERS) {
         let mut rng = Rng::new(seed);
         let mut t = damaged(&cells, &mut rng);
@@ -114,7 +119,7 @@ fn random_calls_on_damaged_buffers() {
                     .unwrap_or_else(|fault| panic!("seed {seed}, call {step}, `{call}`: {fault}"))
             };
             let call = any_call(&mut rng);
-            let Given { code, value, .. } = made(call);
+            let Given { code, value, sheet, .. } = made(call);
             *met.entry(code).or_default() += 1;
             // A taken list is taken with just the room that it needs, and not with a byte less.
             if let (Call::List { revision, .. }, 1..) = (call, value) {
@@ -123,6 +128,12 @@ fn random_calls_on_damaged_buffers() {
                     let list = Call::List { revision, room };
                     assert_eq!(made(list).code, code, "seed {seed}, call {step}, `{list}`");
                 }
+                // The bib of its last entry is queried, by the first client that may.
+                let bib = u16::from_le_bytes([sheet[needed - 10], sheet[needed - 9]]);
+                let mut queries = (0..16).map(|client| made(Call::Query { client, revision, bib }));
+                if let Some(found) = queries.find(|given| given.code == 0) {
+                    *states.entry(found.state).or_default() += 1;
+                }
             }
         }
     }
@@ -130,6 +141,8 @@ fn random_calls_on_damaged_buffers() {
         let times = met.get(&code).copied().unwrap_or(0);
         assert!(times >= 10, "code {code} was met {times} times");
     }
+    let often = states.values().filter(|&&times| times >= 30).count();
+    assert_eq!(often, 3, "queries found {states:?}");
 }
 
 /// Makes the call, or says what is wrong with it.
@@ -145,9 +158,8 @@ fn judged(cells: &[Cell], t: &mut Vec<u8>, call: Call) -> Result<Given, String> 
     if (code == 1) == is_table(cells, &before) {
         return Err(format!("code {code}, against docs/CELLS.md"));
     }
-    let refused = || Given { code, value: 0, total: 0, sheet: sheet(call) };
-    if code != 0 && (given != refused() || *t != before) {
-        return Err(format!("refused with code {code}, but with a value or bytes changed"));
+    if code != 0 && (given != refused(call, code) || *t != before) {
+        return Err(format!("refused with code {code}, but with an answer or bytes changed"));
     }
     if matches!(call, Call::List { .. } | Call::Fill { .. }) && *t != before {
         return Err("a call that only reads changed the table".to_string());

@@ -1,19 +1,20 @@
-//! Random days: for every call the static library gives the code, value, total and sheet of the
-//! literal replay, and leaves the bytes that the plain implementation leaves.
+//! Random days: for every call the static library gives the code, state, value, total and sheet of
+//! the literal replay, and leaves the bytes that the plain implementation leaves.
 
 mod common;
 
 use calls::Call;
 use common::{as_given, difference, first_difference, library};
-use days::{chain_of_joins, fault_of_fills, must_pass, random_day, seeds, Profile};
+use days::{chain_of_joins, fault_of_fills, late_days, must_pass, random_day, seeds, Profile};
 use silttongs::{Table, BYTES};
 
 /// How many days of each kind are replayed.
-const KINDS: [(Profile, u64); 7] = [
+const KINDS: [(Profile, u64); 8] = [
     (Profile::MIXED, 400),
     (Profile::NESTED, 400),
     (Profile::STALE, 300),
     (Profile::QUERIES, 300),
+    (Profile::STRIKES, 300),
     (Profile::FORKS, 150),
     (Profile::STRANGE, 300),
     (Profile::FULL, 10),
@@ -32,6 +33,13 @@ fn days_of_all_kinds() {
 fn chains_of_joins() {
     for seed in seeds(60) {
         must_pass("chain of joins", seed, &chain_of_joins(seed), fault);
+    }
+}
+
+#[test]
+fn days_with_late_updates() {
+    for (number, day) in late_days().enumerate() {
+        must_pass("late updates", number as u64, &day, fault);
     }
 }
 

@@ -2,7 +2,7 @@
 
 use std::thread;
 
-use silttongs::{Kind, Refusal, Table, BYTES, SHEET};
+use silttongs::{Kind, Refusal, Standing, Table, BYTES, SHEET};
 
 /// The longest own list, and so the deepest recursion, on box 1: a query walks it, and a fork and a list too.
 #[test]
@@ -13,14 +13,14 @@ fn the_deepest_calls_fit_in_48_kib() {
         for v in 0..4_096 {
             table.update(0, 1, Kind::Penalty, 7, v)?;
         }
-        let value = table.query(0, 1, 7)?;
+        let standing = table.query(0, 1, 7)?;
         table.yield_(0)?;
         table.list(1, &mut vec![0; SHEET])?;
         table.fill(1)?;
         table.fork(1)?;
         table.join(0, 1)?;
-        Ok::<u32, Refusal>(value)
+        Ok::<Standing, Refusal>(standing)
     };
     let thread = thread::Builder::new().stack_size(48 * 1024).spawn(run).unwrap();
-    assert_eq!(thread.join().unwrap(), Ok(4_095 * 4_096 / 2));
+    assert_eq!(thread.join().unwrap(), Ok(Standing::Timed(4_095 * 4_096 / 2)));
 }

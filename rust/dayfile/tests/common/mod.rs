@@ -1,6 +1,6 @@
 //! Files to try, and how the literal replay prints them.
 
-use calls::{Answer, Code};
+use calls::{Answer, Code, State};
 use dayfile::{read_file, Record};
 use days::Rng;
 
@@ -44,7 +44,11 @@ pub(crate) fn printed_by_literal(bytes: &[u8]) -> String {
             Some(call) => day.call(call),
             None => Answer::refused(Code::StrangeStep),
         };
-        text += &format!("{index} {} {}\n", answer.code.number(), answer.value);
+        let code = answer.code.number();
+        text += &match answer.state {
+            State::Struck => format!("{index} {code} struck\n"),
+            _ => format!("{index} {code} {}\n", answer.value),
+        };
     }
     text
 }

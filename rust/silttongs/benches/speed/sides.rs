@@ -3,10 +3,10 @@
 use std::hint::black_box;
 
 use calls::Call;
-use silttongs::{Table, BYTES};
+use silttongs::{Refusal, Standing, Table, BYTES};
 
-/// Code and value; of a fill, both its numbers in one.
-type Given = (u8, u32);
+/// Code and value; none for a struck bib; of a fill, both its numbers in one.
+type Given = (u8, Option<u32>);
 
 /// What is timed.
 #[derive(Clone, Debug)]
@@ -41,8 +41,8 @@ impl Side {
 
     fn fresh(self, t: &mut [u8]) -> Given {
         match self {
-            Side::Plain => by_plain(plain::fresh(t)),
-            Side::Library => by_library(Table::fresh(t).map(|_| 0)),
+            Side::Plain => by_plain(plain::fresh(t).map(Some)),
+            Side::Library => by_library(Table::fresh(t).map(|_| Some(0))),
         }
     }
 
@@ -51,47 +51,48 @@ impl Side {
         match self {
             Side::Plain => by_plain(match call {
                 Call::Update { client, revision, kind, bib, v } => {
-                    plain::update(t, client, revision, kind, bib, v)
+                    plain::update(t, client, revision, kind, bib, v).map(Some)
                 }
-                Call::Query { client, revision, bib } => plain::query(t, client, revision, bib),
-                Call::Yield { client } => plain::yield_(t, client),
-                Call::Fork { revision } => plain::fork(t, revision),
-                Call::Join { joiner, joinee } => plain::join(t, joiner, joinee),
-                Call::List { revision, room } => plain::list(t, revision, &mut sheet[..room]),
-                Call::Fill { revision } => {
-                    plain::fill(t, revision).map(|fill| both(fill.own, fill.total))
+                Call::Query { client, revision, bib } => plain::query(t, client, revision, bib)
+                    .map(|standing| (!standing.struck).then_some(standing.value)),
+                Call::Yield { client } => plain::yield_(t, client).map(Some),
+                Call::Fork { revision } => plain::fork(t, revision).map(Some),
+                Call::Join { joiner, joinee } => plain::join(t, joiner, joinee).map(Some),
+                Call::List { revision, room } => {
+                    plain::list(t, revision, &mut sheet[..room]).map(Some)
                 }
+                Call::Fill { revision } => plain::fill(t, revision).map(|f| both(f.own, f.total)),
             }),
             Side::Library => {
                 let mut t = Table::from_bytes(t);
                 by_library(match call {
                     Call::Update { client, revision, kind, bib, v } => {
-                        t.update(client, revision, kind, bib, v)
+                        t.update(client, revision, kind, bib, v).map(Some)
                     }
-                    Call::Query { client, revision, bib } => t.query(client, revision, bib),
-                    Call::Yield { client } => t.yield_(client).map(|()| 0),
-                    Call::Fork { revision } => t.fork(revision).map(u32::from),
-                    Call::Join { joiner, joinee } => t.join(joiner, joinee),
-                    Call::List { revision, room } => t.list(revision, &mut sheet[..room]),
-                    Call::Fill { revision } => {
-                        t.fill(revision).map(|fill| both(fill.own, fill.total))
-                    }
+                    Call::Query { client, revision, bib } => t
+                        .query(client, revision, bib)
+                        .map(|standing| (standing != Standing::Struck).then(|| standing.value())),
+                    Call::Yield { client } => t.yield_(client).map(|()| Some(0)),
+                    Call::Fork { revision } => t.fork(revision).map(|number| Some(number.into())),
+                    Call::Join { joiner, joinee } => t.join(joiner, joinee).map(Some),
+                    Call::List { revision, room } => t.list(revision, &mut sheet[..room]).map(Some),
+                    Call::Fill { revision } => t.fill(revision).map(|f| both(f.own, f.total)),
                 })
             }
         }
     }
 }
 
-fn both(own: u16, total: u16) -> u32 {
-    u32::from(total) << 16 | u32::from(own)
+fn both(own: u16, total: u16) -> Option<u32> {
+    Some(u32::from(total) << 16 | u32::from(own))
 }
 
-fn by_plain(answer: Result<u32, calls::Code>) -> Given {
-    answer.map_or_else(|code| (code.number(), 0), |value| (0, value))
+fn by_plain(answer: Result<Option<u32>, calls::Code>) -> Given {
+    answer.map_or_else(|code| (code.number(), Some(0)), |value| (0, value))
 }
 
-fn by_library(answer: Result<u32, silttongs::Refusal>) -> Given {
-    answer.map_or_else(|refusal| (refusal.code(), 0), |value| (0, value))
+fn by_library(answer: Result<Option<u32>, Refusal>) -> Given {
+    answer.map_or_else(|refusal| (refusal.code(), Some(0)), |value| (0, value))
 }
 
 /// The table after these calls, all accepted and none a list.

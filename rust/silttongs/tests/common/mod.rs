@@ -1,12 +1,14 @@
 //! The library's calls as values, and what they are compared with.
 
-use calls::{Answer, Call};
-use silttongs::Table;
+use calls::{Answer, Call, State};
+use silttongs::{Standing, Table};
 
 /// What a call left, but for the table.
 #[derive(Clone, Debug, PartialEq, Eq)]
 pub(crate) struct Given {
     pub(crate) code: u8,
+    /// What a query finds; neither for other calls.
+    pub(crate) state: State,
     pub(crate) value: u32,
     /// The second number of a fill; 0 for other calls.
     pub(crate) total: u32,
@@ -29,12 +31,22 @@ pub(crate) fn sheet(call: Call) -> Vec<u8> {
 pub(crate) fn library(bytes: &mut [u8], call: Call) -> Given {
     let mut table = Table::from_bytes(bytes);
     let mut sheet = sheet(call);
+    let mut state = State::Neither;
     let mut total = 0;
     let answer = match call {
         Call::Update { client, revision, kind, bib, v } => {
             table.update(client, revision, kind, bib, v)
         }
-        Call::Query { client, revision, bib } => table.query(client, revision, bib),
+        Call::Query { client, revision, bib } => {
+            table.query(client, revision, bib).map(|standing| {
+                state = match standing {
+                    Standing::Neither => State::Neither,
+                    Standing::Timed(_) => State::Timed,
+                    Standing::Struck => State::Struck,
+                };
+                standing.value()
+            })
+        }
         Call::Yield { client } => table.yield_(client).map(|()| 0),
         Call::Fork { revision } => table.fork(revision).map(u32::from),
         Call::Join { joiner, joinee } => table.join(joiner, joinee),
@@ -45,7 +57,7 @@ pub(crate) fn library(bytes: &mut [u8], call: Call) -> Given {
         }),
     };
     let (code, value) = answer.map_or_else(|refusal| (refusal.code(), 0), |value| (0, value));
-    Given { code, value, total, sheet }
+    Given { code, state, value, total, sheet }
 }
 
 /// What the plain implementation gives.
@@ -58,8 +70,8 @@ pub(crate) fn plainly(bytes: &mut [u8], call: Call) -> Given {
         }
         _ => plain::call(bytes, call),
     };
-    let Answer { code, value, total, .. } = answer.unwrap_or_else(Answer::refused);
-    Given { code: code.number(), value, total, sheet }
+    let Answer { code, state, value, total, .. } = answer.unwrap_or_else(Answer::refused);
+    Given { code: code.number(), state, value, total, sheet }
 }
 
 /// What the literal replay's answer comes to: its lines, and behind them the sheet as it was.
@@ -69,16 +81,16 @@ pub(crate) fn as_given(call: Call, answer: &Answer) -> Given {
     for (place, line) in sheet.chunks_exact_mut(12).zip(&answer.lines) {
         place.copy_from_slice(&line.to_bytes());
     }
-    let Answer { code, value, total, .. } = *answer;
-    Given { code: code.number(), value, total, sheet }
+    let Answer { code, state, value, total, .. } = *answer;
+    Given { code: code.number(), state, value, total, sheet }
 }
 
 /// What is other than expected, in words.
 pub(crate) fn difference(given: &Given, expected: &Given) -> Option<String> {
-    let numbers = |given: &Given| (given.code, given.value, given.total);
-    let (found, right) = (numbers(given), numbers(expected));
+    let answer = |given: &Given| (given.code, given.state, given.value, given.total);
+    let (found, right) = (answer(given), answer(expected));
     if found != right {
-        return Some(format!("code, value and total {found:?}, not {right:?}"));
+        return Some(format!("code, state, value and total {found:?}, not {right:?}"));
     }
     let at = first_difference(&given.sheet, &expected.sheet)?;
     Some(format!("byte {at} of the sheet is {}, not {}", given.sheet[at], expected.sheet[at]))

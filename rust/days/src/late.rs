@@ -1,0 +1,60 @@
+//! Short days on which a joined revision brings its updates late: the case of 02's U2, "Referees
+//! strike a bib, then a late box brings an Earliest entry".
+
+use calls::Call;
+
+/// The updates that the days are made of, as kind and v.
+const UPDATES: [(u8, u32); 7] = [(1, 0), (1, 8), (2, 0), (2, 5), (3, 0), (3, 5), (4, 6)];
+
+/// A day for each list of up to three updates of one bib and each place at which the list is cut.
+/// What stands behind the cut is entered first, on a revision of its own; then come the updates
+/// before the cut, on the main revision, which then joins the other. Both are queried before the
+/// join, and the main one after it.
+pub fn late_days() -> impl Iterator<Item = Vec<Call>> {
+    lists(3).into_iter().flat_map(|list| {
+        (0..=list.len()).map(move |cut| {
+            let mut calls = vec![Call::Fork { revision: 0 }];
+            entered(1, &list[cut..], &mut calls);
+            entered(0, &list[..cut], &mut calls);
+            calls.push(Call::Join { joiner: 0, joinee: 1 });
+            entered(0, &[], &mut calls);
+            calls
+        })
+    })
+}
+
+/// Every list of so many updates at most.
+fn lists(most: usize) -> Vec<Vec<(u8, u32)>> {
+    let mut lists = vec![Vec::new()];
+    let mut from = 0;
+    for _ in 0..most {
+        let longest = from..lists.len();
+        from = lists.len();
+        for at in longest {
+            lists.extend(UPDATES.map(|update| [&lists[at][..], &[update]].concat()));
+        }
+    }
+    lists
+}
+
+/// A transaction of these updates and a query, by the client with the revision's number.
+fn entered(revision: u8, updates: &[(u8, u32)], calls: &mut Vec<Call>) {
+    let (client, bib) = (revision, 7);
+    calls.extend(updates.iter().map(|&(kind, v)| Call::Update { client, revision, kind, bib, v }));
+    calls.extend([Call::Query { client, revision, bib }, Call::Yield { client }]);
+}
+
+#[cfg(test)]
+mod tests {
+    use super::*;
+
+    #[test]
+    fn every_list_once_and_cut_everywhere() {
+        let mut lists = lists(3);
+        assert_eq!(lists.len(), 1 + 7 + 49 + 343);
+        lists.sort();
+        lists.dedup();
+        assert_eq!(lists.len(), 400);
+        assert_eq!(late_days().count(), 1 + 2 * 7 + 3 * 49 + 4 * 343);
+    }
+}
