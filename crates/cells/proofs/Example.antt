@@ -1,13 +1,16 @@
 -- Steps on the cells without their checks, computed: forks of forks, updates on each, joins, and what the checks say after them.
+use Prim.Native.Nat.{ℕ}
 use mathlib.Core.Bool.{true, false}
 use mathlib.Core.Path.{_≡_, refl}
 use mathlib.Core.List.{[], _∷_}
 use Rattle.lists.specs.Lists.{insert, remove, behind}
 use Rattle.cells.specs.Tables.{some}
-use Rattle.cells.specs.Cells.{Cells, chain, outs}
-use Rattle.cells.specs.Order.{order}
-use Rattle.cells.specs.Checks.{busy, busyByOther, openElsewhere, stale, joinable, joined}
-use Rattle.cells.specs.CellSteps.{freshCells, updateCells, closeCells, forkCells, joinCells}
+use Rattle.cells.specs.Parts.{offset, size, rowsPart, lowPart, highPart, seenPart, caughtPart, statePart, usedPart, lastPart, firstPart, countPart}
+use Rattle.cells.specs.Parts.{basePart, layoutPart, queuePart, openedPart, countersPart, keptPart, signaturePart}
+use Rattle.cells.specs.Cells.{Cells, chain, outs, marked}
+use Rattle.cells.specs.Order.{order, picks}
+use Rattle.cells.specs.Checks.{isClient, givenOut, joined, openElsewhere, busy, busyByOther, stale, logFull, noneLeft, joinable}
+use Rattle.cells.specs.CellSteps.{freshCells, updateCells, closeCells, forkRow, forkCells, joinCells}
 
 -- client 0 updates revision 0, which forks 1; 1 updates and forks 2; 2, 0 and 1 update; 0 forks 3, which updates
 before : Cells
@@ -46,3 +49,61 @@ seen-marks = refl
 caught-marks : stale before 1 0 ∷ stale after 1 0 ∷ busy after 1 ∷ busyByOther after 1 1 ∷ openElsewhere after 1 0 ∷ busy (closeCells after 1) 1 ∷ joined after 1 ∷ [] ≡ true ∷ false ∷ true ∷ false ∷ true ∷ false ∷ true ∷ []
 unfolding before after some
 caught-marks = refl
+
+-- the checks on a fresh day: clients 15 and 16; revisions 0 and 1 given out; nobody joined, busy or open elsewhere
+fresh-checks : isClient 15 ∷ isClient 16 ∷ givenOut freshCells 0 ∷ givenOut freshCells 1 ∷ joined freshCells 0 ∷ busy freshCells 0 ∷ busy freshCells 63 ∷ openElsewhere freshCells 0 5 ∷ [] ≡ true ∷ false ∷ true ∷ false ∷ false ∷ false ∷ false ∷ false ∷ []
+unfolding some
+fresh-checks = refl
+
+-- a joined revision was given out; the last client has the main revision busy
+later-checks : givenOut after 1 ∷ busy (updateCells freshCells 15 0) 0 ∷ [] ≡ true ∷ true ∷ []
+unfolding before after some
+later-checks = refl
+
+-- cells that no day made: every mark set and no row in use
+made : ℕ → ℕ → ℕ → Cells
+made updates out given = record {
+  state = λ r. 1;
+  used = λ r. false;
+  last = λ r. 0;
+  first = λ r. 0;
+  count = λ r. 0;
+  base = λ r. 0;
+  row = λ r u. true;
+  link = λ u. 0;
+  seen = λ a b. true;
+  caught = λ c r. true;
+  layout = [];
+  out = out;
+  opened = λ c. 64;
+  updates = updates;
+  given = given;
+}
+
+-- 01: "Update 4,096 is taken, the next gives 9"; "The 63rd fork gives box 63, the next gives 10", whoever is out
+last-ones : logFull (made 4095 1 1) ∷ logFull (made 4096 1 1) ∷ noneLeft (made 0 64 63) ∷ noneLeft (made 0 1 64) ∷ [] ≡ false ∷ true ∷ false ∷ true ∷ []
+unfolding made
+last-ones = refl
+
+-- neither the main revision nor the joiner is a joinee, whatever the marks; a row that is not in use counts for nothing
+marks-alone : joinable (made 0 1 1) 1 1 ∷ joinable (made 0 1 1) 1 0 ∷ joinable (made 0 1 1) 0 1 ∷ marked (made 0 1 1) 1 0 ∷ forkRow (made 0 1 1) 1 0 ∷ [] ≡ false ∷ false ∷ true ∷ false ∷ false ∷ []
+unfolding chain made
+marks-alone = refl
+
+-- a fork of a fork of a fork inherits by count, by mark and from the own list
+third-order : order (forkCells before 2 4) 4 ≡ 0 ∷ 1 ∷ 2 ∷ []
+unfolding before order chain insert remove behind
+third-order = refl
+
+-- each entry once, in its order
+picked : picks 1 (λ u. true) (5 ∷ 6 ∷ []) ≡ 5 ∷ 6 ∷ []
+picked = refl
+
+-- docs/CELLS.md, "The parts": where each part lies
+offsets :
+    offset rowsPart ∷ offset lowPart ∷ offset highPart ∷ offset seenPart ∷ offset caughtPart ∷ offset statePart ∷ offset usedPart ∷ offset lastPart
+    ∷ offset firstPart ∷ offset countPart ∷ offset basePart ∷ offset layoutPart ∷ offset queuePart ∷ offset openedPart ∷ offset countersPart
+    ∷ offset keptPart ∷ offset signaturePart ∷ []
+    ≡ 0 ∷ 32256 ∷ 36352 ∷ 38400 ∷ 38912 ∷ 39040 ∷ 39104 ∷ 39168 ∷ 39296 ∷ 39424 ∷ 39552 ∷ 39680 ∷ 39744 ∷ 39808 ∷ 39824 ∷ 39828 ∷ 40952 ∷ []
+unfolding offset size
+offsets = refl

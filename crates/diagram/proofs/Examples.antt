@@ -1,15 +1,18 @@
 -- The examples of specs/Examples.antt, each by computing it.
+use Prim.Native.Nat.{ℕ}
 use mathlib.Core.Bool.{true, false}
 use mathlib.Core.Path.{_≡_, refl}
-use mathlib.Core.Option.{some}
-use mathlib.Core.List.{[], _∷_}
+use mathlib.Core.Option.{none, some}
+use mathlib.Core.List.{List·Memᴰ·head, [], _∷_}
 use Rattle.diagram.specs.Sizes.{revisionLimit, clientLimit, updateLimit}
-use Rattle.diagram.specs.Diagram.{leads}
+use Rattle.diagram.proofs.Graph.Paths.{leads-path}
+use Rattle.diagram.specs.Diagram.{event, fork, join, leads, newest, root, start}
+use Rattle.diagram.specs.Construction.{Constructed, entered, forked, joined}
 use Rattle.diagram.specs.Effects.{tabulate, view, startVertex, forkVertex}
 use Rattle.diagram.specs.Day.{fresh}
 use Rattle.diagram.specs.Checks.{unknownClient, openElsewhere, busyByOther, busy, stale, logFull, noneLeft, notJoinable}
-use Rattle.diagram.specs.Steps.{accepted, after, Event, Fork}
-use Rattle.diagram.specs.Examples.{triedAll, e1, examples, expected, computed, e1List, beforeJoin, childJoinsParent, withCounts}
+use Rattle.diagram.specs.Steps.{accepted, after, Event, Yield, Fork, Join}
+use Rattle.diagram.specs.Examples.{triedAll, answers, e1, examples, expected, computed, e1List, beforeJoin, childJoinsParent, withCounts}
 
 examples-hold : computed examples ≡ expected examples
 unfolding accepted after leads tabulate unknownClient openElsewhere busyByOther busy stale logFull noneLeft notJoinable revisionLimit clientLimit updateLimit
@@ -18,6 +21,24 @@ examples-hold = refl
 e1-list : view (triedAll fresh e1 .diagram) (triedAll fresh e1 .terminal 0) ≡ e1List
 unfolding accepted after leads tabulate unknownClient openElsewhere busyByOther busy stale logFull noneLeft notJoinable revisionLimit clientLimit updateLimit
 e1-list = refl
+
+-- steps that one check alone refuses: 2 and 3; 7 of the joiner, then of the joinee, two clients being at work; 4 of the joinee, then of
+-- the joiner; 7 by the last client
+checks-alone :
+    answers fresh (Event 16 0 true ∷ Event 0 1 true ∷ [])
+    ∷ answers fresh (Fork 0 ∷ Event 0 0 true ∷ Join 0 1 ∷ Event 1 1 true ∷ Yield 0 ∷ Join 0 1 ∷ Yield 1 ∷ Join 0 1 ∷ [])
+    ∷ answers fresh (Fork 0 ∷ Fork 0 ∷ Join 0 1 ∷ Join 2 1 ∷ [])
+    ∷ answers fresh (Fork 0 ∷ Fork 0 ∷ Join 0 2 ∷ Join 2 1 ∷ Join 0 1 ∷ [])
+    ∷ answers fresh (Event 15 0 true ∷ Event 1 0 true ∷ Fork 0 ∷ [])
+    ∷ []
+    ≡ (false ∷ false ∷ [])
+    ∷ (true ∷ true ∷ false ∷ true ∷ true ∷ false ∷ true ∷ true ∷ [])
+    ∷ (true ∷ true ∷ true ∷ false ∷ [])
+    ∷ (true ∷ true ∷ true ∷ false ∷ true ∷ [])
+    ∷ (true ∷ false ∷ false ∷ [])
+    ∷ []
+unfolding accepted after leads tabulate unknownClient openElsewhere busyByOther busy stale logFull noneLeft notJoinable revisionLimit clientLimit updateLimit
+checks-alone = refl
 
 -- the code of E4's first join is 11 and not 7, that of its second is 7
 e4-first : (busy fresh 0 ≡ false) × (notJoinable fresh 0 0 ≡ true)
@@ -50,3 +71,21 @@ second-half-fails = refl
 applied-twice : view childJoinsParent 6 ≡ 0 ∷ 0 ∷ []
 unfolding tabulate
 applied-twice = refl
+
+-- 002, Definition 6: what no construction makes. A second event, or a fork, at a vertex that is no terminal
+no-second-event : Constructed (event 0 0 none ∷ event 0 0 none ∷ root ∷ []) → ⊥
+no-second-event (entered c t client update) = t .no-s 1 (newest refl (List·Memᴰ·head refl))
+
+no-late-fork : (n : ℕ) → Constructed (start n ∷ fork 0 ∷ event 0 0 none ∷ root ∷ []) → ⊥
+no-late-fork n (forked c t) = t .no-s 1 (newest refl (List·Memᴰ·head refl))
+
+-- a joiner, or a joinee, that is no terminal
+no-late-joiner : Constructed (join 1 2 ∷ event 1 0 none ∷ start 1 ∷ fork 0 ∷ root ∷ []) → ⊥
+no-late-joiner (joined c t t′ j) = t .no-s 3 (newest refl (List·Memᴰ·head refl))
+
+no-late-joinee : Constructed (join 1 2 ∷ event 2 0 none ∷ start 1 ∷ fork 0 ∷ root ∷ []) → ⊥
+no-late-joinee (joined c t t′ j) = t′ .no-s 3 (newest refl (List·Memᴰ·head refl))
+
+-- and a child that joins its parent
+no-child-joins-parent : Constructed childJoinsParent → ⊥
+no-child-joins-parent (joined c t t′ j) = j .start-unseen (leads-path beforeJoin (startVertex beforeJoin 4) 5 second-half-fails)

@@ -133,3 +133,11 @@ only P (Sublistᴰ·cons {a} {l₁} {l₂} s) d f g =
 only P (Sublistᴰ·cons-cons {a} {b} {l₁} {l₂} q s) d f g =
     subst (λ z. Only P (b ∷ l₂) (z ∷ l₁)) (sym q)
     (keeps (subst P q (f a (List·Memᴰ·head refl))) (only P s (nodup-cons .0 d .1) (λ e i. f e (List·Memᴰ·tail i)) (λ e i p. either (List·Memᴰ·cases-cons (g e (List·Memᴰ·tail i) p)) (λ r. absurd (nodup-cons .0 d .0 ∣ Memᴰ·cast (sym (r ∙ q)) i ∣₁)) (λ h. h))))
+
+-- `Only` decides the list
+pub only-same : {P : ℕ → Type 0} {l v w : List ℕ} → Only P l v → Only P l w → v ≡ w
+only-same ends ends = refl
+only-same (keeps {e} p o) (keeps q o′) = ap (λ z. e ∷ z) (only-same o o′)
+only-same (keeps p o) (drops n o′) = absurd (n p)
+only-same (drops n o) (keeps p o′) = absurd (n p)
+only-same (drops n o) (drops m o′) = only-same o o′
