@@ -55,7 +55,7 @@ enum {
 enum {
     SILTTONGS_TIME = 1,     /* the value becomes v; lifts a strike, with v = 0 too */
     SILTTONGS_EARLIEST = 2, /* the smaller of value and v, of those not 0; leaves a struck bib so */
-    SILTTONGS_PENALTY = 3,  /* v is added, modulo 2 to the 32nd; leaves a struck bib so */
+    SILTTONGS_PENALTY = 3,  /* v is added, modulo 2 to the 32nd; not on value 0 or a struck bib */
     SILTTONGS_STRIKE = 4    /* the bib is struck; v is not looked at */
 };
 

@@ -63,7 +63,7 @@ pub enum Call {
 ///
 /// - Time: the value becomes v, and the bib is no longer struck.
 /// - Earliest: the smaller of value and v among those that aren't 0; a struck bib stays struck.
-/// - Penalty: v is added modulo 4,294,967,296; a struck bib stays struck.
+/// - Penalty: v is added modulo 4,294,967,296, on value 0 nothing; a struck bib stays struck.
 /// - Strike: the bib is struck; v isn't looked at.
 pub const KINDS: [&str; 4] = ["Time", "Earliest", "Penalty", "Strike"];
 

@@ -158,7 +158,8 @@ fn the_log_is_full_after_4096_updates_of_all_revisions() {
     let mut steps = vec![(fork(0), 0, 1), (fork(0), 0, 2)];
     for number in 0..4_096 {
         let client = (number % 3) as u8;
-        steps.push((update(client, client, PENALTY, 7, 1), 0, number));
+        let kind = if number == 0 { TIME } else { PENALTY };
+        steps.push((update(client, client, kind, 7, 1), 0, number));
     }
     steps.extend([(0, 0), (1, 1), (2, 2)].map(|(c, r)| (update(c, r, TIME, 7, 1), 9, 0)));
     steps.extend([0, 1, 2].map(|client| (yields(client), 0, 0)));
@@ -236,7 +237,7 @@ fn a_bib_is_struck_timed_or_neither() {
     stands(&[(TIME, 61000)], State::Timed, 61000);
     stands(&[(TIME, 0)], State::Neither, 0);
     stands(&[(EARLIEST, 0)], State::Neither, 0);
-    stands(&[(PENALTY, 5)], State::Timed, 5);
+    stands(&[(TIME, 1), (PENALTY, 5)], State::Timed, 6);
     stands(&[(TIME, 1), (PENALTY, u32::MAX)], State::Neither, 0);
     stands(&[(STRIKE, 9)], State::Struck, 0);
     stands(&[(TIME, 61000), (STRIKE, 0)], State::Struck, 0);
@@ -274,7 +275,18 @@ fn strike_then_time_0() {
     stands(&[(STRIKE, 0), (TIME, 0)], State::Neither, 0);
     stands(&[(TIME, 61000), (STRIKE, 0), (TIME, 0)], State::Neither, 0);
     stands(&[(STRIKE, 0), (TIME, 0), (EARLIEST, 9)], State::Timed, 9);
-    stands(&[(STRIKE, 0), (TIME, 0), (PENALTY, 5)], State::Timed, 5);
+    stands(&[(STRIKE, 0), (TIME, 0), (PENALTY, 5)], State::Neither, 0);
+}
+
+/// 02, U3: "Penalty 5000, then Earliest 60000, gives 60000, and after the Penalty alone the query
+/// gives 0". After a wrap to 0 a further Penalty has no effect.
+#[test]
+fn no_penalty_without_a_time() {
+    stands(&[(PENALTY, 5000)], State::Neither, 0);
+    stands(&[(PENALTY, 5000), (EARLIEST, 60000)], State::Timed, 60000);
+    stands(&[(PENALTY, 5000), (EARLIEST, 60000), (PENALTY, 5000)], State::Timed, 65000);
+    stands(&[(TIME, 1), (PENALTY, u32::MAX), (PENALTY, 5)], State::Neither, 0);
+    stands(&[(TIME, 7), (PENALTY, 0)], State::Timed, 7);
 }
 
 /// "Referees strike a bib, then a late box brings an Earliest entry": the rider is not back. A Time

@@ -1,4 +1,5 @@
-//! The four kinds of update and their effect on how a bib stands: 01, "Updates", amended by 02, U2.
+//! The four kinds of update and their effect on how a bib stands: 01, "Updates", amended by 02, U2
+//! and U3.
 
 use calls::State;
 
@@ -62,7 +63,8 @@ impl Update {
                 let times = [value, self.v].into_iter().filter(|&time| time != 0);
                 Standing::At(times.min().unwrap_or(0))
             }
-            // Penalty: v is added modulo 4,294,967,296, whatever the value was.
+            // Penalty: none without a time; else v is added modulo 4,294,967,296.
+            (3, Standing::At(0)) => Standing::At(0),
             (3, Standing::At(value)) => {
                 let sum = u64::from(value) + u64::from(self.v);
                 Standing::At((sum % 4_294_967_296) as u32)
@@ -103,7 +105,8 @@ mod tests {
             (2, 9, 9, 9),
             (2, 8, 9, 8),
             (2, 9, 8, 8),
-            (3, 0, 5, 5),
+            (3, 0, 5, 0),
+            (3, 7, 0, 7),
             (3, 1, u32::MAX, 0),
             (3, u32::MAX, u32::MAX, u32::MAX - 1),
         ];

@@ -60,9 +60,17 @@ impl Kind {
             Kind::Time => Standing::at(v),
             Kind::Earliest | Kind::Penalty if bib.struck => bib,
             Kind::Earliest => Standing::at(earliest(bib.value, v)),
-            Kind::Penalty => Standing::at(bib.value.wrapping_add(v)),
+            Kind::Penalty => Standing::at(penalized(bib.value, v)),
             Kind::Strike => Standing { struck: true, value: 0 },
         }
+    }
+}
+
+/// A penalty belongs to a time: without one it has no effect.
+fn penalized(value: u32, v: u32) -> u32 {
+    match value {
+        0 => 0,
+        time => time.wrapping_add(v),
     }
 }
 
@@ -91,7 +99,8 @@ mod tests {
             (Earliest, 9, 8, 8),
             (Earliest, 8, 9, 8),
             (Penalty, 1, u32::MAX, 0),
-            (Penalty, 0, 5, 5),
+            (Penalty, 0, 5, 0),
+            (Penalty, 7, 0, 7),
         ];
         for (kind, value, v, after) in cases {
             let applied = kind.applied(Standing::at(value), v);

@@ -1,4 +1,4 @@
-//! 02, U2, of the static library: "A struck bib stays struck".
+//! 02, U2 and U3, of the static library: "A struck bib stays struck", "No penalty without a time".
 
 use silttongs::Kind::{Earliest, Penalty, Strike, Time};
 use silttongs::Standing::{Neither, Struck, Timed};
@@ -51,6 +51,15 @@ fn strike_then_time() {
 fn strike_then_time_0() {
     stands(&[(Strike, 0), (Time, 0)], Neither);
     stands(&[(Time, 61_000), (Strike, 0), (Time, 0), (Earliest, 9)], Timed(9));
+}
+
+/// U3: "A Penalty on value 0 has no effect".
+#[test]
+fn no_penalty_without_a_time() {
+    stands(&[(Penalty, 5_000)], Neither);
+    stands(&[(Penalty, 5_000), (Earliest, 60_000)], Timed(60_000));
+    stands(&[(Time, 1), (Penalty, u32::MAX), (Penalty, 5)], Neither);
+    stands(&[(Time, 7), (Penalty, 0)], Timed(7));
 }
 
 /// "Referees strike a bib, then a late box brings an Earliest entry".
