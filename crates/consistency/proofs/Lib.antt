@@ -1,5 +1,5 @@
 -- From a fresh table, through every run of accepted steps, cells and bytes agree with the day; through every list of
--- calls the replies do, and demand 3 holds.
+-- calls the replies do, demand 3 holds, and own updates add up.
 pub mod Cells
 pub mod Bytes
 pub mod Follow

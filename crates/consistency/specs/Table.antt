@@ -94,7 +94,7 @@ inBytes (l ∷ ls) = line (stored (l .entry)) (l .number) ++ inBytes ls
 abbrev pub sheetWith : List Line → List ℕ → List ℕ
 sheetWith ls sheet = inBytes ls ++ drop (12 * length ls) sheet
 
--- what an answer on paper is in a caller's hands
+-- an answer on paper as a caller gets it
 abbrev pub sheetAfter : Request → Answer → List ℕ
 sheetAfter (Update c n k bib v) a = []
 sheetAfter (Query c n bib) a = []

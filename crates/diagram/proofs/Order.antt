@@ -1,4 +1,4 @@
--- One arbitration order for every run of accepted steps.
+-- Every run of accepted steps: one arbitration order, a witness, a diagram of Definition 6, and own updates that add up.
 pub mod Numbered
 pub mod Inherited
 pub mod Growth

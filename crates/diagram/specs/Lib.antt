@@ -1,5 +1,5 @@
--- What a reader has to believe, in the order of 002 and 01: diagrams, paths, effects, the day, its checks and steps, and
--- the claim about every run of accepted steps. No bibs, values or bytes.
+-- What a reader has to believe, in the order of 002 and 01: diagrams, paths, effects, the day, its checks and steps, the
+-- claims about every run of accepted steps, and the count of own updates. No bibs, values or bytes.
 pub mod Sizes
 pub mod Diagram
 pub mod Effects

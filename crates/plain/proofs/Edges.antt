@@ -1,5 +1,5 @@
--- Every row of the tables of edges and codes holds, by computing the plain day; so do a full log, all boxes sent, and the
--- lines of a list.
+-- Every row of the tables of edges and codes holds, by computing the plain day; so do a full log, all boxes sent, the
+-- lines of a list, and fills.
 use Prim.Native.Nat.{ℕ}
 use mathlib.Core.Path.{_≡_, refl}
 use mathlib.Core.List.{List, [], _∷_, _++_}

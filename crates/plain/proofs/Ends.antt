@@ -1,5 +1,4 @@
--- How each call ends: refused with a code above 1 and the day as it was, or taken with what its checks showed. The checks
--- are unpacked here, and nowhere else.
+-- How each call ends: refused with a code above 1 and the day as it was, or taken with what its checks showed.
 use Prim.Native.Nat.{ℕ, suc, _*_}
 use mathlib.Core.Bool.{Bool, true, false, _||_}
 use mathlib.Core.Path.{_≡_, refl}

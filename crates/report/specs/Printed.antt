@@ -51,7 +51,7 @@ printedAs (Good n) f = day f n
 unfoldable pub printed : List ℕ → List ℕ
 printed f = printedAs (fileCheck f) f
 
--- as long as the longest day: 11 bytes for `steps 5460` and 20 for each of 5,460 lines
+-- no day is longer: 11 bytes for `steps 5460`, and 5,460 lines of at most 20, a code counted with three digits
 abbrev pub room : ℕ
 room = 109211
 

@@ -13,7 +13,7 @@ use text::put::put;
 pub struct Output;
 
 impl Output {
-    // The longest day: 11 bytes for `steps 5460`, and 5,460 lines of at most 20.
+    // No day is longer: 11 bytes for `steps 5460`, and 5,460 lines of at most 20, a code counted with three digits.
     pub const BYTES: usize = 109211;
 }
 

@@ -1,4 +1,4 @@
--- The answers of the table's own checks, codes 1 and 5, and what the checks of a call find, in their order.
+-- The answers of the table's own checks, codes 1, 5 and 12, and what the checks of a call find, in their order.
 use Prim.{Unit}
 use Prim.Native.Nat.{ℕ, _*_, _<_}
 use mathlib.Core.Bool.{not, cond}

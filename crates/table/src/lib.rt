@@ -1,4 +1,4 @@
-// The table of 65,536 bytes: one module a call.
+// The table of 65,536 bytes: a module for each call, and the checks that they share.
 pub mod answer; // answer.rt: what a call answers
 pub mod bib; // bib.rt: the check of a bib
 pub mod event; // event.rt: the checks that update and query share

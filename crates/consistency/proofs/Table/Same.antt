@@ -19,7 +19,7 @@ use Rattle.table.specs.Answers.{Out}
 use Rattle.consistency.specs.Numbers.{isGiven}
 use Rattle.consistency.proofs.Table.Stands.{Stands, is-table, numbers-are}
 
--- a call's end on the day and on the table: the same code, state and value, no second number, and lent bytes as the day wants them
+-- a call's end on the day and on the table: the same code, state and value, no second number, and lent bytes that stand for the day
 pub record Same (Lent : PlainDay → List Line → List ℕ → Type 0) (o : Outcome) (u : Out) : Type 0 where
   pub code : u .code ≡ o .answer .code
   pub state : u .state ≡ o .answer .state
