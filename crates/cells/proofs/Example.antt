@@ -56,7 +56,7 @@ unfolding some
 fresh-checks = refl
 
 -- a joined revision was given out; the last client has the main revision busy
-later-checks : givenOut after 1 ∷ busy (updateCells freshCells 15 0) 0 ∷ [] ≡ true ∷ true ∷ []
+later-checks : givenOut after 1 ∷ busy (updateCells freshCells 15 0) 0 ∷ busyByOther (updateCells freshCells 15 0) 1 0 ∷ [] ≡ true ∷ true ∷ true ∷ []
 unfolding before after some
 later-checks = refl
 

@@ -9,7 +9,7 @@ use Rattle.diagram.proofs.Graph.Paths.{leads-path}
 use Rattle.diagram.specs.Diagram.{event, fork, join, leads, newest, root, start}
 use Rattle.diagram.specs.Construction.{Constructed, entered, forked, joined}
 use Rattle.diagram.specs.Effects.{tabulate, view, startVertex, forkVertex}
-use Rattle.diagram.specs.Day.{fresh}
+use Rattle.diagram.specs.Day.{Day, fresh}
 use Rattle.diagram.specs.Checks.{unknownClient, openElsewhere, busyByOther, busy, stale, logFull, noneLeft, notJoinable}
 use Rattle.diagram.specs.Steps.{accepted, after, Event, Yield, Fork, Join}
 use Rattle.diagram.specs.Examples.{triedAll, answers, e1, examples, expected, computed, e1List, beforeJoin, childJoinsParent, withCounts}
@@ -39,6 +39,21 @@ checks-alone :
     ∷ []
 unfolding accepted after leads tabulate unknownClient openElsewhere busyByOther busy stale logFull noneLeft notJoinable revisionLimit clientLimit updateLimit
 checks-alone = refl
+
+-- a short day whole: client 3's transaction of two events, a fork, client 1's transaction on it, and the join
+shortDay : Day
+shortDay = triedAll fresh (Event 3 0 true ∷ Event 3 0 false ∷ Yield 3 ∷ Fork 0 ∷ Event 1 1 true ∷ Yield 1 ∷ Join 0 1 ∷ [])
+
+short-diagram : shortDay .diagram ≡ join 3 5 ∷ event 4 1 (some 1) ∷ start 3 ∷ fork 2 ∷ event 1 3 none ∷ event 0 3 (some 0) ∷ root ∷ []
+unfolding shortDay accepted after leads tabulate unknownClient openElsewhere busyByOther busy stale logFull noneLeft notJoinable revisionLimit clientLimit updateLimit
+short-diagram = refl
+
+short-transactions :
+    (shortDay .transactions ≡ 2)
+    × (shortDay .transaction 0 ≡ record { client = 3; revision = 0; events = 1 ∷ 2 ∷ []; closed = some 3 })
+    × (shortDay .transaction 1 ≡ record { client = 1; revision = 1; events = 5 ∷ []; closed = some 6 })
+unfolding shortDay accepted after leads tabulate unknownClient openElsewhere busyByOther busy stale logFull noneLeft notJoinable revisionLimit clientLimit updateLimit
+short-transactions = (refl, refl, refl)
 
 -- the code of E4's first join is 11 and not 7, that of its second is 7
 e4-first : (busy fresh 0 ≡ false) × (notJoinable fresh 0 0 ≡ true)
