@@ -172,9 +172,6 @@ module _ (r : List ℕ) (b : ℕ) (m : List ℕ) (a : ℕ) (l : List ℕ) (s : C
   gone : b ∈ (r ++ (m ++ (a ∷ l))) → ⊥
   gone i = either (List·Memᴰ·append-cases r i) (λ j. nodup-apart r _ (inv .distinct) b j (List·Memᴰ·head refl)) (λ j. nodup-cons .0 (Nodup·of-append-right r (inv .distinct)) .0 ∣ j ∣₁)
 
-  a-out : a ∈ (r ++ (b ∷ (m ++ (a ∷ l))))
-  a-out = Memᴰ·append-right r (List·Memᴰ·tail (Memᴰ·append-right m (List·Memᴰ·head refl)))
-
   b-out : b ∈ (r ++ (b ∷ (m ++ (a ∷ l))))
   b-out = Memᴰ·append-right r (List·Memᴰ·head refl)
 

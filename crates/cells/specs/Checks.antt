@@ -6,11 +6,11 @@ use Rattle.cells.specs.Sizes.{revisions, clients, updates, main, closed,
 use Rattle.cells.specs.Tables.{some}
 use Rattle.cells.specs.Cells.{Cells}
 
--- 2 "tablet above 15": not of this
+-- a client number; else 2 applies, "tablet above 15"
 abbrev pub isClient : ℕ → Bool
 isClient n = ltb n clients
 
--- 3 "box number not yet given out": not of this
+-- a number given out; else 3 applies, "box number not yet given out"
 abbrev pub givenOut : Cells → ℕ → Bool
 givenOut k r = ltb r revisions && not (eqb (k .state r) neverGiven)
 
@@ -42,6 +42,6 @@ logFull k = not (ltb (k .updates) updates)
 abbrev pub noneLeft : Cells → Bool
 noneLeft k = not (ltb (k .given) revisions)
 
--- 11 "joinee is box 0, is the joiner, its fork isn't seen, or its start is": not of this
+-- may be joined; else 11 applies, "joinee is box 0, is the joiner, its fork isn't seen, or its start is"
 abbrev pub joinable : Cells → ℕ → ℕ → Bool
 joinable k a b = (not (eqb b main) && not (eqb a b)) && k .seen a b

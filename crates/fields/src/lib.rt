@@ -1,4 +1,4 @@
-// The cells by name, over the first 40,960 bytes of a table: sizes, reads and writes. Offsets are named here; `revisions`, range.rt, scans the parts by these names.
+// The cells by name, over the first 40,960 bytes of a table: sizes, reads and writes. Offsets are named here alone.
 pub mod fresh; // fresh.rt: the parts of a fresh day
 pub mod layout; // layout.rt: the places of the revisions that are out
 pub mod numbers; // numbers.rt: words and half bytes in a part

@@ -11,7 +11,7 @@ pub struct Table;
 // A revision number: 0 to 63. Made by `check_revision`, and for the main revision by `Revision::main`.
 pub struct Revision(pub u8);
 
-// A client number: 0 to 15. Made by `check_client` of `revisions`.
+// A client number: 0 to 15. Made only after its range check.
 pub struct Client(pub u8);
 
 // What the range check of a revision number finds.

@@ -9,7 +9,7 @@ use lib.Dec.{ltb}
 use lib.ListN.{length, set, getD, take, drop, length-append, length-take, length-drop, length-set, take-append-drop, drop-of-length-le}
 use lib.Seq.{take-suc, take-all, take-append-le, take-take, length-take-le, set-split, take-at, drop-at, drop-cons, drop-drop, getD-set-same, drop-set-lt}
 use borrow.Author.Tests.{ltb-true, ltb-false, lt-ltb, le-ltb}
-use Rattle.lists.specs.Lists.{keep}
+use Rattle.lists.proofs.Keep.{keep-++}
 use Rattle.lists.proofs.Cases.{cases}
 use Rattle.cells.specs.Sizes.{updates}
 use Rattle.cells.specs.Cells.{Cells, chain, own, marked}
@@ -78,15 +78,11 @@ picks-nil : (b : ℕ) (f : ℕ → Bool) → picks b f [] ≡ []
 picks-nil zero f = refl
 picks-nil (suc b) f = refl
 
-keep-append : (f : ℕ → Bool) (a b : List ℕ) → keep f (a ++ b) ≡ keep f a ++ keep f b
-keep-append f [] b = refl
-keep-append f (x ∷ a) b = rw (keep-append f a b) (cases (f x) (λ e. rw e) (λ e. rw e))
-
 same-test : (i b : ℕ) → ltb i b ≡ ltb (suc i) (suc b)
 same-test i b = cases (ltb i b) (λ e. e ∙ sym (lt-ltb (suc i) (suc b) (let l = ltb-true i b e in omega arith))) (λ e. e ∙ sym (le-ltb (suc i) (suc b) (let l = ltb-false i b e in omega arith)))
 
 picks-more : (b : ℕ) (f : ℕ → Bool) (l : List ℕ) (x : ℕ) → picks b f (l ++ (x ∷ [])) ≡ picks b f l ++ offered b f (length l) x
-picks-more zero f l x = rw (keep-append, le-ltb (length l) 0 (omega arith)) refl
+picks-more zero f l x = rw (keep-++, le-ltb (length l) 0 (omega arith)) refl
 picks-more (suc b) f [] x = rw (lt-ltb 0 (suc b) (omega arith)) (ap (λ z. x ∷ z) (picks-nil b f))
 picks-more (suc b) f (y ∷ l) x = ap (λ z. y ∷ z) (picks-more b f l x ∙ ap (λ z. picks b f l ++ cond (z || f x) (x ∷ []) []) (same-test (length l) b))
 

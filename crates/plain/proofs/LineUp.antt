@@ -106,9 +106,6 @@ module _ (cs : List Call) where
     abbrev p : PlainDay
     p = dayAfter before
 
-    e1 : p .day ≡ run (stepsAfter before)
-    e1 = same before
-
     after-steps : stepsAfter cs ≡ stepsAfter before ++ (stepsOf p c ++ stepsFrom (called p c .next) rest)
     unfolding stepsFrom dayAfter
     after-steps = ap stepsAfter (T .place) ∙ steps-both before (c ∷ rest) freshDay

@@ -1,11 +1,11 @@
 -- What the answer of each check of a call says. Those of the whole buffer, code 1, are in Buffer.antt.
 use Prim.Native.Nat.{ℕ, _<_}
-use mathlib.Core.Bool.{Bool, true, false, not, cond}
+use mathlib.Core.Bool.{Bool, true, false, cond}
 use mathlib.Core.Path.{_≡_, refl}
 use mathlib.Core.List.{List}
 use native.Mathlib.Omega.{arith}
 use lib.Dec.{ltb}
-use borrow.Author.Tests.{ltb-true}
+use borrow.Author.Tests.{ltb-true, not-false}
 use Rattle.lists.proofs.Cases.{and-true}
 use Rattle.fields.specs.declared.table.Client.{Client}
 use Rattle.fields.specs.declared.table.Revision.{Revision}
@@ -38,10 +38,6 @@ held false a b x never e = absurd (never e)
 pub failed : {A : Type 0} (test : Bool) (a b x : A) → (a ≡ x → ⊥) → cond test a b ≡ x → (test ≡ false) × (b ≡ x)
 failed true a b x never e = absurd (never e)
 failed false a b x never e = (refl, e)
-
-pub not-false : (b : Bool) → not b ≡ false → b ≡ true
-not-false true e = refl
-not-false false e = absurd (let z : _≡_ {A = ℕ} 0 1 = cc in omega arith)
 
 -- code 2
 pub known : (n : ℕ) (x : Client) → clientCheck n ≡ client.Known x → x .0 < clients

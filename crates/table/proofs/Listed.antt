@@ -7,7 +7,6 @@ use native.Mathlib.Omega.{arith}
 use lib.Dec.{ltb}
 use lib.ListN.{length, take}
 use borrow.Author.Tests.{ltb-false}
-use Rattle.lists.proofs.Cases.{cases}
 use Rattle.cells.specs.Order.{order}
 use Rattle.entries.specs.Sizes as Upper
 use Rattle.entries.specs.Entries.{entryAt}
@@ -17,19 +16,20 @@ use Rattle.table.specs.Answers.{Out, check, refused, taken}
 use Rattle.table.specs.Calls.{shownOut}
 use Rattle.table.specs.Checks.{sheetCheck}
 use Rattle.table.specs.declared.list.SheetCheck.the-variants.{Fits, Short}
+use Rattle.table.proofs.Checks.{held, failed}
 use Rattle.table.proofs.Halves.{high-whole}
 
 different : Short ≡ Fits → ⊥
 different e = let z : _≡_ {A = ℕ} 0 1 = cc in omega arith
 
 -- what the check of the sheet found
-pub is-short : (m n : ℕ) → sheetCheck m n ≡ Short → ltb m (12 * n) ≡ true
+is-short : (m n : ℕ) → sheetCheck m n ≡ Short → ltb m (12 * n) ≡ true
 unfolding sheetCheck
-is-short m n e = cases (ltb m (12 * n)) (λ q. q) (λ q. absurd (different (sym e ∙ rw q)))
+is-short m n e = held (ltb m (12 * n)) Short Fits Short (λ d. different (sym d)) e .0
 
-pub is-long : (m n : ℕ) → sheetCheck m n ≡ Fits → ltb m (12 * n) ≡ false
+is-long : (m n : ℕ) → sheetCheck m n ≡ Fits → ltb m (12 * n) ≡ false
 unfolding sheetCheck
-is-long m n e = cases (ltb m (12 * n)) (λ q. absurd (different (sym (rw q) ∙ e))) (λ q. q)
+is-long m n e = failed (ltb m (12 * n)) Short Fits Fits different e .0
 
 pub has-room : (m n : ℕ) → sheetCheck m n ≡ Fits → 12 * n ≤ m
 has-room m n e = ltb-false m (12 * n) (is-long m n e)

@@ -1,14 +1,14 @@
 -- The other way: where no check applies, the step is accepted; and what a number means was given out.
-use Prim.Native.Nat.{_<_, _≤_, suc, ℕ}
+use Prim.Native.Nat.{_<_, ℕ}
 use mathlib.Core.Bool.{Bool, _&&_, false, true}
-use mathlib.Core.Path.{_≡_, ap}
+use mathlib.Core.Path.{_≡_}
 use mathlib.Core.Option.{none, some}
 use native.Mathlib.Omega.{arith}
 use lib.Dec.{ltb}
-use borrow.Author.Tests.{lt-ltb, ltb-true, not-false}
+use borrow.Author.Tests.{ltb-true, not-false}
 use Rattle.diagram.specs.Checks.{busy, busyByOther, logFull, noneLeft, notJoinable, openElsewhere, stale, unknownClient}
-use Rattle.diagram.specs.Day.{Day, meant, nextNumber}
-use Rattle.diagram.specs.Steps.{Event, Fork, Join, Yield, accepted, after, notGiven}
+use Rattle.diagram.specs.Day.{Day, meant}
+use Rattle.diagram.specs.Steps.{Event, Fork, Join, Yield, accepted, notGiven}
 use Rattle.lists.proofs.Cases.{cases}
 
 pub meant-same : (y : Day) (n r : ℕ) → meant y n ≡ some r → n ≡ r
@@ -28,15 +28,6 @@ meant-given y n r e =
 -- a number means a revision of the day
 pub meant-low : (y : Day) (n r : ℕ) → meant y n ≡ some r → r < y .revisions
 meant-low y n r e = ltb-true r (y .revisions) (not-false _ (meant-given y n r e))
-
--- it goes on meaning it, and the number that a fork gives means the new revision
-pub meant-stays : (y z : Day) (n r : ℕ) → y .revisions ≤ z .revisions → meant y n ≡ some r → meant z n ≡ some r
-unfolding meant
-meant-stays y z n r h e = let l = meant-low y n r e in let q = meant-same y n r e in rw (lt-ltb n (z .revisions) (omega arith)) (ap some q)
-
-pub meant-new : (y : Day) (r : ℕ) → meant (after y (Fork r)) (nextNumber y) ≡ some (y .revisions)
-unfolding meant nextNumber after
-meant-new y r = rw (lt-ltb (y .revisions) (suc (y .revisions)) (omega arith))
 
 module _ (y : Day) where
   pub accept-event : (c r : ℕ) (u : Bool) → unknownClient c ≡ false → notGiven y r ≡ false → y .joined r ≡ false → openElsewhere y c r ≡ false

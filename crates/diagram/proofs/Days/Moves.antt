@@ -63,7 +63,7 @@ none-of : (b rest : Bool) → (not b && rest) ≡ true → (b ≡ false) × (res
 none-of b rest e = let p = and-true (not b) rest e in (not-true b (p .0), p .1)
 
 module _ (y : Day) where
-  given : (r : ℕ) → notGiven y r ≡ false → r < y .revisions
+  pub given : (r : ℕ) → notGiven y r ≡ false → r < y .revisions
   given r e = ltb-true r (y .revisions) (not-false _ e)
 
   known : (c : ℕ) → unknownClient c ≡ false → c < clientLimit
