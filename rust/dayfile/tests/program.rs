@@ -244,9 +244,9 @@ fn edges_of_a_file() {
 #[test]
 fn the_longest_printed_day() {
     let mut rng = Rng::new(0);
-    let penalty = Call::Update { client: 0, revision: 0, kind: 3, bib: 7, v: u32::MAX };
+    let time = Call::Update { client: 0, revision: 0, kind: 1, bib: 7, v: u32::MAX };
     let query = Call::Query { client: 0, revision: 0, bib: 7 };
-    let calls = std::iter::once(penalty).chain(std::iter::repeat_n(query, 5_459));
+    let calls = std::iter::once(time).chain(std::iter::repeat_n(query, 5_459));
     let records: Vec<Record> = calls.filter_map(|call| record(call, &mut rng)).collect();
     let bytes = with_gap(&records, 8, &mut rng);
     assert_eq!(bytes.len(), LONGEST);

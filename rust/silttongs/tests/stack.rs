@@ -10,8 +10,9 @@ fn the_deepest_calls_fit_in_48_kib() {
     let run = || {
         let mut table = Table::fresh(vec![0; BYTES])?;
         table.fork(0)?;
-        for v in 0..4_096 {
-            table.update(0, 1, Kind::Penalty, 7, v)?;
+        for v in 1..=4_096 {
+            let kind = if v == 1 { Kind::Time } else { Kind::Penalty };
+            table.update(0, 1, kind, 7, v)?;
         }
         let standing = table.query(0, 1, 7)?;
         table.yield_(0)?;
@@ -22,5 +23,5 @@ fn the_deepest_calls_fit_in_48_kib() {
         Ok::<Standing, Refusal>(standing)
     };
     let thread = thread::Builder::new().stack_size(48 * 1024).spawn(run).unwrap();
-    assert_eq!(thread.join().unwrap(), Ok(Standing::Timed(4_095 * 4_096 / 2)));
+    assert_eq!(thread.join().unwrap(), Ok(Standing::Timed(4_096 * 4_097 / 2)));
 }
