@@ -70,14 +70,21 @@ fn sift(d: &[u8], r: Revision, base: usize, list: &[u16], out: &mut [u16], n: us
     m
 }
 
-// Of the own list of x what r inherited, the first `base` and those marked, goes behind the first n.
-fn add_some(d: &[u8], r: Revision, base: usize, x: Revision, out: &mut [u16], n: usize) -> usize
-    requires { ⌜ (length (now d) ≡ bytes) × (inRange (now d) ≡ true) × (r .0 < revisions) × (x .0 < revisions) × (length (now out) ≡ updates) × (n ≤ updates) ⌝ }
+// Of the own list of x, which goes into `room`, what r inherited, the first `base` and those marked, goes behind the first n.
+fn add_some(
+    d: &[u8],
+    r: Revision,
+    base: usize,
+    x: Revision,
+    room: &mut [u16],
+    out: &mut [u16],
+    n: usize,
+) -> usize
+    requires { ⌜ (length (now d) ≡ bytes) × (inRange (now d) ≡ true) × (r .0 < revisions) × (x .0 < revisions) × (length (now room) ≡ updates) × (length (now out) ≡ updates) × (n ≤ updates) ⌝ }
     ensures { λ m. ⌜ Added (now (out .entry)) n (picks base (marked (cells (now (d .entry))) (r .0)) (own (cells (now (d .entry))) (x .0))) (now (out .exit)) m ⌝ }
 {
-    let mut list = links::room();
-    let many = links::own_list(d, x, &mut list);
-    sift(d, r, base, &list[..many], out, n)
+    let many = links::own_list(d, x, room);
+    sift(d, r, base, &room[..many], out, n)
 }
 
 // How many of the first entries of x's list r inherited by count.
@@ -119,9 +126,9 @@ fn place_of(d: &[u8], r: Revision) -> usize
     j
 }
 
-// What r inherited from the revisions behind place j, from the left.
-fn add_left(d: &[u8], r: Revision, j: usize, out: &mut [u16]) -> usize
-    requires { ⌜ (length (now d) ≡ bytes) × (inRange (now d) ≡ true) × (r .0 < revisions) × (j ≤ revisions) × (length (now out) ≡ updates) ⌝ }
+// What r inherited from the revisions behind place j, from the left. One room does for all lists.
+fn add_left(d: &[u8], r: Revision, j: usize, room: &mut [u16], out: &mut [u16]) -> usize
+    requires { ⌜ (length (now d) ≡ bytes) × (inRange (now d) ≡ true) × (r .0 < revisions) × (j ≤ revisions) × (length (now room) ≡ updates) × (length (now out) ≡ updates) ⌝ }
     ensures { λ m. ⌜ Added (now (out .entry)) 0 (flatBack (inherited (cells (now (d .entry))) (r .0)) (drop (j + 1) (outs (cells (now (d .entry)))))) (now (out .exit)) m ⌝ }
 {
     let mut i = read::out(d);
@@ -130,7 +137,7 @@ fn add_left(d: &[u8], r: Revision, j: usize, out: &mut [u16]) -> usize
         i -= 1;
         let x = at_place(d, i);
         let base = base_in(d, r, x);
-        m = add_some(d, r, base, x, out, m);
+        m = add_some(d, r, base, x, room, out, m);
     }
     m
 }
@@ -141,7 +148,8 @@ pub fn list(d: &[u8], r: Revision, out: &mut [u16]) -> usize
     ensures { λ n. ⌜ (n ≡ length (order (cells (now (d .entry))) (r .0))) × (now (out .exit) ≡ order (cells (now (d .entry))) (r .0) ++ drop n (now (out .entry))) ⌝ }
 {
     let j = place_of(d, r);
-    let m = add_left(d, r, j, out);
+    let mut room = links::room();
+    let m = add_left(d, r, j, &mut room, out);
     let n = read::count(d, r);
-    add_some(d, r, n, r, out, m)
+    add_some(d, r, n, r, &mut room, out, m)
 }
