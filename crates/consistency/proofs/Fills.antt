@@ -17,7 +17,7 @@ use Rattle.cells.proofs.Range.{ranges}
 use Rattle.table.specs.Halves.{bytes, low}
 use Rattle.table.specs.Calls.{freshOut, fillOut}
 use Rattle.consistency.specs.Table.{Request, onPaper, calls, repliesOn, replies, tableAfter}
-use Rattle.consistency.specs.Fills.{accepted, codesIn, fillSum, FillsAddUpOnDays}
+use Rattle.consistency.specs.Fills.{acceptedUpdates, codesIn, fillSum, FillsAddUpOnDays}
 use Rattle.consistency.proofs.Table.Stands.{Stands, bytes-are}
 use Rattle.consistency.proofs.Table.Calls.{fill-same}
 use Rattle.consistency.proofs.Table.Follows.{fresh-stands, stands-after, table-follows}
@@ -43,11 +43,11 @@ module _ (t : List ℕ) (h : length t ≡ bytes) (qs : List Request) where
   unfolding nextNumber
   few = let a = bytes-are p left S .follow .same-number in let b = ranges (low left) (bytes-are p left S .ranged) .most-given in omega arith
 
-  history : accepted qs (repliesOn (freshOut t .lent) qs) ≡ acceptedIn (calls qs) (codesOf (answers (calls qs)))
+  history : acceptedUpdates qs (repliesOn (freshOut t .lent) qs) ≡ acceptedIn (calls qs) (codesOf (answers (calls qs)))
   unfolding answers
-  history = ap (accepted qs) (table-follows t h .2 qs) ∙ ap (acceptedIn (calls qs)) (same-codes qs freshDay)
+  history = ap (acceptedUpdates qs) (table-follows t h .2 qs) ∙ ap (acceptedIn (calls qs)) (same-codes qs freshDay)
 
-  summed : fillSum left ≡ accepted qs (repliesOn (freshOut t .lent) qs)
+  summed : fillSum left ≡ acceptedUpdates qs (repliesOn (freshOut t .lent) qs)
   unfolding p
   summed =
       sum-same revisions _ (λ n. called p (Paper.Fill n) .answer .value) (λ n l. fill-same p left S n .own)
@@ -55,7 +55,7 @@ module _ (t : List ℕ) (h : length t ≡ bytes) (qs : List Request) where
       ∙ Plain.fills-add-up (calls qs) .sum
       ∙ sym history
 
-  told : (n : ℕ) → fillOut left n .code ≡ 0 → fillOut left n .total ≡ accepted qs (repliesOn (freshOut t .lent) qs)
+  told : (n : ℕ) → fillOut left n .code ≡ 0 → fillOut left n .total ≡ acceptedUpdates qs (repliesOn (freshOut t .lent) qs)
   unfolding p
   told n e = let f = fill-same p left S n in f .total ∙ Plain.fills-add-up (calls qs) .total n (sym (f .code) ∙ e) ∙ sym history
 

@@ -20,14 +20,14 @@ abbrev pub codesIn : List Reply → List ℕ
 codesIn [] = []
 codesIn (r ∷ rs) = r .code ∷ codesIn rs
 
-abbrev pub accepted : List Request → List Reply → ℕ
-accepted qs rs = acceptedIn (calls qs) (codesIn rs)
+abbrev pub acceptedUpdates : List Request → List Reply → ℕ
+acceptedUpdates qs rs = acceptedIn (calls qs) (codesIn rs)
 
 pub record FillsAddUp (t : List ℕ) (qs : List Request) : Type 0 where
-  pub sum : fillSum (tableAfter (freshOut t .lent) qs) ≡ accepted qs (repliesOn (freshOut t .lent) qs)
+  pub sum : fillSum (tableAfter (freshOut t .lent) qs) ≡ acceptedUpdates qs (repliesOn (freshOut t .lent) qs)
   -- "the number taken by the whole table" is the same number, whichever box is asked
   pub total : (n : ℕ) → fillOut (tableAfter (freshOut t .lent) qs) n .code ≡ 0
-      → fillOut (tableAfter (freshOut t .lent) qs) n .total ≡ accepted qs (repliesOn (freshOut t .lent) qs)
+      → fillOut (tableAfter (freshOut t .lent) qs) n .total ≡ acceptedUpdates qs (repliesOn (freshOut t .lent) qs)
 
 abbrev pub FillsAddUpOnDays : Type 0
 FillsAddUpOnDays = (t : List ℕ) → length t ≡ bytes → (qs : List Request) → FillsAddUp t qs
