@@ -2,14 +2,11 @@
 use Prim.Native.Nat.{ℕ, _*_, _/_, _%_}
 use mathlib.Core.List.{List, [], _∷_, _++_}
 use lib.ListN.{length, drop}
+use Rattle.records.specs.Numbers.{word}
 use Rattle.updates.specs.Kinds.{kindNumber}
 use Rattle.entries.specs.declared.entry.Entry.{Entry}
 
--- four bytes, "least significant byte first"
-abbrev pub word : ℕ → List ℕ
-word x = x % 256 ∷ x / 256 % 256 ∷ x / 65536 % 256 ∷ x / 16777216 ∷ []
-
--- "kind (1 byte), tablet (1), bib (2), v (4), update's number (4)"
+-- "kind (1 byte), tablet (1), bib (2), v (4), update's number (4), least significant byte first"
 unfoldable pub line : Entry → ℕ → List ℕ
 line e n = kindNumber (e .kind) ∷ e .client ∷ e .bib % 256 ∷ e .bib / 256 ∷ (word (e .v) ++ word n)
 

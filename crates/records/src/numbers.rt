@@ -10,7 +10,7 @@ fn wide(x: u8) -> u64
     x as u64
 }
 
-pub(crate) fn read(p: &[u8]) -> u64
+pub fn read(p: &[u8]) -> u64
     requires { ⌜ length (now p) ≤ 4 ⌝ }
     ensures { λ r. ⌜ (r ≡ number (now (p .entry))) × (r < 256 ^ length (now (p .entry))) ⌝ }
 {
