@@ -31,7 +31,7 @@ was-taken (no k) e = absurd (omega arith)
 was-taken (yes h) e = h
 
 module _ {p : PlainDay} {Yes : Outcome → Type 0} where
-  by-check : (b : Bool) (k : ℕ) (rest : Outcome) → (b ≡ false → Ends p Yes rest) → Ends p Yes (check b (suc (suc k)) p rest)
+  pub by-check : (b : Bool) (k : ℕ) (rest : Outcome) → (b ≡ false → Ends p Yes rest) → Ends p Yes (check b (suc (suc k)) p rest)
   by-check true k rest f = no k
   by-check false k rest f = f refl
 

@@ -1,11 +1,14 @@
 -- The theorem: every list of calls has one line-up.
 use Prim.Native.Nat.{_<_, suc, zero, ℕ}
-use mathlib.Core.Bool.{false}
+use mathlib.Core.Bool.{false, true}
 use mathlib.Core.Path.{_∙_, _≡_, ap, refl, subst, sym}
 use mathlib.Core.Option.{Option, none, some}
 use mathlib.Core.List.{List, List·Memᴰ·head, List·Memᴰ·tail, [], _++_, _∷_, append-assoc, append-nil}
 use native.Mathlib.Omega.{arith}
 use lib.ListN.{length}
+use Rattle.bundles.specs.declared.entry.Entry as Sent
+use Rattle.bundles.proofs.First.{first-entry}
+use Rattle.bundles.specs.Records.{entriesIn, entryAt}
 use Rattle.diagram.proofs.Days.Accepting.{meant-low}
 use Rattle.diagram.proofs.Days.Moves.{step-moves}
 use Rattle.diagram.proofs.Graph.Visible.{visible}
@@ -19,15 +22,18 @@ use Rattle.diagram.specs.Checks.{busy}
 use Rattle.diagram.specs.Construction.{entered}
 use Rattle.diagram.specs.Day.{Day, IsOut, meant}
 use Rattle.diagram.specs.Effects.{entry, number, view}
+use Rattle.diagram.specs.Steps as Steps
 use Rattle.diagram.specs.Steps.{Accepted, AcceptedFrom, Event, Step, after, run, runFrom}
 use Rattle.lists.proofs.Blocks.{flat-from}
 use Rattle.lists.proofs.Changed.{changed-same}
 use Rattle.lists.specs.Lists.{_∈_}
+use Rattle.plain.proofs.Bundles.{bundle-ends, sent-parts, update-number}
 use Rattle.plain.proofs.Ends.{QueryTaken, ShowTaken, UpdateTaken, query-ends, show-ends, update-ends, was-taken}
 use Rattle.plain.proofs.Steps.{day-both, did, ran, steps-both}
-use Rattle.plain.specs.Taken.{ifTaken, onRevision, stepOf, stepsAfter, stepsFrom, stepsOf}
+use Rattle.plain.specs.Taken.{bundleSteps, ifTaken, onRevision, stepOf, stepsAfter, stepsFrom, stepsOf}
 use Rattle.plain.specs.Answers.{called, dayAfter, dayFrom, shown, stepped}
-use Rattle.plain.specs.Calls.{Call, Entry, Fill, Fork, Join, Query, Show, Update, Yield}
+use Rattle.plain.specs.Calls.{Bundle, Call, Entry, Fill, Fork, Join, Query, Show, Update, Yield}
+use Rattle.plain.specs.Bundles.{AllTaken, Bundled, parts}
 use Rattle.plain.specs.LineUp.{Answers, GrowsEach, LineUp, Lists, Taken, endOf}
 use Rattle.plain.specs.Record.{PlainDay, freshDay, linesOf, noted, ofBib, pathResult, standingOf}
 use Rattle.updates.specs.Applied.{applied, freshStanding}
@@ -61,10 +67,11 @@ same : (cs : List Call) → endOf cs ≡ run (stepsAfter cs)
 unfolding dayAfter run
 same cs = ran cs freshDay .same
 
--- growth at each call
+-- growth at each call: no step, one, or those of a bundle
 data Short : List Step → Type 0 where
   none-of : Short []
   one-of : (s : Step) → Short (s ∷ [])
+  sent-of : (c r : ℕ) (es : List Sent.Entry) → Short (bundleSteps c r es)
 
 short-on : (o : Option ℕ) (f : ℕ → List Step) → ((r : ℕ) → Short (f r)) → Short (onRevision o f)
 short-on none f h = none-of
@@ -78,15 +85,31 @@ short-step p (Fork n) = short-on (meant (p .day) n) _ (λ r. one-of _)
 short-step p (Join n m) = short-on (meant (p .day) n) _ (λ a. short-on (meant (p .day) m) _ (λ b. one-of _))
 short-step p (Show n room) = none-of
 short-step p (Fill n) = none-of
+short-step p (Bundle c n records) = short-on (meant (p .day) n) _ (λ r. sent-of c r (entriesIn records))
 
 short-if : (k : ℕ) (ss : List Step) → Short ss → Short (ifTaken k ss)
 short-if zero ss h = h
 short-if (suc k) ss h = none-of
 
+-- an event leaves every revision out that was, so that growth goes on through a bundle
+out-after : (y : Day) (c r s : ℕ) → IsOut y s → IsOut (after y (Event c r true)) s
+unfolding after
+out-after y c r s o = o
+
+extends-sent : (c r : ℕ) (es : List Sent.Entry) (y : Day) → Fine y → AcceptedFrom y (bundleSteps c r es) → Extends y (runFrom y (bundleSteps c r es))
+unfolding runFrom
+extends-sent c r [] y F P s o q = extends y (after y (Steps.Yield c)) F (step-moves y (Steps.Yield c) (P .0)) s o q
+extends-sent c r (e ∷ es) y F P s o q =
+    let z = after y (Event c r true) in
+    let a = extends y z F (step-moves y (Event c r true) (P .0)) s o (out-after y c r s o) in
+    let b = extends-sent c r es z (fine-step y (Event c r true) (P .0) F) (P .1) s (out-after y c r s o) q in
+    (a .0 ++ b .0, b .1 ∙ ap (λ l. l ++ b .0) (a .1) ∙ append-assoc (view (y .diagram) (y .terminal s)) (a .0) (b .0))
+
 extends-short : (y : Day) → Fine y → {ss : List Step} → Short ss → AcceptedFrom y ss → Extends y (runFrom y ss)
 unfolding runFrom
 extends-short y F none-of P = λ r o q. ([], sym (append-nil _))
 extends-short y F (one-of s) P = extends y (after y s) F (step-moves y s (P .0))
+extends-short y F (sent-of c r es) P = extends-sent c r es y F P
 
 grows-from : (cs : List Call) (p : PlainDay) → Fine (p .day) → GrowsEach p cs
 grows-from [] p F = tt
@@ -216,6 +239,21 @@ module _ (cs : List Call) where
       same-kind : h .kind ≡ kind
       same-kind = let g = h .is-kind in cc
 
+  bundles : (before rest : List Call) (c n : ℕ) (records : List ℕ) → Taken cs before (Bundle c n records) rest → Bundled before c n records
+  bundles before rest c n records T =
+      let q = dayAfter before in
+      let h = was-taken (bundle-ends q c n records) (T .code) in
+      let s = sent-parts c n (h .revision) (entriesIn records) q (h .means) (h .all) in
+      let f = first-entry records (h .right) in
+      let e = entryAt records 0 in
+      let first = subst (λ es. AllTaken q (parts c n es)) (f .1) (s .0) .0 in
+      record {
+        right = h .right;
+        each = s .0;
+        day = ap (λ o. o .next) (h .is) ∙ s .1;
+        value = ap (λ o. o .answer .value) (h .is) ∙ update-number q c n (e .kind) (e .bib) (e .v) first;
+      }
+
   pub lined-up : LineUp cs
   lined-up = record {
     steps = same cs;
@@ -229,6 +267,7 @@ module _ (cs : List Call) where
     updates-once = rw e (A .updates-once);
     updates-all = λ n. rw e (A .updates-all n);
     noted = noted-is;
+    bundles = bundles;
     after-seen = rw e (A .after-seen);
     queries = queries;
     visible = rw e (A .listed);

@@ -5,14 +5,16 @@ use mathlib.Core.Path.{_∙_, _≡_, ap, refl, subst, sym}
 use mathlib.Core.Option.{Option, none, some}
 use mathlib.Core.List.{List, [], _++_, _∷_, append-assoc}
 use native.Mathlib.Omega.{arith}
+use Rattle.bundles.specs.Records.{entriesIn}
 use Rattle.diagram.proofs.Order.Runs.{accepted-both, run-both}
 use Rattle.diagram.specs.Day.{Day, meant}
 use Rattle.diagram.specs.Steps.{AcceptedFrom, Event, Step, accepted, after, runFrom, yield}
 use Rattle.lists.proofs.Changed.{changed-other}
 use Rattle.plain.proofs.Ends.{Ends, fill-ends, fork-ends, join-ends, no, query-ends, show-ends, update-ends, yes, yield-ends}
+use Rattle.plain.proofs.Bundles.{RanTo, bundle-ends, bundle-ran}
 use Rattle.plain.specs.Answers.{Outcome, called, dayFrom, stepped, taken}
-use Rattle.plain.specs.Calls.{Answer, Call, Fill, Fork, Join, Query, Show, Update, Yield}
-use Rattle.plain.specs.Taken.{ifTaken, onRevision, stepOf, stepsFrom, stepsOf}
+use Rattle.plain.specs.Calls.{Answer, Bundle, Call, Fill, Fork, Join, Query, Show, Update, Yield}
+use Rattle.plain.specs.Taken.{bundleSteps, ifTaken, onRevision, stepOf, stepsFrom, stepsOf}
 use Rattle.plain.specs.Record.{PlainDay, noted}
 use Rattle.updates.specs.declared.kind.Kind.{Kind}
 use Rattle.diagram.specs.Steps as Steps
@@ -50,6 +52,9 @@ unfolding runFrom
 did-note p c r kind bib v value o a e =
     rw e (record { accepts = (a, tt); same = refl; more = more-after (p .day) (Event c r true); kept = λ n h. changed-other (p .entries) (p .day .updates) _ n (λ q. omega arith) })
 
+did-ran : (p : PlainDay) (ss : List Step) (many : ℕ) (o : Outcome) → o .answer .code ≡ 0 → RanTo p (o .next) ss many → Did p o ss
+did-ran p ss many o z R = rw z (record { accepts = R .accepts; same = R .same; more = (let m = R .more in omega arith); kept = R .kept })
+
 pub did : (p : PlainDay) (c : Call) → Did p (called p c) (stepOf p c)
 unfolding runFrom
 did p (Update c n k bib v) = did-end (λ o h. subst (λ m. Did p o (onRevision m (λ r. Event c r true ∷ []))) (sym (h .step .means)) (did-note p c (h .step .revision) (h .kind) bib v (p .day .updates) o (h .step .accepts) (h .is))) (update-ends p c n k bib v)
@@ -61,6 +66,9 @@ did p (Join n m) =
     (join-ends p n m)
 did p (Show n room) = did-end (λ o h. rw (h .is) (record { accepts = tt; same = refl; more = omega arith; kept = λ i q. refl })) (show-ends p n room)
 did p (Fill n) = did-end (λ o h. rw (h .is) (record { accepts = tt; same = refl; more = omega arith; kept = λ i q. refl })) (fill-ends p n)
+did p (Bundle c n records) =
+    did-end (λ o h. subst (λ m. Did p o (onRevision m (λ r. bundleSteps c r (entriesIn records)))) (sym (h .means)) (did-ran p _ _ o (ap (λ z. z .answer .code) (h .is)) (bundle-ran p c n records o h)))
+    (bundle-ends p c n records)
 
 -- whole lists of calls
 pub record Ran (p : PlainDay) (cs : List Call) : Type 0 where

@@ -5,7 +5,7 @@ use mathlib.Core.Bool.{Bool, false, cond, not, _||_}
 use mathlib.Core.Option.{Option, none, some}
 use mathlib.Core.List.{List, [], _∷_}
 use lib.ListN.{length}
-use lib.Dec.{ltb}
+use lib.Dec.{eqb, ltb}
 use Rattle.updates.specs.declared.kind.Kind.{Kind}
 use Rattle.updates.specs.declared.kind.KindCheck.{KindCheck}
 use Rattle.updates.specs.declared.kind.KindCheck.the-variants.{Known, Unknown}
@@ -13,12 +13,14 @@ use Rattle.updates.specs.declared.standing.Standing.{Standing}
 use Rattle.updates.specs.declared.standing.State.the-variants as state
 use Rattle.updates.specs.Kinds.{kindCheck}
 use Rattle.updates.specs.Effect.{stateOf, valueIn}
+use Rattle.bundles.specs.declared.entry.Entry.{Entry}
+use Rattle.bundles.specs.Records.{entriesIn, isWrong}
 use Rattle.diagram.specs.Effects.{own, view}
 use Rattle.diagram.specs.Day.{meant, nextNumber}
 use Rattle.diagram.specs.Checks.{unknownClient, openElsewhere, busyByOther, busy, stale, logFull, noneLeft, notJoinable}
 use Rattle.diagram.specs.Steps as Steps
 use Rattle.diagram.specs.Steps.{after}
-use Rattle.plain.specs.Calls.{Call, Update, Query, Yield, Fork, Join, Show, Fill, Answer}
+use Rattle.plain.specs.Calls.{Call, Update, Query, Yield, Fork, Join, Show, Fill, Bundle, Answer}
 use Rattle.plain.specs.Record.{PlainDay, freshDay, pathResult, linesOf, noted}
 
 pub record Outcome : Type 0 where
@@ -66,9 +68,9 @@ named (Known kind) p rest = rest kind
 abbrev pub stepped : PlainDay → Steps.Step → PlainDay
 stepped p s = record { day = after (p .day) s; entries = p .entries }
 
-unfoldable pub called : PlainDay → Call → Outcome
 -- "Update: 1 to 9"; its value: "the count of updates taken before it"
-called p (Update c n k bib v) =
+abbrev pub updated : PlainDay → ℕ → ℕ → ℕ → ℕ → ℕ → Outcome
+updated p c n k bib v =
     check (unknownClient c) 2 p (
     given (meant (p .day) n) p (λ r.
     check (p .day .joined r) 4 p (
@@ -79,6 +81,27 @@ called p (Update c n k bib v) =
     check (stale (p .day) c r) 8 p (
     check (logFull (p .day)) 9 p (
     taken (noted p c r kind bib v) (p .day .updates))))))))))
+
+-- "Yield: 1, 2"; value 0
+abbrev pub yielded : PlainDay → ℕ → Outcome
+yielded p c =
+    check (unknownClient c) 2 p (
+    taken (stepped p (Steps.Yield c)) 0)
+
+-- 02, U4: "sending the updates one by one and then a yield"; the first that is refused ends it
+abbrev pub afterTaken : Outcome → (PlainDay → Outcome) → Outcome
+afterTaken o rest = cond (eqb (o .answer .code) 0) (rest (o .next)) o
+
+unfoldable pub sent : PlainDay → ℕ → ℕ → List Entry → Outcome
+sent p c n [] = yielded p c
+sent p c n (e ∷ es) = afterTaken (updated p c n (e .kind) (e .bib) (e .v)) (λ q. sent q c n es)
+
+-- "If any of them would be refused, the code of the earliest is given"; "The value is the first entry's number."
+abbrev pub bundled : PlainDay → Outcome → Outcome
+bundled p o = cond (eqb (o .answer .code) 0) (taken (o .next) (p .day .updates)) (refused p (o .answer .code))
+
+unfoldable pub called : PlainDay → Call → Outcome
+called p (Update c n k bib v) = updated p c n k bib v
 -- "Query: 1 to 8 (of 5, the bib only)"; its state and value: the path-result of its vertex
 called p (Query c n bib) =
     check (unknownClient c) 2 p (
@@ -89,10 +112,7 @@ called p (Query c n bib) =
     check (busyByOther (p .day) c r) 7 p (
     check (stale (p .day) c r) 8 p (
     answered (stepped p (Steps.Event c r false)) (pathResult (stepped p (Steps.Event c r false)) (length (p .day .diagram)) bib))))))))
--- "Yield: 1, 2"; value 0
-called p (Yield c) =
-    check (unknownClient c) 2 p (
-    taken (stepped p (Steps.Yield c)) 0)
+called p (Yield c) = yielded p c
 -- "Fork: 1, 3, 4, 7, 10"; its value: "the new number"
 called p (Fork n) =
     given (meant (p .day) n) p (λ r.
@@ -122,6 +142,10 @@ called p (Fill n) =
     given (meant (p .day) n) p (λ r.
     check (p .day .joined r) 4 p (
     told p (length (own (p .day .diagram) (p .day .terminal r))) (p .day .updates)))
+-- 02, U4, bundle: 14 "checked right after 1", then all checks of its first entry, then of the next
+called p (Bundle c n records) =
+    check (isWrong records) 14 p (
+    bundled p (sent p c n (entriesIn records)))
 
 -- the day after a list of calls, each getting it "as the last one left it"; and what they answer
 unfoldable pub dayFrom : PlainDay → List Call → PlainDay

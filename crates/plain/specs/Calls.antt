@@ -1,4 +1,4 @@
--- The calls of a day and what they answer with: 01, "Codes of the desk" and "Listing a box"; 02, U1 and U2.
+-- The calls of a day and what they answer with: 01, "Codes of the desk" and "Listing a box"; 02, U1, U2 and U4.
 use Prim.Native.Nat.{ℕ}
 use mathlib.Core.List.{List}
 use Rattle.updates.specs.declared.kind.Kind.{Kind}
@@ -13,6 +13,7 @@ pub data Call : Type 0 where
   Join : (joiner joinee : ℕ) → Call
   Show : (revision room : ℕ) → Call
   Fill : (revision : ℕ) → Call
+  Bundle : (client revision : ℕ) (records : List ℕ) → Call
 
 -- an update as it was entered
 pub record Entry : Type 0 where

@@ -1,9 +1,9 @@
--- 01, "Edges of a race day": the starred edges E1 to E9 as one table of calls with what each gives; and 02, U1 to U3.
+-- 01, "Edges of a race day": the starred edges E1 to E9 as one table of calls with what each gives; and 02, U1 to U4.
 use Prim.Native.Nat.{ℕ}
-use mathlib.Core.List.{List, [], _∷_}
+use mathlib.Core.List.{List, [], _∷_, _++_}
 use Rattle.updates.specs.declared.standing.State.{State}
 use Rattle.updates.specs.declared.standing.State.the-variants as state
-use Rattle.plain.specs.Calls.{Call, Update, Query, Yield, Fork, Join, Show, Fill, Answer}
+use Rattle.plain.specs.Calls.{Call, Update, Query, Yield, Fork, Join, Show, Fill, Bundle, Answer}
 use Rattle.plain.specs.Answers.{answers}
 
 -- what a call gives
@@ -47,6 +47,13 @@ penalty = 3
 
 abbrev strike : ℕ
 strike = 4
+
+-- a record of a bundle, of small numbers, and one of bib 1,000. The client and the number in it are not looked at.
+abbrev pub small : ℕ → ℕ → ℕ → List ℕ
+small kind bib v = kind ∷ 99 ∷ bib ∷ 0 ∷ v ∷ 0 ∷ 0 ∷ 0 ∷ 7 ∷ 7 ∷ 7 ∷ 7 ∷ []
+
+abbrev pub strange : List ℕ
+strange = time ∷ 0 ∷ 232 ∷ 3 ∷ 5 ∷ 0 ∷ 0 ∷ 0 ∷ 0 ∷ 0 ∷ 0 ∷ 0 ∷ []
 
 abbrev pub edges : List Edge
 edges =
@@ -115,6 +122,16 @@ codes =
     ∷ Yield 1 ∷ Yield 2 ∷ Join 1 2 ∷ Fill 1 ∷ Fill 2 ∷ Join 0 1 ∷ Fill 0 ∷ Fill 1 ∷ [])
     (ok 0 ∷ ok 0 ∷ ok 1 ∷ ok 2 ∷ ok 1 ∷ ok 2 ∷ ok 1 ∷ ok 1 ∷ ok 1 ∷ no 3
     ∷ ok 0 ∷ ok 0 ∷ ok 1 ∷ ok 2 ∷ no 4 ∷ ok 2 ∷ ok 3 ∷ no 4 ∷ [])
+    -- bundle (02, U4): an open transaction is continued and closed; the value is the first entry's number
+    ∷ edge
+    (Update 0 0 time 8 9 ∷ Bundle 0 0 (small time 7 50 ++ small earliest 7 40 ++ small strike 8 1) ∷ Fork 0 ∷ Query 1 0 7 ∷ Query 1 0 8 ∷ Fill 0 ∷ Bundle 0 1 (small time 7 1) ∷ [])
+    (ok 0 ∷ ok 1 ∷ ok 1 ∷ timed 40 ∷ struck ∷ ok 4 ∷ ok 4 ∷ [])
+    -- 14 before 2; then all checks of the first entry, 5 of it before 7, then of the next; the earliest refusal is given and nothing is taken
+    ∷ edge
+    (Bundle 16 9 [] ∷ Bundle 16 9 (1 ∷ small time 7 5) ∷ Bundle 16 9 (small time 7 5) ∷ Bundle 0 9 strange ∷ Bundle 0 0 (small time 7 5 ++ small 5 7 5 ++ small time 7 5)
+    ∷ Bundle 0 0 (small time 7 5 ++ strange) ∷ Fill 0 ∷ Query 1 0 7 ∷ Bundle 0 0 (strange ++ small time 7 5) ∷ Bundle 0 0 (small time 7 5 ++ strange) ∷ Bundle 1 0 (small time 7 5) ∷ Bundle 0 0 (small time 7 6) ∷ [])
+    (no 14 ∷ no 14 ∷ no 2 ∷ no 3 ∷ no 5
+    ∷ no 5 ∷ ok 0 ∷ neither ∷ no 5 ∷ no 7 ∷ ok 0 ∷ ok 1 ∷ [])
     ∷ edge (Update 0 0 time 7 5 ∷ Update 0 0 time 8 6 ∷ Query 0 0 7 ∷ Query 0 0 8 ∷ Query 0 0 9 ∷ []) (ok 0 ∷ ok 1 ∷ timed 5 ∷ timed 6 ∷ neither ∷ [])
     ∷ []
 

@@ -5,8 +5,10 @@ use mathlib.Core.Bool.{cond}
 use mathlib.Core.Path.{_≡_}
 use mathlib.Core.List.{List, [], _∷_}
 use lib.Dec.{eqb}
+use lib.ListN.{length}
 use Rattle.lists.specs.Sums.{sumBelow}
-use Rattle.plain.specs.Calls.{Call, Update, Query, Yield, Fork, Join, Show, Fill, Answer}
+use Rattle.bundles.specs.Records.{entriesIn}
+use Rattle.plain.specs.Calls.{Call, Update, Query, Yield, Fork, Join, Show, Fill, Bundle, Answer}
 use Rattle.plain.specs.Record.{PlainDay}
 use Rattle.plain.specs.Answers.{called, dayAfter, answers}
 
@@ -14,7 +16,8 @@ use Rattle.plain.specs.Answers.{called, dayAfter, answers}
 abbrev pub fillSum : PlainDay → ℕ
 fillSum p = sumBelow (p .day .revisions) (λ n. called p (Fill n) .answer .value)
 
--- the history: the calls and the codes of their answers. An update with code 0 was accepted.
+-- the history: the calls and the codes of their answers. An update with code 0 was accepted, and of a bundle with
+-- code 0 each of its updates.
 abbrev pub countsOne : Call → ℕ → ℕ
 countsOne (Update c n k bib v) code = cond (eqb code 0) 1 0
 countsOne (Query c n bib) code = 0
@@ -23,6 +26,7 @@ countsOne (Fork n) code = 0
 countsOne (Join n m) code = 0
 countsOne (Show n room) code = 0
 countsOne (Fill n) code = 0
+countsOne (Bundle c n records) code = cond (eqb code 0) (length (entriesIn records)) 0
 
 unfoldable pub acceptedIn : List Call → List ℕ → ℕ
 acceptedIn [] codes = 0

@@ -17,10 +17,11 @@ use Rattle.diagram.specs.Day.{Day, IsOut, meant}
 use Rattle.diagram.specs.Steps.{Accepted, run}
 use Rattle.diagram.specs.Witness.{Witness}
 use Rattle.diagram.specs.Arbitration.{IsEvent, eventsOf, Sees, SeesTransaction, Shows, WholeAt, Extends}
-use Rattle.plain.specs.Calls.{Call, Update, Query, Show, Answer}
+use Rattle.plain.specs.Calls.{Call, Update, Query, Show, Bundle, Answer}
 use Rattle.plain.specs.Record.{PlainDay, freshDay, standingOf, linesOf}
 use Rattle.plain.specs.Answers.{called, dayAfter}
 use Rattle.plain.specs.Taken.{stepsAfter}
+use Rattle.plain.specs.Bundles.{Bundled}
 
 -- the day of revisions after a list of calls
 abbrev pub endOf : List Call → Day
@@ -66,6 +67,8 @@ pub record LineUp (cs : List Call) : Type 0 where
   pub updates-all : (n : ℕ) → (n ∈ numbers (endOf cs .diagram) (flat (eventsOf (endOf cs)) order)) ↔ (n < endOf cs .updates)
   pub noted : (before rest : List Call) (c r k bib v : ℕ) (kind : Kind) → Taken cs before (Update c r k bib v) rest → kindCheck k ≡ Known kind
       → dayAfter cs .entries (called (dayAfter before) (Update c r k bib v) .answer .value) ≡ record { kind = kind; client = c; bib = bib; v = v }
+  -- 02, U4: a bundle is its updates and a yield
+  pub bundles : (before rest : List Call) (c n : ℕ) (records : List ℕ) → Taken cs before (Bundle c n records) rest → Bundled before c n records
   -- 00: "each stands after all others that it sees"
   pub after-seen : (s t : ℕ) → s < endOf cs .transactions → t < endOf cs .transactions → (s ≡ t → ⊥) → SeesTransaction (endOf cs) t s → (s ∷ t ∷ []) ⊑ order
   -- "A taken query answers as its bib stands after the updates it sees, and no others, are applied to the fresh values, each

@@ -3,10 +3,12 @@ use Prim.Native.Nat.{ℕ, zero, suc}
 use mathlib.Core.Bool.{false, true}
 use mathlib.Core.Option.{Option, none, some}
 use mathlib.Core.List.{List, [], _∷_, _++_}
+use Rattle.bundles.specs.declared.entry.Entry.{Entry}
+use Rattle.bundles.specs.Records.{entriesIn}
 use Rattle.diagram.specs.Day.{meant}
 use Rattle.diagram.specs.Steps as Steps
 use Rattle.diagram.specs.Steps.{Step, Event}
-use Rattle.plain.specs.Calls.{Call, Update, Query, Yield, Fork, Join, Show, Fill}
+use Rattle.plain.specs.Calls.{Call, Update, Query, Yield, Fork, Join, Show, Fill, Bundle}
 use Rattle.plain.specs.Record.{PlainDay, freshDay}
 use Rattle.plain.specs.Answers.{called}
 
@@ -14,6 +16,11 @@ use Rattle.plain.specs.Answers.{called}
 abbrev pub onRevision : Option ℕ → (ℕ → List Step) → List Step
 onRevision none f = []
 onRevision (some r) f = f r
+
+-- 02, U4: a bundle is its updates and a yield
+abbrev pub bundleSteps : ℕ → ℕ → List Entry → List Step
+bundleSteps c r [] = Steps.Yield c ∷ []
+bundleSteps c r (e ∷ es) = Event c r true ∷ bundleSteps c r es
 
 abbrev pub stepOf : PlainDay → Call → List Step
 stepOf p (Update c n k bib v) = onRevision (meant (p .day) n) (λ r. Event c r true ∷ [])
@@ -23,6 +30,7 @@ stepOf p (Fork n) = onRevision (meant (p .day) n) (λ r. Steps.Fork r ∷ [])
 stepOf p (Join n m) = onRevision (meant (p .day) n) (λ a. onRevision (meant (p .day) m) (λ b. Steps.Join a b ∷ []))
 stepOf p (Show n room) = []
 stepOf p (Fill n) = []
+stepOf p (Bundle c n records) = onRevision (meant (p .day) n) (λ r. bundleSteps c r (entriesIn records))
 
 -- the steps of a call that ended with a code: none if it was refused
 abbrev pub ifTaken : ℕ → List Step → List Step
