@@ -13,7 +13,7 @@ use Rattle.plain.specs.Calls.{Call, Entry, Line, Answer}
 use Rattle.plain.specs.Answers.{answers}
 use Rattle.table.specs.Halves.{bytes}
 use Rattle.table.specs.Answers.{Out}
-use Rattle.table.specs.Calls.{freshOut, updateOut, queryOut, yieldOut, forkOut, joinOut, listOut, fillOut}
+use Rattle.table.specs.Calls.{freshOut, updateOut, queryOut, yieldOut, forkOut, joinOut, listOut, fillOut, bundleOut}
 use Rattle.table.specs.declared.fill.Level.{Level}
 
 -- a call as it is made at a table: a list has the bytes of its sheet
@@ -25,6 +25,7 @@ pub data Request : Type 0 where
   Join : (joiner joinee : ℕ) → Request
   Show : (revision : ℕ) (sheet : List ℕ) → Request
   Fill : (revision : ℕ) → Request
+  Bundle : (client revision : ℕ) (records : List ℕ) → Request
 
 -- the same call on paper: "(of a sheet only the length)"
 abbrev pub onPaper : Request → Call
@@ -35,6 +36,7 @@ onPaper (Fork n) = Paper.Fork n
 onPaper (Join n m) = Paper.Join n m
 onPaper (Show n sheet) = Paper.Show n (length sheet)
 onPaper (Fill n) = Paper.Fill n
+onPaper (Bundle c n records) = Paper.Bundle c n records
 
 abbrev pub calls : List Request → List Call
 calls [] = []
@@ -71,6 +73,7 @@ served t (Fork n) = onTable (forkOut t n)
 served t (Join n m) = onTable (joinOut t n m)
 served t (Show n sheet) = onSheet t (listOut t n sheet)
 served t (Fill n) = onLevel t (fillOut t n)
+served t (Bundle c n records) = onTable (bundleOut t c n records)
 
 -- the replies of a table to a list of calls, each getting it as the last one left it
 unfoldable pub repliesOn : List ℕ → List Request → List Reply
@@ -103,6 +106,7 @@ sheetAfter (Fork n) a = []
 sheetAfter (Join n m) a = []
 sheetAfter (Show n sheet) a = sheetWith (a .lines) sheet
 sheetAfter (Fill n) a = []
+sheetAfter (Bundle c n records) a = []
 
 abbrev pub said : Request → Answer → Reply
 said q a = record { code = a .code; state = a .state; value = a .value; total = a .total; sheet = sheetAfter q a }

@@ -2,6 +2,7 @@
 use Prim.Native.Nat.{ℕ}
 use mathlib.Core.Bool.{Bool, cond}
 use mathlib.Core.List.{List}
+use lib.Dec.{eqb}
 use Rattle.updates.specs.declared.kind.Kind.{Kind}
 use Rattle.updates.specs.declared.standing.Standing.{Standing}
 use Rattle.updates.specs.declared.standing.State.{State}
@@ -32,6 +33,10 @@ answered lent s = record { code = 0; state = stateOf s; value = valueIn s; lent 
 -- a check that applies ends the call
 abbrev pub check : Bool → ℕ → List ℕ → Out → Out
 check applies code lent rest = cond applies (refused lent code) rest
+
+-- goes on with the bytes that a call left, where it was taken; a refusal ends it
+abbrev pub afterTaken : Out → (List ℕ → Out) → Out
+afterTaken o rest = cond (eqb (o .code) 0) (rest (o .lent)) o
 
 -- 5: "update kind not 1 to 4"
 abbrev pub named : KindCheck → List ℕ → (Kind → Out) → Out

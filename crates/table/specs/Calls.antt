@@ -1,9 +1,11 @@
 -- Each call, check by check in 01's order: 01, "Codes of the desk". A list has its sheet lent; the table is only read.
 use Prim.Native.Nat.{ℕ, _*_}
 use mathlib.Core.Bool.{Bool, not, cond, _||_}
-use mathlib.Core.List.{List, _++_}
+use mathlib.Core.List.{List, [], _∷_, _++_}
 use lib.Dec.{eqb, ltb}
 use lib.ListN.{length, replicate}
+use Rattle.bundles.specs.declared.entry.Entry.{Entry}
+use Rattle.bundles.specs.Records.{entriesIn, isWrong}
 use Rattle.updates.specs.Kinds.{kindCheck}
 use Rattle.cells.specs.Cells.{Cells}
 use Rattle.cells.specs.Order.{order}
@@ -15,7 +17,7 @@ use Rattle.entries.specs.Entries.{entryAt, wrote}
 use Rattle.entries.specs.Folded.{standingOf}
 use Rattle.listing.specs.Lines.{sheet}
 use Rattle.table.specs.Halves.{bytes, low, high, cellsOf, isTable}
-use Rattle.table.specs.Answers.{Out, taken, answered, check, named}
+use Rattle.table.specs.Answers.{Out, refused, taken, answered, check, named, afterTaken}
 use Rattle.updates.specs.declared.standing.Standing.{Standing}
 use Rattle.table.specs.declared.fill.Level.{Level}
 
@@ -120,3 +122,20 @@ fillIn k n =
 -- "Checks: 1, 3, 4"
 unfoldable pub fillOut : List ℕ → ℕ → Level
 fillOut t n = cond (not (isTable t)) (noFill 1) (fillIn (cellsOf t) n)
+
+-- 02, U4: "sending the updates one by one and then a yield"; the first that is refused ends it
+unfoldable pub sentOut : List ℕ → ℕ → ℕ → List Entry → Out
+sentOut t c n [] = yieldOut t c
+sentOut t c n (e ∷ es) = afterTaken (updateOut t c n (e .kind) (e .bib) (e .v)) (λ d. sentOut d c n es)
+
+-- "If any of them would be refused, the code of the earliest is given and the table keeps every byte"; "The value is the first
+-- entry's number."
+abbrev pub settled : List ℕ → Out → Out
+settled t o = cond (eqb (o .code) 0) (taken (o .lent) (cellsOf t .updates)) (refused t (o .code))
+
+-- "14 wrong bundle, ..; checked right after 1"
+unfoldable pub bundleOut : List ℕ → ℕ → ℕ → List ℕ → Out
+bundleOut t c n records =
+    check (not (isTable t)) 1 t (
+    check (isWrong records) 14 t (
+    settled t (sentOut t c n (entriesIn records))))
