@@ -11,3 +11,4 @@ pub mod FollowFork
 pub mod FollowFresh
 pub mod Range
 pub mod Example
+pub mod Entered

@@ -4,7 +4,7 @@ use mathlib.Core.Bool.{true}
 use mathlib.Core.Path.{_≡_}
 use mathlib.Core.List.{List}
 use lib.Dec.{eqb, ltb}
-use borrow.Author.Tests.{eq-eqb, lt-ltb, ltb-true}
+use borrow.Author.Tests.{eq-eqb, eqb-true, lt-ltb, ltb-true}
 use native.Mathlib.Omega.{arith}
 use Rattle.lists.proofs.Cases.{and-true}
 use Rattle.cells.specs.Sizes.{revisions, clients, updates}
@@ -43,36 +43,7 @@ counters-in t e =
     let d = and-true (ltb 0 (byte t 3)) (ltb (byte t 3) 65) (c .1) in
     (ltb-true _ _ (a .0), ltb-true _ _ (b .0), ltb-true _ _ (c .0), ltb-true _ _ (d .0), ltb-true _ _ (d .1))
 
-pub parts-ranges : (p : Parts) → partsIn p ≡ true → Ranges (decode p)
-parts-ranges p e =
-    let a = and-true (bytesBelow revisions 3 (p statePart)) _ e in
-    let b = and-true (bytesBelow revisions 2 (p usedPart)) _ (a .1) in
-    let c = and-true (wordsBelow revisions 4096 (p lastPart)) _ (b .1) in
-    let d = and-true (wordsBelow revisions 4096 (p firstPart)) _ (c .1) in
-    let f = and-true (wordsBelow revisions 4097 (p countPart)) _ (d .1) in
-    let g = and-true (wordsBelow revisions 4097 (p basePart)) _ (f .1) in
-    let h = and-true (bytesBelow revisions 64 (p layoutPart)) _ (g .1) in
-    let i = and-true (bytesBelow revisions 64 (p queuePart)) _ (h .1) in
-    let j = and-true (bytesBelow clients 65 (p openedPart)) _ (i .1) in
-    let m = counters-in (p countersPart) (and-true (countersIn (p countersPart)) (signed (p signaturePart)) (j .1) .0) in
-    record {
-      last = word-below revisions 4096 (p lastPart) (c .0);
-      first = word-below revisions 4096 (p firstPart) (d .0);
-      count = λ r l. let z = word-below revisions 4097 (p countPart) (f .0) r l in omega arith;
-      base = λ r l. let z = word-below revisions 4097 (p basePart) (g .0) r l in omega arith;
-      layout = byte-below revisions 64 (p layoutPart) (h .0);
-      taken = let z = m .0 in omega arith;
-      some-out = m .1;
-      most-out = let z = m .2 in omega arith;
-      some-given = m .3;
-      most-given = let z = m .4 in omega arith;
-    }
-
-pub ranges : (d : List ℕ) → inRange d ≡ true → Ranges (cells d)
-unfolding inRange cells
-ranges d e = parts-ranges (split d) e
-
--- the other way: cells in their ranges pass the check
+-- every cell in its range
 pub record Kept (p : Parts) : Type 0 where
   pub state : (r : ℕ) → r < revisions → byte (p statePart) r < 3
   pub used : (r : ℕ) → r < revisions → byte (p usedPart) r < 2
@@ -86,6 +57,53 @@ pub record Kept (p : Parts) : Type 0 where
   pub counters : (word (p countersPart) 0 < 4097) × (0 < byte (p countersPart) 2) × (byte (p countersPart) 2 < 65) × (0 < byte (p countersPart) 3) × (byte (p countersPart) 3 < 65)
   pub signature : (i : ℕ) → i < 8 → byte (p signaturePart) i ≡ byte signature i
 
+pub parts-kept : (p : Parts) → partsIn p ≡ true → Kept p
+parts-kept p e =
+    let a = and-true (bytesBelow revisions 3 (p statePart)) _ e in
+    let b = and-true (bytesBelow revisions 2 (p usedPart)) _ (a .1) in
+    let c = and-true (wordsBelow revisions 4096 (p lastPart)) _ (b .1) in
+    let d = and-true (wordsBelow revisions 4096 (p firstPart)) _ (c .1) in
+    let f = and-true (wordsBelow revisions 4097 (p countPart)) _ (d .1) in
+    let g = and-true (wordsBelow revisions 4097 (p basePart)) _ (f .1) in
+    let h = and-true (bytesBelow revisions 64 (p layoutPart)) _ (g .1) in
+    let i = and-true (bytesBelow revisions 64 (p queuePart)) _ (h .1) in
+    let j = and-true (bytesBelow clients 65 (p openedPart)) _ (i .1) in
+    let m = and-true (countersIn (p countersPart)) (signed (p signaturePart)) (j .1) in
+    record {
+      state = byte-below revisions 3 (p statePart) (a .0);
+      used = byte-below revisions 2 (p usedPart) (b .0);
+      last = word-below revisions 4096 (p lastPart) (c .0);
+      first = word-below revisions 4096 (p firstPart) (d .0);
+      count = word-below revisions 4097 (p countPart) (f .0);
+      base = word-below revisions 4097 (p basePart) (g .0);
+      layout = byte-below revisions 64 (p layoutPart) (h .0);
+      queue = byte-below revisions 64 (p queuePart) (i .0);
+      opened = byte-below clients 65 (p openedPart) (j .0);
+      counters = counters-in (p countersPart) (m .0);
+      signature = λ n l. eqb-true _ _ (every-at (λ i. eqb (byte (p signaturePart) i) (byte signature i)) 8 n (m .1) l);
+    }
+
+pub parts-ranges : (p : Parts) → partsIn p ≡ true → Ranges (decode p)
+parts-ranges p e =
+    let k = parts-kept p e in
+    record {
+      last = k .last;
+      first = k .first;
+      count = λ r l. let z = k .count r l in omega arith;
+      base = λ r l. let z = k .base r l in omega arith;
+      layout = k .layout;
+      taken = let z = k .counters .0 in omega arith;
+      some-out = k .counters .1;
+      most-out = let z = k .counters .2 in omega arith;
+      some-given = k .counters .3;
+      most-given = let z = k .counters .4 in omega arith;
+    }
+
+pub ranges : (d : List ℕ) → inRange d ≡ true → Ranges (cells d)
+unfolding inRange cells
+ranges d e = parts-ranges (split d) e
+
+-- the other way: cells in their ranges pass the check
 pub kept-in : (p : Parts) → Kept p → partsIn p ≡ true
 kept-in p h =
     rw (

@@ -1,5 +1,5 @@
 -- Case splits that keep the equation of the test, and what a disjunction of tests says.
-use mathlib.Core.Bool.{Bool, true, false, _||_, _&&_, false≢true}
+use mathlib.Core.Bool.{Bool, true, false, cond, _||_, _&&_, false≢true}
 use mathlib.Core.Path.{_≡_, refl, sym}
 use mathlib.Core.Logic.{_⊎_, inl, inr}
 
@@ -12,6 +12,11 @@ split false = inr refl
 pub cases : {C : Type 0} (b : Bool) → (b ≡ true → C) → (b ≡ false → C) → C
 cases true f g = f refl
 cases false f g = g refl
+
+-- what holds of both holds of the one that a test picks
+pub cond-all : {A : Type 0} (P : A → Type 0) (b : Bool) (x y : A) → P x → P y → P (cond b x y)
+cond-all P true x y h g = h
+cond-all P false x y h g = g
 
 pub either : {A B C : Type 0} → A ⊎ B → (A → C) → (B → C) → C
 either (inl a) f g = f a

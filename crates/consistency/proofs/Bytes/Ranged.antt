@@ -8,6 +8,7 @@ use native.Mathlib.Omega.{arith}
 use lib.Dec.{ltb}
 use lib.ListN.{take}
 use Rattle.lists.specs.Lists.{_∈_}
+use Rattle.lists.proofs.Cases.{cond-all}
 use Rattle.lists.proofs.Places.{getD-in}
 use Rattle.diagram.specs.Day.{Day}
 use Rattle.machine.specs.Machine.{Machine}
@@ -17,7 +18,7 @@ use Rattle.cells.specs.Words.{byte}
 use Rattle.cells.specs.Decode.{cells}
 use Rattle.cells.specs.Range.{inRange}
 use Rattle.cells.proofs.Range.{kept-in}
-use Rattle.consistency.proofs.Cells.Bounded.{Bounded, cond-all}
+use Rattle.consistency.proofs.Cells.Bounded.{Bounded}
 use Rattle.consistency.proofs.Cells.Kept.{Kept, some-given}
 use Rattle.consistency.proofs.Cells.Represents.{Represents, openCell}
 use Rattle.consistency.proofs.Bytes.Stored.{HiddenIn}

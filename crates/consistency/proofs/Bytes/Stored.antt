@@ -6,7 +6,7 @@ use mathlib.Core.List.{List}
 use native.Mathlib.Omega.{arith}
 use lib.Dec.{eqb}
 use lib.ListN.{getD-replicate, length, set}
-use Rattle.lists.proofs.Cases.{cases}
+use Rattle.lists.proofs.Cases.{cases, cond-all}
 use Rattle.diagram.specs.Sizes.{clientLimit}
 use Rattle.diagram.specs.Day.{Day}
 use Rattle.machine.specs.Machine.{Machine}
@@ -27,7 +27,6 @@ use Rattle.cells.proofs.Parts.{glue-length, split-glue, split-sized}
 use Rattle.cells.proofs.Sized.{close-sized, fork-sized, fresh-sized, join-sized, query-sized, update-sized}
 use Rattle.cells.proofs.Tables.{getD-changed}
 use Rattle.consistency.specs.Reached.{stepBytes, stepCells}
-use Rattle.consistency.proofs.Cells.Bounded.{cond-all}
 use Rattle.consistency.proofs.Cells.Kept.{Kept, log-room, low, number-left, some-given}
 
 -- ranges that the decoded cells do not show: whether a row is in use, the queue, the signature

@@ -1,13 +1,13 @@
 -- Every cell that a step writes stays in its range.
 use Prim.Native.Nat.{_+_, _≤_, _<_, ℕ}
-use mathlib.Core.Bool.{Bool, cond, false, true}
 use mathlib.Core.Path.{refl}
 use mathlib.Core.List.{List·Memᴰ·append-cases, List·Memᴰ·eq-of-singleton, [], _++_, _∷_}
 use native.Mathlib.Omega.{arith}
 use lib.Dec.{eqb}
 use borrow.Author.Tests.{eq-eqb}
 use Rattle.lists.specs.Lists.{_∈_, changed, insert, remove}
-use Rattle.lists.proofs.Cases.{cases, either}
+use Rattle.lists.proofs.Cases.{cond-all, either}
+use Rattle.lists.proofs.Changed.{changed-at}
 use Rattle.lists.proofs.Places.{insert-back, remove-back, replicate-in, take-in}
 use Rattle.machine.specs.Machine.{Machine}
 use Rattle.cells.specs.Sizes.{main, revisions, updates}
@@ -25,11 +25,7 @@ pub record Bounded (k : Cells) : Type 0 where
 
 -- what holds of each value still does when one that has it is put in
 changed-all : (P : ℕ → Type 0) (f : ℕ → ℕ) (a v : ℕ) → ((r : ℕ) → P (f r)) → P v → (r : ℕ) → P (changed f a v r)
-changed-all P f a v h g r = cases (eqb r a) (λ e. rw e g) (λ e. rw e (h r))
-
-pub cond-all : {A : Type 0} (P : A → Type 0) (b : Bool) (x y : A) → P x → P y → P (cond b x y)
-cond-all P true x y h g = h
-cond-all P false x y h g = g
+changed-all P f a v h g r = changed-at P f a v r (h r) g
 
 -- the own count of a revision out is no more than the log
 out-count : (k : Cells) (m : Machine) → Represents k m → Laid m → (r : ℕ) → r ∈ m .layout → k .count r ≤ updates
