@@ -1,0 +1,21 @@
+-- `bundles::record::put` meets its contract: the record's twelve bytes are lent and come back written. Assumes nothing.
+use borrow.Author.Needs.{needs}
+use Rattle.bundles.proofs.Written.{lent-record}
+use Rattle.bundles.proofs.record.put.Statement.{statement}
+use Rattle.bundles.proofs.record.put.Tie as tie
+
+returns : tie.Need-returns
+returns c = let s = c .before .before .before .before .before .args in lent-record (s .b .now) _ _ (s .i) (c .before .before .write .ensures)
+
+pub put-spec : {M : Type 1} → statement M
+put-spec =
+    tie.close
+    (tie.spec
+    (λ c. search needs)
+    (λ c. search needs)
+    (λ c. search needs)
+    (λ c. search needs)
+    (λ c. search needs)
+    (λ c κs. search needs)
+    (λ c. search needs)
+    returns)

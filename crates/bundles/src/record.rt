@@ -1,0 +1,56 @@
+// A record of a bundle read as an entry, and an entry put as a record.
+ghost use mathlib.Core.Path.{_≡_};
+ghost use Prim.Native.Nat.{_*_, _+_, _≤_};
+ghost use lib.ListN.{length};
+ghost use Rattle.bundles.specs.Records.{entryAt, entryIn, recordOf, withRecord};
+use crate::entry::Entry;
+use records::numbers::read;
+
+// The record's client and number are not looked at.
+fn decode(p: &[u8]) -> Entry
+    requires { ⌜ length (now p) ≡ 12 ⌝ }
+    ensures { λ e. ⌜ e ≡ entryIn (now (p .entry)) ⌝ }
+{
+    let bib = read(&p[2..4]) as u16;
+    let v = read(&p[4..8]) as u32;
+    Entry { kind: p[0], bib, v }
+}
+
+pub fn entry_at(b: &[u8], i: usize) -> Entry
+    requires { ⌜ 12 * i + 12 ≤ length (now b) ⌝ }
+    ensures { λ e. ⌜ e ≡ entryAt (now (b .entry)) i ⌝ }
+{
+    let at = 12 * i;
+    let end = at + 12;
+    decode(&b[at..end])
+}
+
+fn write(p: &mut [u8], e: Entry)
+    requires { ⌜ length (now p) ≡ 12 ⌝ }
+    ensures { λ _. ⌜ now (p .exit) ≡ recordOf e ⌝ }
+{
+    let bib = e.bib;
+    let v = e.v;
+    p[0] = e.kind;
+    p[1] = 0;
+    p[2] = (bib % 256) as u8;
+    p[3] = (bib / 256) as u8;
+    p[4] = (v % 256) as u8;
+    p[5] = (v / 256 % 256) as u8;
+    p[6] = (v / 65536 % 256) as u8;
+    p[7] = (v / 16777216) as u8;
+    p[8] = 0;
+    p[9] = 0;
+    p[10] = 0;
+    p[11] = 0;
+}
+
+// Record i becomes the entry's; the other bytes stay.
+pub fn put(b: &mut [u8], i: usize, e: Entry)
+    requires { ⌜ 12 * i + 12 ≤ length (now b) ⌝ }
+    ensures { λ _. ⌜ now (b .exit) ≡ withRecord (now (b .entry)) i e ⌝ }
+{
+    let at = 12 * i;
+    let end = at + 12;
+    write(&mut b[at..end], e);
+}
