@@ -1,0 +1,161 @@
+// The call bundle (02, U4): updates of one client on one revision, then its yield. All that can refuse is known before the first write.
+ghost use mathlib.Core.Bool.{true};
+ghost use mathlib.Core.Path.{_≡_};
+ghost use Prim.Native.Nat.{_*_, _<_, _≤_};
+ghost use lib.ListN.{length};
+ghost use Rattle.cells.specs.Range.{inRange};
+ghost use Rattle.cells.specs.Sizes.{clients, revisions, updates};
+ghost use Rattle.bundles.specs.Records.{entriesFrom};
+ghost use Rattle.table.specs.Halves.{bytes, cellsOf, isTable, low};
+ghost use Rattle.table.specs.Answers.{left};
+ghost use Rattle.table.specs.Calls.{bundleOut, sentOut, settled};
+ghost use Rattle.entering.specs.Bundles.{Going, entered, enteredAll, entryCheck, fitCheck, ownCheck, sentCheck};
+ghost use Rattle.entering.specs.declared.bundle.FitCheck.the-variants as fit;
+use bundles::check::BundleCheck;
+use bundles::check::check_bundle;
+use bundles::entry::Entry;
+use bundles::record::entry_at;
+use crate::update::UpdateCheck;
+use crate::update::check_update;
+use crate::update::put;
+use crate::yields::close;
+use fields::read;
+use fields::table::Client;
+use fields::table::Revision;
+use table::answer::Answer;
+use table::bib;
+use table::bib::BibCheck;
+use table::sound;
+use table::sound::TableCheck;
+use updates::kind;
+use updates::kind::KindCheck;
+
+// Whether the table takes what comes next.
+pub enum FitCheck {
+    Fits,
+    Refused(u8),
+}
+
+// 5 of an entry.
+fn check_entry(number: u8, n: u16) -> KindCheck
+    ensures { λ r. ⌜ r ≡ entryCheck number n ⌝ }
+{
+    let BibCheck::Known = bib::check_bib(n) else {
+        return KindCheck::Unknown;
+    };
+    kind::check(number)
+}
+
+// 1 of the call after an update that made an own list longer than the log: on no day.
+fn check_own(own: usize) -> FitCheck
+    ensures { λ r. ⌜ r ≡ ownCheck own ⌝ }
+{
+    if 4096 < own {
+        return FitCheck::Refused(1);
+    }
+    FitCheck::Fits
+}
+
+// 1, 5 and 9 of an entry, with so many updates taken, so many of them the revision's own.
+fn check_fit(number: u8, n: u16, taken: usize, own: usize) -> FitCheck
+    ensures { λ r. ⌜ r ≡ fitCheck number n taken own ⌝ }
+{
+    let found = check_own(own);
+    let FitCheck::Fits = found else {
+        return found;
+    };
+    let KindCheck::Known(_k) = check_entry(number, n) else {
+        return FitCheck::Refused(5);
+    };
+    if taken < 4096 {
+        return FitCheck::Fits;
+    }
+    FitCheck::Refused(9)
+}
+
+// The earliest refusal of the updates, and of the yield behind them.
+fn check_sent(b: &[u8], n: usize, taken: usize, own: usize) -> FitCheck
+    requires { ⌜ (12 * n ≤ length (now b)) × (n ≤ 64) × (taken ≤ updates) × (own ≤ updates) ⌝ }
+    ensures { λ r. ⌜ r ≡ sentCheck (entriesFrom (now (b .entry)) 0 n) taken own ⌝ }
+{
+    let mut i: usize = 0;
+    while i < n {
+        let e = entry_at(b, i);
+        let found = check_fit(e.kind, e.bib, taken + i, own + i);
+        let FitCheck::Fits = found else {
+            return found;
+        };
+        i += 1;
+    }
+    check_own(own + n)
+}
+
+// An entry that the checks have passed.
+fn enter(t: &mut [u8], c: Client, r: Revision, e: Entry)
+    requires { ⌜ Going (now t) (c .0) (r .0) × (cellsOf (now t) .updates < updates) × (e .bib < 1000) ⌝ }
+    ensures { λ _. ⌜ now (t .exit) ≡ entered (now (t .entry)) (c .0) (r .0) e ⌝ }
+{
+    let KindCheck::Known(k) = kind::check(e.kind) else {
+        return;
+    };
+    put(t, c, r, k, e.bib, e.v);
+}
+
+// All of them.
+fn enter_all(t: &mut [u8], c: Client, r: Revision, b: &[u8], n: usize)
+    requires { ⌜ Going (now t) (c .0) (r .0) × (12 * n ≤ length (now b)) × (n ≤ 64) × (sentCheck (entriesFrom (now b) 0 n) (cellsOf (now t) .updates) (cellsOf (now t) .count (r .0)) ≡ fit.Fits) ⌝ }
+    ensures { λ _. ⌜ now (t .exit) ≡ enteredAll (now (t .entry)) (c .0) (r .0) (entriesFrom (now (b .entry)) 0 n) ⌝ }
+{
+    let mut i: usize = 0;
+    while i < n {
+        let e = entry_at(b, i);
+        enter(t, c, r, e);
+        i += 1;
+    }
+}
+
+// The updates and the yield, where the client may have its next event on the revision.
+fn send(t: &mut [u8], c: Client, r: Revision, b: &[u8], n: usize) -> Answer
+    requires { ⌜ Going (now t) (c .0) (r .0) × (12 * n ≤ length (now b)) × (n ≤ 64) ⌝ }
+    ensures { λ a. ⌜ left a (now (t .exit)) ≡ settled (now (t .entry)) (sentOut (now (t .entry)) (c .0) (r .0) (entriesFrom (now (b .entry)) 0 n)) ⌝ }
+{
+    let taken = read::updates(&t[0..40960]);
+    let own = read::count(&t[0..40960], r);
+    let found = check_sent(b, n, taken, own);
+    match found {
+        FitCheck::Refused(code) => Answer { code, value: 0 },
+        FitCheck::Fits => {
+            enter_all(t, c, r, b, n);
+            close(t, c);
+            Answer {
+                code: 0,
+                value: taken as u32,
+            }
+        }
+    }
+}
+
+// The call on bytes that are a table, and a bundle of n records. The first update has all its checks; the others go on from it.
+fn bundle_sound(t: &mut [u8], client: u8, revision: u8, b: &[u8], n: usize) -> Answer
+    requires { ⌜ (isTable (now t) ≡ true) × (length (now t) ≡ bytes) × (inRange (low (now t)) ≡ true) × (12 * n ≤ length (now b)) × (0 < n) × (n ≤ 64) ⌝ }
+    ensures { λ a. ⌜ left a (now (t .exit)) ≡ settled (now (t .entry)) (sentOut (now (t .entry)) client revision (entriesFrom (now (b .entry)) 0 n)) ⌝ }
+{
+    let e = entry_at(b, 0);
+    let found = check_update(&t[0..40960], client, revision, e.kind, e.bib);
+    match found {
+        UpdateCheck::Refused(code) => Answer { code, value: 0 },
+        UpdateCheck::Allowed(c, r, _k) => send(t, c, r, b, n),
+    }
+}
+
+pub fn bundle(t: &mut [u8], client: u8, revision: u8, records: &[u8]) -> Answer
+    ensures { λ a. ⌜ left a (now (t .exit)) ≡ bundleOut (now (t .entry)) client revision (now (records .entry)) ⌝ }
+{
+    let TableCheck::Sound = sound::check_table(t) else {
+        return Answer { code: 1, value: 0 };
+    };
+    let BundleCheck::Count(n) = check_bundle(records) else {
+        return Answer { code: 14, value: 0 };
+    };
+    bundle_sound(t, client, revision, records, n)
+}
