@@ -1,0 +1,3 @@
+-- What the checks of an update find.
+pub mod Checks
+pub mod Bundles
