@@ -62,11 +62,13 @@ module _ (d : List ℕ) (l : length d ≡ bytes) (i : inRange d ≡ true) (c r :
         layout = was .layout;
         queue = was .queue;
         opened = λ x xl. subst (λ n. n < 65) (sym (ap (λ k. k .opened x) follows)) (changed-at (λ n. n < 65) (decode p .opened) c r x (was .opened x xl) (omega arith));
-        counters = (subst (λ n. n < 4097) (sym (ap (λ k. k .updates) follows)) (omega arith),
-        subst (λ n. 0 < n) (sym (ap (λ k. k .out) follows)) (was .counters .1),
-        subst (λ n. n < 65) (sym (ap (λ k. k .out) follows)) (was .counters .2),
-        subst (λ n. 0 < n) (sym (ap (λ k. k .given) follows)) (was .counters .3),
-        subst (λ n. n < 65) (sym (ap (λ k. k .given) follows)) (was .counters .4));
+        counters = (
+          subst (λ n. n < 4097) (sym (ap (λ k. k .updates) follows)) (omega arith),
+          subst (λ n. 0 < n) (sym (ap (λ k. k .out) follows)) (was .counters .1),
+          subst (λ n. n < 65) (sym (ap (λ k. k .out) follows)) (was .counters .2),
+          subst (λ n. 0 < n) (sym (ap (λ k. k .given) follows)) (was .counters .3),
+          subst (λ n. n < 65) (sym (ap (λ k. k .given) follows)) (was .counters .4),
+        );
         signature = was .signature;
       }
 

@@ -11,14 +11,14 @@ ghost use Rattle.table.specs.Answers.{left};
 ghost use Rattle.table.specs.Calls.{bundleOut, sentOut, settled};
 ghost use Rattle.entering.specs.Bundles.{Going, entered, enteredAll, entryCheck, fitCheck, ownCheck, sentCheck};
 ghost use Rattle.entering.specs.declared.bundle.FitCheck.the-variants as fit;
-use bundles::check::BundleCheck;
-use bundles::check::check_bundle;
-use bundles::entry::Entry;
-use bundles::record::entry_at;
 use crate::update::UpdateCheck;
 use crate::update::check_update;
 use crate::update::put;
 use crate::yields::close;
+use bundles::check::BundleCheck;
+use bundles::check::check_bundle;
+use bundles::entry::Entry;
+use bundles::record::entry_at;
 use fields::read;
 use fields::table::Client;
 use fields::table::Revision;
@@ -64,7 +64,7 @@ fn check_fit(number: u8, n: u16, taken: usize, own: usize) -> FitCheck
     let FitCheck::Fits = found else {
         return found;
     };
-    let KindCheck::Known(_k) = check_entry(number, n) else {
+    let KindCheck::Known(k) = check_entry(number, n) else {
         return FitCheck::Refused(5);
     };
     if taken < 4096 {
@@ -116,7 +116,7 @@ fn enter_all(t: &mut [u8], c: Client, r: Revision, b: &[u8], n: usize)
 
 // The updates and the yield, where the client may have its next event on the revision.
 fn send(t: &mut [u8], c: Client, r: Revision, b: &[u8], n: usize) -> Answer
-    requires { ⌜ Going (now t) (c .0) (r .0) × (12 * n ≤ length (now b)) × (n ≤ 64) ⌝ }
+    requires { ⌜ Going (now t) (c .0) (r .0) × (length (now t) ≡ bytes) × (12 * n ≤ length (now b)) × (n ≤ 64) ⌝ }
     ensures { λ a. ⌜ left a (now (t .exit)) ≡ settled (now (t .entry)) (sentOut (now (t .entry)) (c .0) (r .0) (entriesFrom (now (b .entry)) 0 n)) ⌝ }
 {
     let taken = read::updates(&t[0..40960]);
@@ -144,7 +144,7 @@ fn bundle_sound(t: &mut [u8], client: u8, revision: u8, b: &[u8], n: usize) -> A
     let found = check_update(&t[0..40960], client, revision, e.kind, e.bib);
     match found {
         UpdateCheck::Refused(code) => Answer { code, value: 0 },
-        UpdateCheck::Allowed(c, r, _k) => send(t, c, r, b, n),
+        UpdateCheck::Allowed(c, r, k) => send(t, c, r, b, n),
     }
 }
 

@@ -1,0 +1,24 @@
+-- `entering::bundle::check_entry` meets its contract: the bib, then the kind. Assumes nothing.
+use mathlib.Core.Path.{sym, _∙_}
+use borrow.Author.Needs.{needs}
+use Rattle.table.proofs.Checks.{bib-known, bib-strange}
+use Rattle.entering.specs.Bundles.{entryCheck}
+use Rattle.entering.proofs.bundle.check_entry.Statement.{statement}
+use Rattle.entering.proofs.bundle.check_entry.Tie as tie
+
+returns : tie.Need-returns
+unfolding entryCheck
+returns c = rw (bib-strange _ (sym (c .before .before .check-bib .ensures) ∙ c .enum-told2 .given .1))
+
+returns-2 : tie.Need-returns-2
+unfolding entryCheck
+returns-2 c = rw (bib-known _ (sym (c .before .before .before .check-bib .ensures) ∙ c .before .enum-told .given .1)) (c .check .ensures)
+
+pub check-entry-spec : {M : Type 1} → statement M
+check-entry-spec = tie.close (tie.spec
+    (λ c κs. search needs)
+    (λ c. search needs)
+    (λ c. search needs)
+    returns
+    (λ c κs. search needs)
+    returns-2)
