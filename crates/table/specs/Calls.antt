@@ -17,7 +17,7 @@ use Rattle.listing.specs.Lines.{sheet}
 use Rattle.table.specs.Halves.{bytes, low, high, cellsOf, isTable}
 use Rattle.table.specs.Answers.{Out, taken, answered, check, named}
 use Rattle.updates.specs.declared.standing.Standing.{Standing}
-use Rattle.table.specs.declared.fill.Level.{Level}
+use Rattle.table.specs.declared.answer.Level.{Level}
 
 -- 5: "bib above 999"
 abbrev pub badBib : ℕ → Bool
