@@ -7,7 +7,8 @@ use lib.ListN.{length, replicate}
 use Rattle.bundles.specs.declared.entry.Entry.{Entry}
 use Rattle.bundles.specs.Records.{entriesIn, isWrong}
 use Rattle.updates.specs.Kinds.{kindCheck}
-use Rattle.cells.specs.Cells.{Cells}
+use Rattle.updates.specs.Effect.{stateOf, valueIn}
+use Rattle.cells.specs.Cells.{Cells, own}
 use Rattle.cells.specs.Order.{order}
 use Rattle.cells.specs.Checks.{isClient, givenOut, joined, openElsewhere, busy, busyByOther, stale, logFull, noneLeft, joinable}
 use Rattle.cells.specs.Steps.{freshBytes, updateBytes, queryBytes, closeBytes, forkBytes, joinBytes}
@@ -20,6 +21,8 @@ use Rattle.table.specs.Halves.{bytes, low, high, cellsOf, isTable}
 use Rattle.table.specs.Answers.{Out, refused, taken, answered, check, named, afterTaken}
 use Rattle.updates.specs.declared.standing.Standing.{Standing}
 use Rattle.table.specs.declared.answer.Level.{Level}
+use Rattle.updates.specs.declared.standing.State.the-variants.{Neither}
+use Rattle.table.specs.declared.answer.Prospect.{Prospect}
 
 -- 5: "bib above 999"
 abbrev pub badBib : ℕ → Bool
@@ -139,3 +142,21 @@ bundleOut t c n records =
     check (not (isTable t)) 1 t (
     check (isWrong records) 14 t (
     settled t (sentOut t c n (entriesIn records))))
+-- 02, U6: refusals are "with state neither and gain 0"
+abbrev pub noProspect : ℕ → Prospect
+noProspect code = record { code = code; state = Neither; value = 0; gain = 0 }
+
+-- the standing of a bib once m is joined into n: what is visible at n, then what the join brings, m's own updates
+unfoldable pub standingAfter : List ℕ → ℕ → ℕ → ℕ → Standing
+standingAfter t n m bib = standingOf (entryAt (high t)) bib (order (cellsOf t) n ++ own (cellsOf t) m)
+
+-- "the state and value at the joiner's line end and the gain"
+abbrev pub foreseen : Standing → ℕ → Prospect
+foreseen s gain = record { code = 0; state = stateOf s; value = valueIn s; gain = gain }
+
+-- "Refusals are those of the join, then 5 for the bib"
+unfoldable pub previewOut : List ℕ → ℕ → ℕ → ℕ → Prospect
+previewOut t n m bib =
+    cond (not (eqb (joinOut t n m .code) 0)) (noProspect (joinOut t n m .code)) (
+    cond (badBib bib) (noProspect 5) (
+    foreseen (standingAfter t n m bib) (joinOut t n m .value)))

@@ -19,3 +19,11 @@ pub struct Level {
     pub own: u16,
     pub total: u16,
 }
+
+// What a preview answers: how the bib will stand at the joiner, and the updates that the joiner will gain.
+pub struct Prospect {
+    pub code: u8,
+    pub state: State,
+    pub value: u32,
+    pub gain: u32,
+}
