@@ -3,4 +3,5 @@ pub mod Stands
 pub mod Values
 pub mod Same
 pub mod Calls
+pub mod Previews
 pub mod Follows

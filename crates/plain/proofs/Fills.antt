@@ -11,12 +11,12 @@ use Rattle.diagram.specs.Steps.{after}
 use Rattle.diagram.proofs.Days.Moves.{yield-updates}
 use Rattle.lists.proofs.Sums.{sum-same}
 use Rattle.diagram.proofs.Order.Counted.{own-adds-up}
-use Rattle.plain.specs.Calls.{Call, Update, Query, Yield, Fork, Join, Show, Fill}
+use Rattle.plain.specs.Calls.{Call, Update, Query, Yield, Fork, Join, Show, Fill, Preview}
 use Rattle.plain.specs.Record.{PlainDay, freshDay}
 use Rattle.plain.specs.Answers.{Outcome, called, dayFrom, dayAfter, answersFrom, answers}
 use Rattle.plain.specs.Fills.{countsOne, acceptedIn, codesOf, FillsAddUp}
 use Rattle.plain.specs.Taken.{stepsAfter}
-use Rattle.plain.proofs.Ends.{Ends, no, yes, was-taken, update-ends, query-ends, yield-ends, fork-ends, join-ends, show-ends, fill-ends}
+use Rattle.plain.proofs.Ends.{Ends, no, yes, was-taken, update-ends, query-ends, yield-ends, fork-ends, join-ends, show-ends, fill-ends, preview-ends}
 use Rattle.plain.proofs.LineUp.{lined-up}
 
 -- how many updates a call adds: what it counts
@@ -37,6 +37,7 @@ refused-none (Fork n) i = refl
 refused-none (Join n m) i = refl
 refused-none (Show n room) i = refl
 refused-none (Fill n) i = refl
+refused-none (Preview n m bib) i = refl
 
 adds-end : (p : PlainDay) {Yes : Outcome → Type 0} {o : Outcome} (c : Call) → ((o : Outcome) → Yes o → Adds p c o) → Ends p Yes o → Adds p c o
 adds-end p c g (no k) = none-more (p .day .updates) ∙ ap (λ i. p .day .updates + i) (sym (refused-none c k))
@@ -51,6 +52,7 @@ adds p (Fork n) = adds-end p (Fork n) (λ o h. rw (h .is) (none-more (p .day .up
 adds p (Join n m) = adds-end p (Join n m) (λ o h. rw (h .is) (none-more (p .day .updates))) (join-ends p n m)
 adds p (Show n room) = adds-end p (Show n room) (λ o h. rw (h .is) (none-more (p .day .updates))) (show-ends p n room)
 adds p (Fill n) = adds-end p (Fill n) (λ o h. rw (h .is) (none-more (p .day .updates))) (fill-ends p n)
+adds p (Preview n m bib) = adds-end p (Preview n m bib) (λ o h. rw (h .is) (none-more (p .day .updates))) (preview-ends p n m bib)
 
 counted-from : (cs : List Call) (p : PlainDay) → dayFrom p cs .day .updates ≡ p .day .updates + acceptedIn cs (codesOf (answersFrom p cs))
 unfolding dayFrom answersFrom acceptedIn

@@ -2,6 +2,7 @@
 pub mod Edges
 pub mod Ends
 pub mod Steps
+pub mod Previews
 pub mod LineUp
 pub mod Never
 pub mod Fills

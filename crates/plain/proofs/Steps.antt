@@ -9,9 +9,9 @@ use Rattle.diagram.proofs.Order.Runs.{accepted-both, run-both}
 use Rattle.diagram.specs.Day.{Day, meant}
 use Rattle.diagram.specs.Steps.{AcceptedFrom, Event, Step, accepted, after, runFrom, yield}
 use Rattle.lists.proofs.Changed.{changed-other}
-use Rattle.plain.proofs.Ends.{Ends, fill-ends, fork-ends, join-ends, no, query-ends, show-ends, update-ends, yes, yield-ends}
+use Rattle.plain.proofs.Ends.{Ends, fill-ends, fork-ends, join-ends, no, preview-ends, query-ends, show-ends, update-ends, yes, yield-ends}
 use Rattle.plain.specs.Answers.{Outcome, called, dayFrom, stepped, taken}
-use Rattle.plain.specs.Calls.{Answer, Call, Fill, Fork, Join, Query, Show, Update, Yield}
+use Rattle.plain.specs.Calls.{Answer, Call, Fill, Fork, Join, Preview, Query, Show, Update, Yield}
 use Rattle.plain.specs.Taken.{ifTaken, onRevision, stepOf, stepsFrom, stepsOf}
 use Rattle.plain.specs.Record.{PlainDay, noted}
 use Rattle.updates.specs.declared.kind.Kind.{Kind}
@@ -61,6 +61,7 @@ did p (Join n m) =
     (join-ends p n m)
 did p (Show n room) = did-end (λ o h. rw (h .is) (record { accepts = tt; same = refl; more = omega arith; kept = λ i q. refl })) (show-ends p n room)
 did p (Fill n) = did-end (λ o h. rw (h .is) (record { accepts = tt; same = refl; more = omega arith; kept = λ i q. refl })) (fill-ends p n)
+did p (Preview n m bib) = did-end (λ o h. rw (h .is) (record { accepts = tt; same = refl; more = omega arith; kept = λ i q. refl })) (preview-ends p n m bib)
 
 -- whole lists of calls
 pub record Ran (p : PlainDay) (cs : List Call) : Type 0 where

@@ -6,7 +6,7 @@ use mathlib.Core.Path.{_≡_}
 use mathlib.Core.List.{List, [], _∷_}
 use lib.Dec.{eqb}
 use Rattle.lists.specs.Sums.{sumBelow}
-use Rattle.plain.specs.Calls.{Call, Update, Query, Yield, Fork, Join, Show, Fill, Answer}
+use Rattle.plain.specs.Calls.{Call, Update, Query, Yield, Fork, Join, Show, Fill, Preview, Answer}
 use Rattle.plain.specs.Record.{PlainDay}
 use Rattle.plain.specs.Answers.{called, dayAfter, answers}
 
@@ -23,6 +23,7 @@ countsOne (Fork n) code = 0
 countsOne (Join n m) code = 0
 countsOne (Show n room) code = 0
 countsOne (Fill n) code = 0
+countsOne (Preview n m bib) code = 0
 
 unfoldable pub acceptedIn : List Call → List ℕ → ℕ
 acceptedIn [] codes = 0

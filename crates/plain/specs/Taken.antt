@@ -6,7 +6,7 @@ use mathlib.Core.List.{List, [], _∷_, _++_}
 use Rattle.diagram.specs.Day.{meant}
 use Rattle.diagram.specs.Steps as Steps
 use Rattle.diagram.specs.Steps.{Step, Event}
-use Rattle.plain.specs.Calls.{Call, Update, Query, Yield, Fork, Join, Show, Fill}
+use Rattle.plain.specs.Calls.{Call, Update, Query, Yield, Fork, Join, Show, Fill, Preview}
 use Rattle.plain.specs.Record.{PlainDay, freshDay}
 use Rattle.plain.specs.Answers.{called}
 
@@ -23,6 +23,7 @@ stepOf p (Fork n) = onRevision (meant (p .day) n) (λ r. Steps.Fork r ∷ [])
 stepOf p (Join n m) = onRevision (meant (p .day) n) (λ a. onRevision (meant (p .day) m) (λ b. Steps.Join a b ∷ []))
 stepOf p (Show n room) = []
 stepOf p (Fill n) = []
+stepOf p (Preview n m bib) = []
 
 -- the steps of a call that ended with a code: none if it was refused
 abbrev pub ifTaken : ℕ → List Step → List Step

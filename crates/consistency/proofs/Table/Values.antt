@@ -33,6 +33,10 @@ ofBib-is : (f : ℕ → Stored.Entry) (bib : ℕ) (ns : List ℕ) → Folded.ofB
 ofBib-is f bib [] = refl
 ofBib-is f bib (n ∷ ns) = rw (ofBib-is f bib ns)
 
+-- a bib's standing by entries that are stored as they were entered
+pub standing-same : (f : ℕ → Stored.Entry) (g : ℕ → Entry) (bib : ℕ) (ns ms : List ℕ) → ns ≡ ms → ((k : ℕ) → k ∈ ms → asEntered (f k) ≡ g k) → Folded.standingOf f bib ns ≡ Plain.standingOf g bib ms
+standing-same f g bib ns ms e h = ap (λ us. applied us freshStanding) (ap (Folded.ofBib f bib) e ∙ ofBib-is f bib ms ∙ ofBib-same _ g bib ms h)
+
 -- the lines in bytes, of the entries as they are stored and as they were entered
 inBytes-is : (f : ℕ → Stored.Entry) (ns : List ℕ) → inBytes (linesOf (λ n. asEntered (f n)) ns) ≡ lines f ns
 unfolding lines
@@ -48,18 +52,22 @@ module _ (p : PlainDay) (t : List ℕ) (S : Stands p t) (n r : ℕ) (m : meant (
   same-order = numbers-are p t S .number n r m .out o .same-order
 
   -- every number shown is that of an update taken
-  shown-low : (k : ℕ) → k ∈ view (p .day .diagram) (p .day .terminal r) → k < p .day .updates
+  pub shown-low : (k : ℕ) → k ∈ view (p .day .diagram) (p .day .terminal r) → k < p .day .updates
   shown-low = rw (S .day-is) (λ k i. view-low (S .steps) (S .ok) _ k (fine-run (S .steps) (S .ok) .sound .real .linked .bound r) i)
 
   entries-same : (k : ℕ) → k ∈ view (p .day .diagram) (p .day .terminal r) → asEntered (entryAt (high t) k) ≡ p .entries k
   entries-same k i = S .entries-are k (shown-low k i)
 
+  pub same-reading : (bib : ℕ) → Table.standingAt t n bib ≡ pathResult p (p .day .terminal r) bib
+  unfolding Table.standingAt
+  same-reading bib = standing-same (entryAt (high t)) (p .entries) bib _ _ same-order entries-same
+
   pub same-standing : (c bib : ℕ) → Table.standingAt t n bib ≡ pathResult (stepped p (Event c r false)) (length (p .day .diagram)) bib
-  unfolding Table.standingAt after
+  unfolding after
   same-standing c bib =
       let seen : view (event (p .day .terminal r) c none ∷ p .day .diagram) (length (p .day .diagram)) ≡ view (p .day .diagram) (p .day .terminal r)
       = tabulate-newest viewStep [] (event (p .day .terminal r) c none) (p .day .diagram) ∙ append-nil _ in
-      ap (λ us. applied us freshStanding) (ap (Folded.ofBib (entryAt (high t)) bib) same-order ∙ ofBib-is (entryAt (high t)) bib (view (p .day .diagram) (p .day .terminal r)) ∙ ofBib-same _ (p .entries) bib (view (p .day .diagram) (p .day .terminal r)) entries-same ∙ ap (Plain.ofBib (p .entries) bib) (sym seen))
+      same-reading bib ∙ ap (Plain.standingOf (p .entries) bib) (sym seen)
 
   lines-same : inBytes (linesOf (p .entries) (view (p .day .diagram) (p .day .terminal r))) ≡ lines (entryAt (high t)) (order (cellsOf t) n)
   lines-same =
