@@ -1,5 +1,5 @@
--- 02, U6, at a table: a preview is "equal to joining on a copy of the table and reading there". Claimed on a day as in demand 3: of
--- contents that no day made a preview answers from the cells as they are, and there the list that a join would leave may be another.
+-- 02, U6, at a table: a preview is "equal to joining on a copy of the table and reading there". Claimed on a day as in demand 3: on
+-- contents that no day made it answers from the cells as they are, and the list that a join there would leave may be another.
 use Prim.Native.Nat.{ℕ}
 use mathlib.Core.Bool.{cond, not}
 use mathlib.Core.Path.{_≡_}

@@ -1,4 +1,4 @@
--- The starred edges by computing, code 1, which does not arise, one line-up for every list of calls, and own updates that add up.
+-- The starred edges by computing, code 1, which does not arise, one line-up for every list of calls, previews, and own updates that add up.
 pub mod Edges
 pub mod Ends
 pub mod Steps

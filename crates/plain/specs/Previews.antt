@@ -8,7 +8,7 @@ use lib.ListN.{length}
 use Rattle.updates.specs.Effect.{stateOf, valueIn}
 use Rattle.diagram.specs.Effects.{own, view}
 use Rattle.diagram.specs.Day.{meant}
-use Rattle.plain.specs.Calls.{Call, Join, Answer}
+use Rattle.plain.specs.Calls.{Call, Query, Join, Answer}
 use Rattle.plain.specs.Record.{PlainDay, pathResult}
 use Rattle.plain.specs.Answers.{called, dayAfter}
 
@@ -34,3 +34,6 @@ pub record Foresees (before : List Call) (n m bib : ℕ) (answer : Answer) : Typ
   -- what is shown there: the updates visible at the joiner, then the joinee's own
   pub shown : view (joinedDay before n m .day .diagram) (joinVertex before)
       ≡ view (dayAfter before .day .diagram) (dayAfter before .day .terminal joiner) ++ own (dayAfter before .day .diagram) (dayAfter before .day .terminal joinee)
+  -- so a query of the joiner that is taken right after that join, whoever asks, would answer the same
+  pub query : (c : ℕ) → called (joinedDay before n m) (Query c n bib) .answer .code ≡ 0
+      → (called (joinedDay before n m) (Query c n bib) .answer .state ≡ answer .state) × (called (joinedDay before n m) (Query c n bib) .answer .value ≡ answer .value)

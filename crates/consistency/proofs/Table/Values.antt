@@ -2,16 +2,14 @@
 use Prim.Native.Nat.{ℕ, suc, _*_, _<_}
 use mathlib.Core.Bool.{false}
 use mathlib.Core.Path.{_≡_, refl, sym, _∙_, ap}
-use mathlib.Core.Option.{none, some}
-use mathlib.Core.List.{List, [], _∷_, _++_, append-nil}
+use mathlib.Core.Option.{some}
+use mathlib.Core.List.{List, [], _∷_, _++_}
 use lib.ListN.{length, drop}
 use Rattle.lists.specs.Lists.{_∈_}
 use Rattle.updates.specs.Applied.{applied, freshStanding}
-use Rattle.diagram.specs.Diagram.{event}
 use Rattle.diagram.specs.Day.{meant}
-use Rattle.diagram.specs.Effects.{view, viewStep}
-use Rattle.diagram.specs.Steps.{Event, after}
-use Rattle.diagram.proofs.Graph.Tables.{tabulate-newest}
+use Rattle.diagram.specs.Effects.{view}
+use Rattle.diagram.specs.Steps.{Event}
 use Rattle.diagram.proofs.Order.Runs.{fine-run}
 use Rattle.cells.specs.Order.{order}
 use Rattle.entries.specs.declared.entry.Entry as Stored
@@ -22,6 +20,7 @@ use Rattle.plain.specs.Calls.{Entry}
 use Rattle.plain.specs.Record as Plain
 use Rattle.plain.specs.Record.{PlainDay, linesOf, pathResult}
 use Rattle.plain.specs.Answers.{stepped}
+use Rattle.plain.proofs.Previews.{reads-terminal}
 use Rattle.plain.proofs.LineUp.{view-low, ofBib-same, linesOf-same}
 use Rattle.table.specs.Halves.{cellsOf, high}
 use Rattle.table.specs.Calls as Table
@@ -63,11 +62,7 @@ module _ (p : PlainDay) (t : List ℕ) (S : Stands p t) (n r : ℕ) (m : meant (
   same-reading bib = standing-same (entryAt (high t)) (p .entries) bib _ _ same-order entries-same
 
   pub same-standing : (c bib : ℕ) → Table.standingAt t n bib ≡ pathResult (stepped p (Event c r false)) (length (p .day .diagram)) bib
-  unfolding after
-  same-standing c bib =
-      let seen : view (event (p .day .terminal r) c none ∷ p .day .diagram) (length (p .day .diagram)) ≡ view (p .day .diagram) (p .day .terminal r)
-      = tabulate-newest viewStep [] (event (p .day .terminal r) c none) (p .day .diagram) ∙ append-nil _ in
-      same-reading bib ∙ ap (Plain.standingOf (p .entries) bib) (sym seen)
+  same-standing c bib = same-reading bib ∙ sym (reads-terminal p c r bib)
 
   lines-same : inBytes (linesOf (p .entries) (view (p .day .diagram) (p .day .terminal r))) ≡ lines (entryAt (high t)) (order (cellsOf t) n)
   lines-same =
