@@ -20,7 +20,7 @@ use Rattle.diagram.specs.Steps.{accepted}
 use Rattle.diagram.proofs.Days.Accepting.{meant-given, accept-event, accept-yield, accept-fork, accept-join}
 use Rattle.plain.specs.Calls.{Update, Query, Yield, Fork, Join, Show, Fill, Preview}
 use Rattle.plain.specs.Record.{PlainDay, pathResult, noted}
-use Rattle.plain.specs.Answers.{Outcome, refused, taken, answered, shown, told, foreseen, joining, check, given, badBib, named, stepped, called}
+use Rattle.plain.specs.Answers.{Outcome, refused, taken, answered, shown, told, foreseen, check, given, badBib, named, stepped, called}
 
 pub data Ends (p : PlainDay) (Yes : Outcome → Type 0) : Outcome → Type 0 where
   no : (k : ℕ) → Ends p Yes (refused p (suc (suc k)))

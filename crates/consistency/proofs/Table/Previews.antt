@@ -9,11 +9,9 @@ use lib.ListN.{length}
 use borrow.Author.Tests.{eqb-true, not-false}
 use Rattle.lists.specs.Lists.{_∈_}
 use Rattle.lists.proofs.Changed.{changed-other, changed-same}
-use Rattle.updates.specs.declared.standing.Standing.{Standing}
 use Rattle.updates.specs.Effect.{stateOf, valueIn}
 use Rattle.diagram.specs.Diagram.{join}
 use Rattle.diagram.specs.Day.{meant}
-use Rattle.diagram.specs.Effects as Effects
 use Rattle.diagram.specs.Effects.{view, viewStep}
 use Rattle.diagram.specs.Steps as Steps
 use Rattle.diagram.specs.Steps.{after}
@@ -29,10 +27,8 @@ use Rattle.plain.specs.Answers as Plain
 use Rattle.plain.specs.Answers.{Outcome, called, stepped}
 use Rattle.plain.proofs.Ends.{JoinTaken, join-ends, was-taken}
 use Rattle.table.specs.Halves.{cellsOf, high}
-use Rattle.table.specs.Answers.{Out}
 use Rattle.table.specs.Calls.{joinOut, noProspect, previewOut, standingAfter, standingAt}
 use Rattle.table.specs.declared.answer.Prospect.{Prospect}
-use Rattle.consistency.specs.Previews.{readThere}
 use Rattle.consistency.proofs.Table.Stands.{Stands, asEntered, bytes-are}
 use Rattle.consistency.proofs.Table.Calls.{join-same}
 use Rattle.consistency.proofs.Table.Values.{same-order, same-reading, shown-low, standing-same}
