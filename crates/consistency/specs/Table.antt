@@ -14,7 +14,7 @@ use Rattle.plain.specs.Answers.{answers}
 use Rattle.table.specs.Halves.{bytes}
 use Rattle.table.specs.Answers.{Out}
 use Rattle.table.specs.Calls.{freshOut, updateOut, queryOut, yieldOut, forkOut, joinOut, listOut, fillOut, previewOut}
-use Rattle.table.specs.declared.fill.Level.{Level}
+use Rattle.table.specs.declared.answer.Level.{Level}
 use Rattle.table.specs.declared.answer.Prospect.{Prospect}
 
 -- a call as it is made at a table: a list has the bytes of its sheet

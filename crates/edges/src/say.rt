@@ -1,7 +1,7 @@
 // Lines on standard output.
 use libc::STDOUT_FILENO;
 use table::answer::Answer;
-use table::query::Reading;
+use table::answer::Reading;
 
 fn number(n: u32) {
     io::write_all(STDOUT_FILENO, b" ");

@@ -4,7 +4,7 @@ use mathlib.Core.List.{List}
 use mathlib.Core.Path.{_≡_, _∙_, ap}
 use native.Mathlib.Omega.{arith}
 use Rattle.table.specs.declared.answer.Answer.{Answer}
-use Rattle.table.specs.declared.query.Reading.{Reading}
+use Rattle.table.specs.declared.answer.Reading.{Reading}
 use Rattle.table.specs.Answers.{Out, left, leftRead}
 use Rattle.exports.specs.Packed.{handed, packed, packedState, stateNumber, exported}
 

@@ -4,7 +4,7 @@ use mathlib.Core.List.{List}
 use Rattle.updates.specs.declared.standing.State.{State}
 use Rattle.updates.specs.declared.standing.State.the-variants.{Neither, Timed, Struck}
 use Rattle.table.specs.Answers.{Out}
-use Rattle.table.specs.declared.fill.Level.{Level}
+use Rattle.table.specs.declared.answer.Level.{Level}
 
 -- the code in the upper 32 bits, the value in the lower
 abbrev pub packed : ℕ → ℕ → ℕ

@@ -3,7 +3,7 @@ use Prim.Native.Nat.{ℕ, _+_}
 use mathlib.Core.Path.{_≡_, refl, ap}
 use mathlib.Core.List.{List, [], _++_}
 use native.Mathlib.Numerals.{add-one}
-use Rattle.table.specs.declared.query.Reading.{Reading}
+use Rattle.table.specs.declared.answer.Reading.{Reading}
 use Rattle.table.specs.Answers.{Out, leftRead}
 use Rattle.report.specs.Run.{tableAfter, outAt}
 use Rattle.report.specs.Printed.{line, lines}

@@ -5,7 +5,7 @@ ghost use Rattle.updates.specs.declared.standing.State.the-variants.{Neither};
 ghost use Rattle.report.specs.Run.{stepOut};
 use records::step::Step;
 use table::answer::Answer;
-use table::query::Reading;
+use table::answer::Reading;
 use updates::standing::State;
 
 fn without_state(a: Answer) -> Reading
@@ -29,15 +29,15 @@ pub(crate) fn run(t: &mut [u8], step: Step) -> Reading
             kind,
             bib,
             v,
-        } => without_state(table::update::update(t, client, revision, kind, bib, v)),
+        } => without_state(entering::update::update(t, client, revision, kind, bib, v)),
         Step::Query {
             client,
             revision,
             bib,
-        } => table::query::query(t, client, revision, bib),
-        Step::Yield(client) => without_state(table::yields::yields(t, client)),
-        Step::Fork(revision) => without_state(table::fork::fork(t, revision)),
-        Step::Join(joiner, joinee) => without_state(table::join::join(t, joiner, joinee)),
+        } => reading::query::query(t, client, revision, bib),
+        Step::Yield(client) => without_state(entering::yields::yields(t, client)),
+        Step::Fork(revision) => without_state(branching::fork::fork(t, revision)),
+        Step::Join(joiner, joinee) => without_state(branching::join::join(t, joiner, joinee)),
         Step::Strange => Reading {
             code: 13,
             state: State::Neither,

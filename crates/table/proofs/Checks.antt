@@ -1,19 +1,18 @@
--- What the answer of each check of a call says. Those of the whole buffer, code 1, are in Buffer.antt.
+-- What the answer of each check that several calls share says. Those of the whole buffer, code 1, are in Buffer.antt.
 use Prim.Native.Nat.{ℕ, _<_}
 use mathlib.Core.Bool.{Bool, true, false, cond}
 use mathlib.Core.Path.{_≡_, refl}
 use mathlib.Core.List.{List}
 use native.Mathlib.Omega.{arith}
 use lib.Dec.{ltb}
-use borrow.Author.Tests.{ltb-true, not-false}
+use borrow.Author.Tests.{ltb-true}
 use Rattle.lists.proofs.Cases.{and-true}
 use Rattle.fields.specs.declared.table.Client.{Client}
 use Rattle.fields.specs.declared.table.Revision.{Revision}
-use Rattle.cells.specs.Sizes.{clients, revisions, updates}
+use Rattle.cells.specs.Sizes.{clients, revisions}
 use Rattle.cells.specs.Decode.{cells}
-use Rattle.cells.specs.Checks.{isClient, givenOut, joined, openElsewhere, busy, busyByOther, stale, logFull, noneLeft, joinable}
-use Rattle.entries.specs.Sizes.{bibs}
-use Rattle.revisions.specs.Checks.{clientCheck, givenCheck, joinedCheck, openCheck, useCheck, otherUseCheck, staleCheck, logCheck, leftCheck, joinCheck}
+use Rattle.cells.specs.Checks.{isClient, givenOut, joined, openElsewhere, busy, busyByOther, stale, joinable}
+use Rattle.revisions.specs.Checks.{clientCheck, givenCheck, joinedCheck, openCheck, useCheck, otherUseCheck, staleCheck, joinCheck}
 use Rattle.revisions.specs.declared.checks.ClientCheck.the-variants as client
 use Rattle.revisions.specs.declared.checks.GivenCheck.{GivenCheck}
 use Rattle.revisions.specs.declared.checks.GivenCheck.the-variants as given
@@ -21,8 +20,6 @@ use Rattle.revisions.specs.declared.checks.JoinedCheck.the-variants as out
 use Rattle.revisions.specs.declared.checks.OpenCheck.the-variants as transaction
 use Rattle.revisions.specs.declared.checks.UseCheck.the-variants as revision
 use Rattle.revisions.specs.declared.checks.StaleCheck.the-variants as event
-use Rattle.revisions.specs.declared.checks.LogCheck.the-variants as log
-use Rattle.revisions.specs.declared.checks.LeftCheck.the-variants as left
 use Rattle.revisions.specs.declared.checks.JoinCheck.the-variants as join
 use Rattle.table.specs.Calls.{badBib}
 use Rattle.table.specs.Checks.{bibCheck, quietCheck}
@@ -56,9 +53,6 @@ bib-known n e = failed (badBib n) _ _ _ (λ d. let z : _≡_ {A = ℕ} 0 1 = cc 
 pub bib-strange : (n : ℕ) → bibCheck n ≡ bib.Strange → badBib n ≡ true
 unfolding bibCheck
 bib-strange n e = held (badBib n) _ _ _ (λ d. let z : _≡_ {A = ℕ} 0 1 = cc in omega arith) e .0
-
-pub bib-in : (n : ℕ) → badBib n ≡ false → n < bibs
-bib-in n e = let l = ltb-true n 1000 (not-false (ltb n 1000) e) in omega arith
 
 module _ (d : List ℕ) where
   -- code 3
@@ -114,27 +108,6 @@ module _ (d : List ℕ) where
   pub is-stale : (c n : ℕ) → staleCheck d c n ≡ event.Stale → stale (cells d) c n ≡ true
   unfolding staleCheck
   is-stale c n e = held (stale (cells d) c n) _ _ _ (λ d. let z : _≡_ {A = ℕ} 0 1 = cc in omega arith) e .0
-
-  -- code 9
-  pub has-room : logCheck d ≡ log.Room → logFull (cells d) ≡ false
-  unfolding logCheck
-  has-room e = failed (logFull (cells d)) _ _ _ (λ d. let z : _≡_ {A = ℕ} 0 1 = cc in omega arith) e .0
-
-  pub is-full : logCheck d ≡ log.Full → logFull (cells d) ≡ true
-  unfolding logCheck
-  is-full e = held (logFull (cells d)) _ _ _ (λ d. let z : _≡_ {A = ℕ} 0 1 = cc in omega arith) e .0
-
-  pub log-in : logFull (cells d) ≡ false → cells d .updates < updates
-  log-in e = ltb-true _ _ (not-false (ltb (cells d .updates) updates) e)
-
-  -- code 10
-  pub next : (x : Revision) → leftCheck d ≡ left.Next x → (x .0 ≡ cells d .given) × (x .0 < revisions)
-  unfolding leftCheck
-  next x e =
-      let p = failed (noneLeft (cells d)) _ _ _ (λ d. let z : _≡_ {A = ℕ} 0 1 = cc in omega arith) e in
-      let v : x .0 ≡ cells d .given = cc (p .1) in
-      let l = ltb-true (cells d .given) revisions (not-false (ltb (cells d .given) revisions) (p .0)) in
-      (v, omega arith)
 
   -- code 11
   pub may-join : (n m : ℕ) → joinCheck d n m ≡ join.Joinable → joinable (cells d) n m ≡ true

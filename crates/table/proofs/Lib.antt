@@ -1,6 +1,5 @@
--- Laws of the two halves of the table, of the answers of its checks, and of the calls from what their checks find.
+-- Laws of the two halves of the table, of the answers of the shared checks, and of those taken apart.
 pub mod Halves
 pub mod Checks
 pub mod Buffer
 pub mod Calls
-pub mod Listed

@@ -8,7 +8,7 @@ use Rattle.updates.specs.declared.standing.State.{State}
 use Rattle.updates.specs.declared.standing.State.the-variants.{Neither}
 use Rattle.updates.specs.Effect.{stateOf, valueIn}
 use Rattle.table.specs.declared.answer.Answer.{Answer}
-use Rattle.table.specs.declared.query.Reading.{Reading}
+use Rattle.table.specs.declared.answer.Reading.{Reading}
 use Rattle.updates.specs.declared.kind.KindCheck.{KindCheck}
 use Rattle.updates.specs.declared.kind.KindCheck.the-variants.{Known, Unknown}
 

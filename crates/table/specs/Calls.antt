@@ -4,8 +4,8 @@ use mathlib.Core.Bool.{Bool, not, cond, _||_}
 use mathlib.Core.List.{List, _++_}
 use lib.Dec.{eqb, ltb}
 use lib.ListN.{length, replicate}
-use Rattle.updates.specs.Effect.{stateOf, valueIn}
 use Rattle.updates.specs.Kinds.{kindCheck}
+use Rattle.updates.specs.Effect.{stateOf, valueIn}
 use Rattle.cells.specs.Cells.{Cells, own}
 use Rattle.cells.specs.Order.{order}
 use Rattle.cells.specs.Checks.{isClient, givenOut, joined, openElsewhere, busy, busyByOther, stale, logFull, noneLeft, joinable}
@@ -19,8 +19,8 @@ use Rattle.table.specs.Halves.{bytes, low, high, cellsOf, isTable}
 use Rattle.table.specs.Answers.{Out, taken, answered, check, named}
 use Rattle.updates.specs.declared.standing.Standing.{Standing}
 use Rattle.updates.specs.declared.standing.State.the-variants.{Neither}
+use Rattle.table.specs.declared.answer.Level.{Level}
 use Rattle.table.specs.declared.answer.Prospect.{Prospect}
-use Rattle.table.specs.declared.fill.Level.{Level}
 
 -- 5: "bib above 999"
 abbrev pub badBib : ℕ → Bool
@@ -124,17 +124,21 @@ fillIn k n =
 unfoldable pub fillOut : List ℕ → ℕ → Level
 fillOut t n = cond (not (isTable t)) (noFill 1) (fillIn (cellsOf t) n)
 
--- 02, U6: "with state neither and gain 0"
+-- 02, U6: refusals are "with state neither and gain 0"
 abbrev pub noProspect : ℕ → Prospect
 noProspect code = record { code = code; state = Neither; value = 0; gain = 0 }
 
--- the standing of a bib after the updates visible at revision n, then revision m's own
+-- the standing of a bib once m is joined into n: what is visible at n, then what the join brings, m's own updates
 unfoldable pub standingAfter : List ℕ → ℕ → ℕ → ℕ → Standing
 standingAfter t n m bib = standingOf (entryAt (high t)) bib (order (cellsOf t) n ++ own (cellsOf t) m)
+
+-- "the state and value at the joiner's line end and the gain"
+abbrev pub foreseen : Standing → ℕ → Prospect
+foreseen s gain = record { code = 0; state = stateOf s; value = valueIn s; gain = gain }
 
 -- "Refusals are those of the join, then 5 for the bib"
 unfoldable pub previewOut : List ℕ → ℕ → ℕ → ℕ → Prospect
 previewOut t n m bib =
     cond (not (eqb (joinOut t n m .code) 0)) (noProspect (joinOut t n m .code)) (
     cond (badBib bib) (noProspect 5) (
-    record { code = 0; state = stateOf (standingAfter t n m bib); value = valueIn (standingAfter t n m bib); gain = joinOut t n m .value }))
+    foreseen (standingAfter t n m bib) (joinOut t n m .value)))

@@ -1,38 +1,31 @@
--- The answers of the table's own checks, codes 1, 5 and 12, and what the checks of a call find, in their order.
+-- The answers of the table's own checks, codes 1 and 5, and what the checks that several calls share find, in their order.
 use Prim.{Unit}
-use Prim.Native.Nat.{ℕ, _*_, _<_}
+use Prim.Native.Nat.{ℕ, _<_}
 use mathlib.Core.Bool.{not, cond}
 use mathlib.Core.List.{List}
-use mathlib.Core.Path.{_≡_}
-use lib.Dec.{eqb, ltb}
+use lib.Dec.{eqb}
 use lib.ListN.{length}
-use Rattle.cells.specs.Sizes.{clients, revisions, updates}
+use Rattle.cells.specs.Sizes.{clients, revisions}
 use Rattle.cells.specs.Decode.{cells}
-use Rattle.cells.specs.Checks.{joined, openElsewhere, busy, busyByOther, stale, logFull, joinable}
-use Rattle.entries.specs.Sizes.{bibs}
+use Rattle.cells.specs.Checks.{joined, openElsewhere, busy, busyByOther, stale, joinable}
 use Rattle.fields.specs.declared.table.Client.{Client}
 use Rattle.fields.specs.declared.table.Revision.{Revision}
-use Rattle.revisions.specs.Checks.{clientCheck, givenCheck, leftCheck}
+use Rattle.revisions.specs.Checks.{clientCheck, givenCheck}
 use Rattle.table.specs.Halves.{bytes, isTable}
 use Rattle.table.specs.Calls.{badBib}
-use Rattle.table.specs.Found.{onClient, onGiven, onLeft, onKind, onEvent, onQuiet, onPair}
+use Rattle.table.specs.Found.{onClient, onGiven, onPair}
 use Rattle.table.specs.declared.sound.LengthCheck.{LengthCheck}
 use Rattle.table.specs.declared.sound.LengthCheck.the-variants as buffer
 use Rattle.table.specs.declared.sound.TableCheck.{TableCheck}
 use Rattle.table.specs.declared.sound.TableCheck.the-variants as table
-use Rattle.table.specs.declared.list.SheetCheck.{SheetCheck}
-use Rattle.table.specs.declared.list.SheetCheck.the-variants as list
 use Rattle.table.specs.declared.bib.BibCheck.{BibCheck}
 use Rattle.table.specs.declared.bib.BibCheck.the-variants as bib
-use Rattle.updates.specs.Kinds.{kindCheck}
 use Rattle.table.specs.declared.quiet.QuietCheck.{QuietCheck}
 use Rattle.table.specs.declared.quiet.QuietCheck.the-variants as quiet
 use Rattle.table.specs.declared.event.EventCheck.{EventCheck}
 use Rattle.table.specs.declared.event.EventCheck.the-variants as event
 use Rattle.table.specs.declared.pair.PairCheck.{PairCheck}
 use Rattle.table.specs.declared.pair.PairCheck.the-variants as pair
-use Rattle.table.specs.declared.update.UpdateCheck.{UpdateCheck}
-use Rattle.table.specs.declared.update.UpdateCheck.the-variants as update
 
 -- 1 "buffer length isn't 65,536, or a cell is out of its range"
 unfoldable pub tableCheck : List ℕ → TableCheck
@@ -41,10 +34,6 @@ tableCheck t = cond (isTable t) table.Sound table.Damaged
 -- of fresh: 1 for the length only
 unfoldable pub lengthCheck : List ℕ → LengthCheck
 lengthCheck t = cond (eqb (length t) bytes) buffer.Right buffer.Wrong
-
--- 12 "the listing's buffer is smaller than it needs": room for n lines
-unfoldable pub sheetCheck : ℕ → ℕ → SheetCheck
-sheetCheck room n = cond (ltb room (12 * n)) list.Short list.Fits
 
 -- 5 "bib above 999"
 unfoldable pub bibCheck : ℕ → BibCheck
@@ -57,13 +46,6 @@ quietCheck d n =
     cond (joined (cells d) (r .0)) (quiet.Refused 4) (
     cond (busy (cells d) (r .0)) (quiet.Refused 7) (
     quiet.Quiet r)))
-
--- 3, 4, 7, 10 of a fork
-unfoldable pub forkCheck : List ℕ → ℕ → PairCheck
-forkCheck d n =
-    onQuiet (quietCheck d n) pair.Refused (λ p.
-    onLeft (leftCheck d) (pair.Refused 10) (λ c.
-    pair.Allowed p c))
 
 -- 3, 4 of a join
 unfoldable pub bothCheck : List ℕ → ℕ → ℕ → PairCheck
@@ -102,23 +84,6 @@ turnCheck d x y =
     cond (stale (cells d) (x .0) (y .0)) (event.Refused 8) (
     event.Allowed x y)))
 
--- 2 to 8 of a query
-unfoldable pub queryCheck : List ℕ → ℕ → ℕ → ℕ → EventCheck
-queryCheck d c n bib =
-    onEvent (placeCheck d c n) event.Refused (λ x y.
-    cond (badBib bib) (event.Refused 5) (
-    turnCheck d x y))
-
--- 2 to 9 of an update
-unfoldable pub updateCheck : List ℕ → ℕ → ℕ → ℕ → ℕ → UpdateCheck
-updateCheck d c n k bib =
-    onEvent (placeCheck d c n) update.Refused (λ x y.
-    cond (badBib bib) (update.Refused 5) (
-    onKind (kindCheck k) (update.Refused 5) (λ kind.
-    onEvent (turnCheck d x y) update.Refused (λ x y.
-    cond (logFull (cells d)) (update.Refused 9) (
-    update.Allowed x y kind)))))
-
 -- what is found is in range
 abbrev pub eventIn : EventCheck → Type 0
 eventIn (event.Refused k) = Unit {0}
@@ -127,11 +92,3 @@ eventIn (event.Allowed x y) = (x .0 < clients) × (y .0 < revisions)
 abbrev pub pairIn : PairCheck → Type 0
 pairIn (pair.Refused k) = Unit {0}
 pairIn (pair.Allowed a b) = (a .0 < revisions) × (b .0 < revisions)
-
-abbrev pub forkIn : List ℕ → PairCheck → Type 0
-forkIn d (pair.Refused k) = Unit {0}
-forkIn d (pair.Allowed p c) = (p .0 < revisions) × (c .0 ≡ cells d .given) × (c .0 < revisions)
-
-abbrev pub updateIn : List ℕ → ℕ → UpdateCheck → Type 0
-updateIn d bib (update.Refused k) = Unit {0}
-updateIn d bib (update.Allowed x y kind) = (x .0 < clients) × (y .0 < revisions) × (cells d .updates < updates) × (bib < bibs)

@@ -1,4 +1,4 @@
-// What a call answers: 01's code, 0 if taken, and its value.
+// What a call answers: 01's code, 0 if taken, and its values.
 use updates::standing::State;
 
 pub struct Answer {
@@ -6,7 +6,21 @@ pub struct Answer {
     pub value: u32,
 }
 
-// What a preview answers: a bib's state and value after the join, and the join's gain.
+// What a query answers: a bib's state too.
+pub struct Reading {
+    pub code: u8,
+    pub state: State,
+    pub value: u32,
+}
+
+// What a fill answers: the code, the revision's own updates, and those taken by the whole table.
+pub struct Level {
+    pub code: u8,
+    pub own: u16,
+    pub total: u16,
+}
+
+// What a preview answers: how the bib will stand at the joiner, and the updates that the joiner will gain.
 pub struct Prospect {
     pub code: u8,
     pub state: State,

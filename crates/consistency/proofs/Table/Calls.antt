@@ -38,7 +38,7 @@ use Rattle.table.specs.Halves.{low, high, cellsOf}
 use Rattle.table.specs.Answers as Table
 use Rattle.table.specs.Answers.{Out}
 use Rattle.table.specs.Calls.{updateOut, queryOut, yieldOut, forkOut, joinOut, listOut, shownOut, fillOut, fillIn, noFill, told}
-use Rattle.table.specs.declared.fill.Level.{Level}
+use Rattle.table.specs.declared.answer.Level.{Level}
 use Rattle.consistency.specs.Reached.{stepBytes}
 use Rattle.consistency.specs.Numbers.{Number, isGiven}
 use Rattle.consistency.specs.Table.{sheetWith}

@@ -1,0 +1,54 @@
+-- `branching::fork::fork_sound` meets its contract: the checks, then the work. Assumes nothing.
+use mathlib.Core.Path.{refl, sym, _∙_}
+use borrow.Author.Needs.{needs}
+use Rattle.cells.proofs.Range.{ranges}
+use Rattle.table.specs.Halves.{low}
+use Rattle.table.specs.Found.{onPair}
+use Rattle.table.proofs.Halves.{low-length}
+use Rattle.branching.proofs.Calls.{above, fork-by, same-taken}
+use Rattle.branching.proofs.fork.fork_sound.Statement.{statement}
+use Rattle.branching.proofs.fork.fork_sound.Tie as tie
+
+start-requires : tie.Need-start-requires
+unfolding low
+start-requires c κs =
+    let at-found = c .before .before in
+    let at-check = at-found .before .before in
+    let start = at-check .before .before .before .before in
+    let i = rw (at-found .found2 .given .1) at (at-check .check-fork .ensures .1) in
+    let g = ranges (low (start .args .t .now)) (start .pre .2) .some-given in
+    (start .pre .1, start .pre .2, i .0, above _ _ (i .1) g, i .2)
+
+returns : tie.Need-returns
+unfolding low onPair
+returns c =
+    let at-check = c .before .before .before in
+    let start = at-check .before .before .before .before in
+    let s = start .args in
+    fork-by (s .t .now) (start .pre .0) (s .revision) _ (sym (at-check .check-fork .ensures .0) ∙ c .before .found .given .1)
+
+returns-2 : tie.Need-returns-2
+unfolding low onPair
+returns-2 c =
+    let at-start = c .before .before .before in
+    let at-found = at-start .before .before .before in
+    let at-check = at-found .before .before in
+    let start = at-check .before .before .before .before in
+    let s = start .args in
+    same-taken _ _ _ _ (at-start .start .ensures) refl
+    ∙ fork-by (s .t .now) (start .pre .0) (s .revision) _ (sym (at-check .check-fork .ensures .0) ∙ at-found .found2 .given .1)
+
+pub fork-sound-spec : {M : Type 1} → statement M
+fork-sound-spec = tie.close (tie.spec
+    (λ c. search needs)
+    (λ c. search needs)
+    (λ c. search needs)
+    (λ c κs. low-length (c .before .before .before .args .t .now) (c .before .before .before .pre .1))
+    (λ c. search needs)
+    (λ c. search needs)
+    start-requires
+    (λ c. search needs)
+    (λ c. search needs)
+    returns
+    (λ c. search needs)
+    returns-2)

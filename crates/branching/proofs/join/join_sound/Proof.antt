@@ -1,0 +1,51 @@
+-- `branching::join::join_sound` meets its contract: the checks, then the work. Assumes nothing.
+use mathlib.Core.Path.{sym, _∙_}
+use borrow.Author.Needs.{needs}
+use Rattle.table.specs.Halves.{low}
+use Rattle.table.specs.Found.{onPair}
+use Rattle.table.proofs.Halves.{low-length}
+use Rattle.table.proofs.Calls.{join-by}
+use Rattle.branching.proofs.Calls.{same-taken}
+use Rattle.branching.proofs.join.join_sound.Statement.{statement}
+use Rattle.branching.proofs.join.join_sound.Tie as tie
+
+gain-requires : tie.Need-gain-requires
+gain-requires c κs =
+    let at-found = c .before .before in
+    let at-check = at-found .before .before in
+    let start = at-check .before .before .before .before in
+    let i = rw (at-found .found2 .given .1) at (at-check .check-join .ensures .1) in
+    (start .pre .1, start .pre .2, i .0, i .1)
+
+returns : tie.Need-returns
+unfolding low onPair
+returns c =
+    let at-check = c .before .before .before in
+    let start = at-check .before .before .before .before in
+    let s = start .args in
+    join-by (s .t .now) (start .pre .0) (s .joiner) (s .joinee) _ (sym (at-check .check-join .ensures .0) ∙ c .before .found .given .1)
+
+returns-2 : tie.Need-returns-2
+unfolding low onPair
+returns-2 c =
+    let at-gain = c .before .before in
+    let at-found = at-gain .before .before .before in
+    let at-check = at-found .before .before in
+    let start = at-check .before .before .before .before in
+    let s = start .args in
+    same-taken _ _ _ _ (at-gain .gain .ensures .1) (at-gain .gain .ensures .0)
+    ∙ join-by (s .t .now) (start .pre .0) (s .joiner) (s .joinee) _ (sym (at-check .check-join .ensures .0) ∙ at-found .found2 .given .1)
+
+pub join-sound-spec : {M : Type 1} → statement M
+join-sound-spec = tie.close (tie.spec
+    (λ c. search needs)
+    (λ c. search needs)
+    (λ c. search needs)
+    (λ c κs. low-length (c .before .before .before .args .t .now) (c .before .before .before .pre .1))
+    (λ c. search needs)
+    (λ c. search needs)
+    gain-requires
+    (λ c. search needs)
+    returns
+    (λ c. search needs)
+    returns-2)

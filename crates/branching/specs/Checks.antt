@@ -1,0 +1,24 @@
+-- What the checks of a fork find, in their order.
+use Prim.{Unit}
+use Prim.Native.Nat.{ℕ, _<_}
+use mathlib.Core.List.{List}
+use mathlib.Core.Path.{_≡_}
+use Rattle.cells.specs.Sizes.{revisions}
+use Rattle.cells.specs.Decode.{cells}
+use Rattle.revisions.specs.Checks.{leftCheck}
+use Rattle.table.specs.Found.{onLeft, onQuiet}
+use Rattle.table.specs.Checks.{quietCheck}
+use Rattle.table.specs.declared.pair.PairCheck.{PairCheck}
+use Rattle.table.specs.declared.pair.PairCheck.the-variants as pair
+
+-- 3, 4, 7, 10 of a fork
+unfoldable pub forkCheck : List ℕ → ℕ → PairCheck
+forkCheck d n =
+    onQuiet (quietCheck d n) pair.Refused (λ p.
+    onLeft (leftCheck d) (pair.Refused 10) (λ c.
+    pair.Allowed p c))
+
+-- what is found is in range
+abbrev pub forkIn : List ℕ → PairCheck → Type 0
+forkIn d (pair.Refused k) = Unit {0}
+forkIn d (pair.Allowed p c) = (p .0 < revisions) × (c .0 ≡ cells d .given) × (c .0 < revisions)

@@ -1,0 +1,2 @@
+-- What the checks of a fork find.
+pub mod Checks

@@ -1,0 +1,75 @@
+// Fork: a revision forks another, whose number is the value.
+ghost use mathlib.Core.Path.{_≡_};
+ghost use mathlib.Core.Bool.{true};
+ghost use mathlib.Core.List.{_++_};
+ghost use Prim.Native.Nat.{_<_};
+ghost use lib.ListN.{length};
+ghost use Rattle.cells.specs.Sizes as Lower;
+ghost use Rattle.cells.specs.Sizes.{revisions};
+ghost use Rattle.cells.specs.Range.{inRange};
+ghost use Rattle.cells.specs.Steps.{forkBytes};
+ghost use Rattle.table.specs.Halves.{bytes, high, isTable, low};
+ghost use Rattle.table.specs.Answers.{left};
+ghost use Rattle.table.specs.Calls.{forkOut};
+ghost use Rattle.branching.specs.Checks.{forkCheck, forkIn};
+use fields::table::Revision;
+use revisions::checks;
+use revisions::checks::LeftCheck;
+use table::answer::Answer;
+use table::pair::PairCheck;
+use table::quiet;
+use table::quiet::QuietCheck;
+use table::sound;
+use table::sound::TableCheck;
+
+// p forks c, a number that is not the main revision's.
+fn start(t: &mut [u8], p: Revision, c: Revision)
+    requires { ⌜ (length (now t) ≡ bytes) × (inRange (low (now t)) ≡ true) × (p .0 < revisions) × (0 < c .0) × (c .0 < revisions) ⌝ }
+    ensures { λ _. ⌜ now (t .exit) ≡ forkBytes (low (now (t .entry))) (p .0) (c .0) ++ high (now (t .entry)) ⌝ }
+{
+    revisions::fork::fork(&mut t[0..40960], p, c);
+}
+
+// Checks 3, 4, 7, 10: the revision, and the number of the new one.
+fn check_fork(d: &[u8], revision: u8) -> PairCheck
+    requires { ⌜ length (now d) ≡ Lower.bytes ⌝ }
+    ensures { λ a. ⌜ (a ≡ forkCheck (now (d .entry)) revision) × forkIn (now (d .entry)) a ⌝ }
+{
+    let found = quiet::check_quiet(d, revision);
+    match found {
+        QuietCheck::Refused(code) => PairCheck::Refused(code),
+        QuietCheck::Quiet(p) => {
+            let LeftCheck::Next(c) = checks::check_left(d) else {
+                return PairCheck::Refused(10);
+            };
+            PairCheck::Allowed(p, c)
+        }
+    }
+}
+
+// The call on bytes that are a table.
+fn fork_sound(t: &mut [u8], revision: u8) -> Answer
+    requires { ⌜ (isTable (now t) ≡ true) × (length (now t) ≡ bytes) × (inRange (low (now t)) ≡ true) ⌝ }
+    ensures { λ a. ⌜ left a (now (t .exit)) ≡ forkOut (now (t .entry)) revision ⌝ }
+{
+    let found = check_fork(&t[0..40960], revision);
+    match found {
+        PairCheck::Refused(code) => Answer { code, value: 0 },
+        PairCheck::Allowed(p, c) => {
+            start(t, p, c);
+            Answer {
+                code: 0,
+                value: c.0 as u32,
+            }
+        }
+    }
+}
+
+pub fn fork(t: &mut [u8], revision: u8) -> Answer
+    ensures { λ a. ⌜ left a (now (t .exit)) ≡ forkOut (now (t .entry)) revision ⌝ }
+{
+    let TableCheck::Sound = sound::check_table(t) else {
+        return Answer { code: 1, value: 0 };
+    };
+    fork_sound(t, revision)
+}

@@ -1,0 +1,43 @@
+// Fresh: a new day, whatever the bytes were.
+ghost use mathlib.Core.Path.{_≡_};
+ghost use mathlib.Core.List.{_++_};
+ghost use lib.ListN.{length, replicate};
+ghost use Rattle.cells.specs.Steps.{freshBytes};
+ghost use Rattle.entries.specs.Sizes as Upper;
+ghost use Rattle.table.specs.Halves.{bytes};
+ghost use Rattle.table.specs.Answers.{left};
+ghost use Rattle.table.specs.Calls.{freshOut};
+use table::answer::Answer;
+use table::sound;
+use table::sound::LengthCheck;
+
+// No entries.
+fn clear(p: &mut [u8])
+    requires { ⌜ length (now p) ≡ Upper.bytes ⌝ }
+    ensures { λ _. ⌜ now (p .exit) ≡ replicate Upper.bytes 0 ⌝ }
+{
+    let mut i: usize = 0;
+    while i < 24576 {
+        p[i] = 0;
+        i += 1;
+    }
+}
+
+// Both halves.
+fn start(t: &mut [u8])
+    requires { ⌜ length (now t) ≡ bytes ⌝ }
+    ensures { λ _. ⌜ now (t .exit) ≡ freshBytes ++ replicate Upper.bytes 0 ⌝ }
+{
+    revisions::fresh::fresh(&mut t[0..40960]);
+    clear(&mut t[40960..65536]);
+}
+
+pub fn fresh(t: &mut [u8]) -> Answer
+    ensures { λ a. ⌜ left a (now (t .exit)) ≡ freshOut (now (t .entry)) ⌝ }
+{
+    let LengthCheck::Right = sound::check_length(t) else {
+        return Answer { code: 1, value: 0 };
+    };
+    start(t);
+    Answer { code: 0, value: 0 }
+}

@@ -1,0 +1,2 @@
+-- What the checks of an update find.
+pub mod Checks

@@ -1,0 +1,18 @@
+-- The standing of a bib, from the entries in the upper half.
+use Prim.Native.Nat.{ℕ}
+use mathlib.Core.Path.{_≡_, _∙_, ap}
+use mathlib.Core.List.{List}
+use lib.ListN.{length, take}
+use Rattle.updates.specs.declared.standing.Standing.{Standing}
+use Rattle.cells.specs.Order.{order}
+use Rattle.entries.specs.Sizes as Upper
+use Rattle.entries.specs.Entries.{entryAt}
+use Rattle.entries.specs.Folded.{standingOf}
+use Rattle.table.specs.Halves.{bytes, high, cellsOf}
+use Rattle.table.specs.Calls.{standingAt}
+use Rattle.table.proofs.Halves.{high-whole}
+
+-- the standing along what was listed
+pub standing-along : (t l : List ℕ) (r b : ℕ) (s : Standing) → length t ≡ bytes → l ≡ order (cellsOf t) r → s ≡ standingOf (entryAt (take Upper.bytes (high t))) b l → s ≡ standingAt t r b
+unfolding standingAt
+standing-along t l r b s h e ev = ev ∙ ap (λ (u : List ℕ). standingOf (entryAt u) b l) (high-whole t h) ∙ ap (standingOf (entryAt (high t)) b) e

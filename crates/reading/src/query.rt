@@ -1,0 +1,119 @@
+// The call query: a bib's state and value at a revision.
+ghost use mathlib.Core.Bool.{true};
+ghost use mathlib.Core.List.{_++_};
+ghost use mathlib.Core.Path.{_≡_};
+ghost use Prim.Native.Nat.{_<_};
+ghost use lib.ListN.{length};
+ghost use Rattle.cells.specs.Sizes as Lower;
+ghost use Rattle.cells.specs.Sizes.{clients, revisions};
+ghost use Rattle.cells.specs.Range.{inRange};
+ghost use Rattle.cells.specs.Steps.{queryBytes};
+ghost use Rattle.updates.specs.Effect.{stateOf, valueIn};
+ghost use Rattle.table.specs.Halves.{bytes, high, isTable, low};
+ghost use Rattle.table.specs.Answers.{leftRead};
+ghost use Rattle.table.specs.Calls.{queryOut, standingAt};
+ghost use Rattle.table.specs.Checks.{eventIn};
+ghost use Rattle.reading.specs.Checks.{queryCheck};
+use fields::table::Client;
+use fields::table::Revision;
+use table::answer::Reading;
+use table::bib;
+use table::bib::BibCheck;
+use table::event;
+use table::event::EventCheck;
+use table::sound;
+use table::sound::TableCheck;
+use table::visible::visible;
+use updates::standing::Standing;
+use updates::standing::State;
+
+// What a query tells of a standing.
+fn tell(standing: Standing) -> Reading
+    ensures { λ a. ⌜ a ≡ record { code = 0; state = stateOf standing; value = valueIn standing } ⌝ }
+{
+    let Standing::At(value) = standing else {
+        return Reading {
+            code: 0,
+            state: State::Struck,
+            value: 0,
+        };
+    };
+    if value == 0 {
+        return Reading {
+            code: 0,
+            state: State::Neither,
+            value: 0,
+        };
+    }
+    Reading {
+        code: 0,
+        state: State::Timed,
+        value,
+    }
+}
+
+// The standing of a bib after the updates visible at r.
+fn standing_at(t: &[u8], r: Revision, bib: u16) -> Standing
+    requires { ⌜ (length (now t) ≡ bytes) × (inRange (low (now t)) ≡ true) × (r .0 < revisions) ⌝ }
+    ensures { λ s. ⌜ s ≡ standingAt (now (t .entry)) (r .0) bib ⌝ }
+{
+    let mut out = order::links::room();
+    let n = visible(t, r, &mut out);
+    entries::standing::standing(&t[40960..65536], &out, n, bib)
+}
+
+// The query is r's last event, and opens or continues its client's transaction.
+fn ask(t: &mut [u8], c: Client, r: Revision)
+    requires { ⌜ (length (now t) ≡ bytes) × (c .0 < clients) × (r .0 < revisions) ⌝ }
+    ensures { λ _. ⌜ now (t .exit) ≡ queryBytes (low (now (t .entry))) (c .0) (r .0) ++ high (now (t .entry)) ⌝ }
+{
+    revisions::record::query(&mut t[0..40960], c, r);
+}
+
+// Checks 2 to 8.
+fn check_query(d: &[u8], client: u8, revision: u8, bib: u16) -> EventCheck
+    requires { ⌜ length (now d) ≡ Lower.bytes ⌝ }
+    ensures { λ a. ⌜ (a ≡ queryCheck (now (d .entry)) client revision bib) × eventIn a ⌝ }
+{
+    let found = event::check_place(d, client, revision);
+    let EventCheck::Allowed(c, r) = found else {
+        return found;
+    };
+    let BibCheck::Known = bib::check_bib(bib) else {
+        return EventCheck::Refused(5);
+    };
+    event::check_turn(d, c, r)
+}
+
+// The call on bytes that are a table.
+fn query_sound(t: &mut [u8], client: u8, revision: u8, bib: u16) -> Reading
+    requires { ⌜ (isTable (now t) ≡ true) × (length (now t) ≡ bytes) × (inRange (low (now t)) ≡ true) ⌝ }
+    ensures { λ a. ⌜ leftRead a (now (t .exit)) ≡ queryOut (now (t .entry)) client revision bib ⌝ }
+{
+    let found = check_query(&t[0..40960], client, revision, bib);
+    match found {
+        EventCheck::Refused(code) => Reading {
+            code,
+            state: State::Neither,
+            value: 0,
+        },
+        EventCheck::Allowed(c, r) => {
+            let standing = standing_at(t, r, bib);
+            ask(t, c, r);
+            tell(standing)
+        }
+    }
+}
+
+pub fn query(t: &mut [u8], client: u8, revision: u8, bib: u16) -> Reading
+    ensures { λ a. ⌜ leftRead a (now (t .exit)) ≡ queryOut (now (t .entry)) client revision bib ⌝ }
+{
+    let TableCheck::Sound = sound::check_table(t) else {
+        return Reading {
+            code: 1,
+            state: State::Neither,
+            value: 0,
+        };
+    };
+    query_sound(t, client, revision, bib)
+}
