@@ -43,6 +43,7 @@ same-call (Paper.Fork n) = refl
 same-call (Paper.Join n m) = refl
 same-call (Paper.Fill n) = refl
 same-call (Paper.Bundle c n records) = refl
+same-call (Paper.Preview n m bib) = refl
 same-call (Paper.Show n room) = ap (Paper.Show n) (length-replicate {A = ℕ} room 0)
 
 same-calls : (cs : List Call) → calls (asking cs) ≡ cs
@@ -52,7 +53,7 @@ same-calls (c ∷ cs) = let first = same-call c in let rest = same-calls cs in �
 said-from : (qs : List Request) (p : PlainDay) → saidOn (replies qs (answersFrom p (calls qs))) ≡ Edges.said (answersFrom p (calls qs))
 unfolding replies answersFrom
 said-from [] p = refl
-said-from (q ∷ qs) p = let a = called p (onPaper q) .answer in ap (λ z. record { code = a .code; state = a .state; value = a .value } ∷ z) (said-from qs (called p (onPaper q) .next))
+said-from (q ∷ qs) p = let a = called p (onPaper q) .answer in ap (λ z. record { code = a .code; state = a .state; value = a .value; gain = a .gain } ∷ z) (said-from qs (called p (onPaper q) .next))
 
 module _ (t : List ℕ) (h : length t ≡ bytes) where
   same-computed : (es : List Edge) → computedOn t es ≡ computed es

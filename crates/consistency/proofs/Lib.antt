@@ -1,9 +1,10 @@
 -- From a fresh table, through every run of accepted steps, cells and bytes agree with the day; through every list of
--- calls the replies do, demand 3 holds, and own updates add up.
+-- calls the replies do, demand 3 holds, own updates add up, and previews follow joins.
 pub mod Cells
 pub mod Bytes
 pub mod Follow
 pub mod Table
 pub mod Demand
 pub mod Fills
+pub mod Previews
 mod Examples

@@ -4,4 +4,5 @@ pub mod Values
 pub mod Same
 pub mod Calls
 pub mod Bundles
+pub mod Previews
 pub mod Follows

@@ -11,7 +11,7 @@ use Rattle.plain.specs.Edges.{Edge, Said, edges, codes, expected}
 use Rattle.plain.specs.LineUp.{LineUp}
 use Rattle.table.specs.Halves.{bytes}
 use Rattle.table.specs.Calls.{freshOut}
-use Rattle.consistency.specs.Table.{Request, Update, Query, Yield, Fork, Join, Show, Fill, Bundle, Reply, calls, repliesOn, replies}
+use Rattle.consistency.specs.Table.{Request, Update, Query, Yield, Fork, Join, Show, Fill, Bundle, Reply, calls, repliesOn, replies, Preview}
 
 -- no call has code 1
 unfoldable pub NeverOne : List Reply → Type 0
@@ -42,6 +42,7 @@ asked (Paper.Join n m) = Join n m
 asked (Paper.Show n room) = Show n (replicate room 0)
 asked (Paper.Fill n) = Fill n
 asked (Paper.Bundle c n records) = Bundle c n records
+asked (Paper.Preview n m bib) = Preview n m bib
 
 abbrev pub asking : List Call → List Request
 asking [] = []
@@ -49,7 +50,7 @@ asking (c ∷ cs) = asked c ∷ asking cs
 
 abbrev pub saidOn : List Reply → List Said
 saidOn [] = []
-saidOn (r ∷ rs) = record { code = r .code; state = r .state; value = r .value } ∷ saidOn rs
+saidOn (r ∷ rs) = record { code = r .code; state = r .state; value = r .value; gain = r .gain } ∷ saidOn rs
 
 abbrev pub computedOn : List ℕ → List Edge → List (List Said)
 computedOn t [] = []

@@ -6,3 +6,4 @@ pub mod Numbers
 pub mod Table
 pub mod Demand
 pub mod Fills
+pub mod Previews

@@ -13,8 +13,9 @@ use Rattle.plain.specs.Calls.{Call, Entry, Line, Answer}
 use Rattle.plain.specs.Answers.{answers}
 use Rattle.table.specs.Halves.{bytes}
 use Rattle.table.specs.Answers.{Out}
-use Rattle.table.specs.Calls.{freshOut, updateOut, queryOut, yieldOut, forkOut, joinOut, listOut, fillOut, bundleOut}
+use Rattle.table.specs.Calls.{freshOut, updateOut, queryOut, yieldOut, forkOut, joinOut, listOut, fillOut, bundleOut, previewOut}
 use Rattle.table.specs.declared.answer.Level.{Level}
+use Rattle.table.specs.declared.answer.Prospect.{Prospect}
 
 -- a call as it is made at a table: a list has the bytes of its sheet
 pub data Request : Type 0 where
@@ -26,6 +27,7 @@ pub data Request : Type 0 where
   Show : (revision : ℕ) (sheet : List ℕ) → Request
   Fill : (revision : ℕ) → Request
   Bundle : (client revision : ℕ) (records : List ℕ) → Request
+  Preview : (joiner joinee bib : ℕ) → Request
 
 -- the same call on paper: "(of a sheet only the length)"
 abbrev pub onPaper : Request → Call
@@ -37,33 +39,38 @@ onPaper (Join n m) = Paper.Join n m
 onPaper (Show n sheet) = Paper.Show n (length sheet)
 onPaper (Fill n) = Paper.Fill n
 onPaper (Bundle c n records) = Paper.Bundle c n records
+onPaper (Preview n m bib) = Paper.Preview n m bib
 
 abbrev pub calls : List Request → List Call
 calls [] = []
 calls (q ∷ qs) = onPaper q ∷ calls qs
 
--- what a caller has of a call: its code, of a query the bib's state, its value, of a fill the whole table's number besides, and the
--- bytes of the sheet, if one was lent
+-- what a caller has of a call: its code, of a query and a preview the bib's state, its value, of a fill the whole table's number besides,
+-- of a preview the gain besides, and the bytes of the sheet, if one was lent
 pub record Reply : Type 0 where
   pub code : ℕ
   pub state : State
   pub value : ℕ
   pub total : ℕ
+  pub gain : ℕ
   pub sheet : List ℕ
 
 pub record Served : Type 0 where
   pub reply : Reply
   pub table : List ℕ
 
--- a call that has the table lent to be written, one that has a sheet lent, and a fill
+-- a call that has the table lent to be written, one that has a sheet lent, a fill and a preview
 abbrev pub onTable : Out → Served
-onTable u = record { reply = record { code = u .code; state = u .state; value = u .value; total = 0; sheet = [] }; table = u .lent }
+onTable u = record { reply = record { code = u .code; state = u .state; value = u .value; total = 0; gain = 0; sheet = [] }; table = u .lent }
 
 abbrev pub onSheet : List ℕ → Out → Served
-onSheet t u = record { reply = record { code = u .code; state = u .state; value = u .value; total = 0; sheet = u .lent }; table = t }
+onSheet t u = record { reply = record { code = u .code; state = u .state; value = u .value; total = 0; gain = 0; sheet = u .lent }; table = t }
 
 abbrev pub onLevel : List ℕ → Level → Served
-onLevel t f = record { reply = record { code = f .code; state = Neither; value = f .own; total = f .total; sheet = [] }; table = t }
+onLevel t f = record { reply = record { code = f .code; state = Neither; value = f .own; total = f .total; gain = 0; sheet = [] }; table = t }
+
+abbrev pub onProspect : List ℕ → Prospect → Served
+onProspect t f = record { reply = record { code = f .code; state = f .state; value = f .value; total = 0; gain = f .gain; sheet = [] }; table = t }
 
 abbrev pub served : List ℕ → Request → Served
 served t (Update c n k bib v) = onTable (updateOut t c n k bib v)
@@ -74,6 +81,7 @@ served t (Join n m) = onTable (joinOut t n m)
 served t (Show n sheet) = onSheet t (listOut t n sheet)
 served t (Fill n) = onLevel t (fillOut t n)
 served t (Bundle c n records) = onTable (bundleOut t c n records)
+served t (Preview n m bib) = onProspect t (previewOut t n m bib)
 
 -- the replies of a table to a list of calls, each getting it as the last one left it
 unfoldable pub repliesOn : List ℕ → List Request → List Reply
@@ -107,9 +115,10 @@ sheetAfter (Join n m) a = []
 sheetAfter (Show n sheet) a = sheetWith (a .lines) sheet
 sheetAfter (Fill n) a = []
 sheetAfter (Bundle c n records) a = []
+sheetAfter (Preview n m bib) a = []
 
 abbrev pub said : Request → Answer → Reply
-said q a = record { code = a .code; state = a .state; value = a .value; total = a .total; sheet = sheetAfter q a }
+said q a = record { code = a .code; state = a .state; value = a .value; total = a .total; gain = a .gain; sheet = sheetAfter q a }
 
 unfoldable pub replies : List Request → List Answer → List Reply
 replies [] more = []

@@ -66,8 +66,8 @@ unfolding called answersFrom answers after leads tabulate meant nextNumber unkno
 lines-listed = refl
 
 -- before that join: each box's own updates, and those of the whole table
-fills-told : (called (dayAfter apart) (Fill 0) .answer ≡ record { code = 0; state = Neither; value = 2; total = 3; lines = [] })
-    × (called (dayAfter apart) (Fill 1) .answer ≡ record { code = 0; state = Neither; value = 1; total = 3; lines = [] })
+fills-told : (called (dayAfter apart) (Fill 0) .answer ≡ record { code = 0; state = Neither; value = 2; total = 3; gain = 0; lines = [] })
+    × (called (dayAfter apart) (Fill 1) .answer ≡ record { code = 0; state = Neither; value = 1; total = 3; gain = 0; lines = [] })
 unfolding called answersFrom answers after leads tabulate meant nextNumber unknownClient openElsewhere busyByOther busy stale logFull noneLeft notJoinable revisionLimit clientLimit updateLimit kindCheck effect earliest penalized stateOf valueIn applied dayFrom dayAfter
 fills-told = (refl, refl)
 

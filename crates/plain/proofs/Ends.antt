@@ -1,11 +1,12 @@
 -- How each call ends: refused with a code above 1 and the day as it was, or taken with what its checks showed.
 use Prim.Native.Nat.{ℕ, suc, _*_}
-use mathlib.Core.Bool.{Bool, true, false, _||_}
-use mathlib.Core.Path.{_≡_, refl}
+use mathlib.Core.Bool.{Bool, true, false, not, _||_}
+use mathlib.Core.Path.{_≡_, refl, ap}
 use mathlib.Core.Option.{Option, none, some}
 use native.Mathlib.Omega.{arith}
 use lib.ListN.{length}
-use lib.Dec.{ltb}
+use lib.Dec.{eqb, ltb}
+use borrow.Author.Tests.{ne-eqb}
 use Rattle.lists.proofs.Cases.{or-false}
 use Rattle.updates.specs.declared.kind.Kind.{Kind}
 use Rattle.updates.specs.declared.kind.KindCheck.{KindCheck}
@@ -17,9 +18,9 @@ use Rattle.diagram.specs.Checks.{unknownClient, openElsewhere, busyByOther, bus
 use Rattle.diagram.specs.Steps as Steps
 use Rattle.diagram.specs.Steps.{accepted}
 use Rattle.diagram.proofs.Days.Accepting.{meant-given, accept-event, accept-yield, accept-fork, accept-join}
-use Rattle.plain.specs.Calls.{Update, Query, Yield, Fork, Join, Show, Fill}
+use Rattle.plain.specs.Calls.{Update, Query, Yield, Fork, Join, Show, Fill, Preview}
 use Rattle.plain.specs.Record.{PlainDay, pathResult, noted}
-use Rattle.plain.specs.Answers.{Outcome, refused, taken, answered, shown, told, check, given, badBib, named, stepped, called}
+use Rattle.plain.specs.Answers.{Outcome, refused, taken, answered, shown, told, foreseen, check, given, badBib, named, stepped, called}
 
 pub data Ends (p : PlainDay) (Yes : Outcome → Type 0) : Outcome → Type 0 where
   no : (k : ℕ) → Ends p Yes (refused p (suc (suc k)))
@@ -161,3 +162,17 @@ fill-ends p n =
     by-given (meant (p .day) n) _ λ r e3.
     by-check (p .day .joined r) 2 _ λ e4.
     yes (record { revision = r; means = e3; is = refl })
+
+-- a preview: the join would be taken, and the bib is good
+pub record PreviewTaken (p : PlainDay) (n m bib : ℕ) (o : Outcome) : Type 0 where
+  pub join : JoinTaken p n m (called p (Join n m))
+  pub is : o ≡ foreseen p (called p (Join n m)) bib
+
+pub preview-ends : (p : PlainDay) (n m bib : ℕ) → Ends p (PreviewTaken p n m bib) (called p (Preview n m bib))
+unfolding called
+preview-ends p n m bib = by (join-ends p n m) λ h. by-check (badBib bib) 3 _ λ e5. yes (record { join = h; is = refl })
+  where
+    by : {j rest : Outcome} → Ends p (JoinTaken p n m) j → (JoinTaken p n m j → Ends p (PreviewTaken p n m bib) rest)
+        → Ends p (PreviewTaken p n m bib) (check (not (eqb (j .answer .code) 0)) (j .answer .code) p rest)
+    by (no k) f = rw (ne-eqb (suc (suc k)) 0 (λ e. omega arith)) (no k)
+    by (yes h) f = rw (ap (λ (o : Outcome). o .answer .code) (h .is)) (f h)

@@ -11,13 +11,13 @@ use Rattle.diagram.specs.Steps.{after}
 use Rattle.diagram.proofs.Days.Moves.{yield-updates}
 use Rattle.lists.proofs.Sums.{sum-same}
 use Rattle.diagram.proofs.Order.Counted.{own-adds-up}
-use Rattle.plain.specs.Calls.{Call, Update, Query, Yield, Fork, Join, Show, Fill, Bundle}
+use Rattle.plain.specs.Calls.{Call, Update, Query, Yield, Fork, Join, Show, Fill, Bundle, Preview}
 use Rattle.plain.specs.Record.{PlainDay, freshDay}
 use Rattle.plain.specs.Answers.{Outcome, called, dayFrom, dayAfter, answersFrom, answers}
 use Rattle.plain.specs.Fills.{countsOne, acceptedIn, codesOf, FillsAddUp}
 use Rattle.plain.specs.Taken.{stepsAfter}
 use Rattle.plain.proofs.Bundles.{bundle-ends, bundle-ran}
-use Rattle.plain.proofs.Ends.{Ends, no, yes, was-taken, update-ends, query-ends, yield-ends, fork-ends, join-ends, show-ends, fill-ends}
+use Rattle.plain.proofs.Ends.{Ends, no, yes, was-taken, update-ends, query-ends, yield-ends, fork-ends, join-ends, show-ends, fill-ends, preview-ends}
 use Rattle.plain.proofs.LineUp.{lined-up}
 
 -- how many updates a call adds: what it counts
@@ -39,6 +39,7 @@ refused-none (Join n m) i = refl
 refused-none (Show n room) i = refl
 refused-none (Fill n) i = refl
 refused-none (Bundle c n records) i = rw (ne-eqb (suc (suc i)) 0 (λ e. omega arith))
+refused-none (Preview n m bib) i = refl
 
 adds-end : (p : PlainDay) {Yes : Outcome → Type 0} {o : Outcome} (c : Call) → ((o : Outcome) → Yes o → Adds p c o) → Ends p Yes o → Adds p c o
 adds-end p c g (no k) = none-more (p .day .updates) ∙ ap (λ i. p .day .updates + i) (sym (refused-none c k))
@@ -54,6 +55,7 @@ adds p (Join n m) = adds-end p (Join n m) (λ o h. rw (h .is) (none-more (p .day
 adds p (Show n room) = adds-end p (Show n room) (λ o h. rw (h .is) (none-more (p .day .updates))) (show-ends p n room)
 adds p (Fill n) = adds-end p (Fill n) (λ o h. rw (h .is) (none-more (p .day .updates))) (fill-ends p n)
 adds p (Bundle c n records) = adds-end p (Bundle c n records) (λ o h. bundle-ran p c n records o h .more ∙ ap (λ k. p .day .updates + countsOne (Bundle c n records) k) (sym (ap (λ z. z .answer .code) (h .is)))) (bundle-ends p c n records)
+adds p (Preview n m bib) = adds-end p (Preview n m bib) (λ o h. rw (h .is) (none-more (p .day .updates))) (preview-ends p n m bib)
 
 counted-from : (cs : List Call) (p : PlainDay) → dayFrom p cs .day .updates ≡ p .day .updates + acceptedIn cs (codesOf (answersFrom p cs))
 unfolding dayFrom answersFrom acceptedIn

@@ -1,8 +1,9 @@
--- The starred edges by computing, code 1, which does not arise, one line-up for every list of calls, and own updates that add up.
+-- The starred edges by computing, code 1, which does not arise, one line-up for every list of calls, previews, and own updates that add up.
 pub mod Edges
 pub mod Ends
 pub mod Bundles
 pub mod Steps
+pub mod Previews
 pub mod LineUp
 pub mod Never
 pub mod Fills

@@ -29,10 +29,11 @@ use Rattle.lists.proofs.Changed.{changed-same}
 use Rattle.lists.specs.Lists.{_∈_}
 use Rattle.plain.proofs.Bundles.{bundle-ends, sent-parts, update-number}
 use Rattle.plain.proofs.Ends.{QueryTaken, ShowTaken, UpdateTaken, query-ends, show-ends, update-ends, was-taken}
+use Rattle.plain.proofs.Previews.{foresees}
 use Rattle.plain.proofs.Steps.{day-both, did, ran, steps-both}
 use Rattle.plain.specs.Taken.{bundleSteps, ifTaken, onRevision, stepOf, stepsAfter, stepsFrom, stepsOf}
 use Rattle.plain.specs.Answers.{called, dayAfter, dayFrom, shown, stepped}
-use Rattle.plain.specs.Calls.{Bundle, Call, Entry, Fill, Fork, Join, Query, Show, Update, Yield}
+use Rattle.plain.specs.Calls.{Bundle, Call, Entry, Fill, Fork, Join, Query, Show, Update, Yield, Preview}
 use Rattle.plain.specs.Bundles.{AllTaken, Bundled, parts}
 use Rattle.plain.specs.LineUp.{Answers, GrowsEach, LineUp, Lists, Taken, endOf}
 use Rattle.plain.specs.Record.{PlainDay, freshDay, linesOf, noted, ofBib, pathResult, standingOf}
@@ -86,6 +87,7 @@ short-step p (Join n m) = short-on (meant (p .day) n) _ (λ a. short-on (meant (
 short-step p (Show n room) = none-of
 short-step p (Fill n) = none-of
 short-step p (Bundle c n records) = short-on (meant (p .day) n) _ (λ r. sent-of c r (entriesIn records))
+short-step p (Preview n m bib) = none-of
 
 short-if : (k : ℕ) (ss : List Step) → Short ss → Short (ifTaken k ss)
 short-if zero ss h = h
@@ -277,4 +279,5 @@ module _ (cs : List Call) where
     whole = rw e (A .whole);
     lists = lists;
     sessions = rw e (A .sessions);
+    previews = λ before rest n m bib T. foresees before n m bib (T .code);
   }

@@ -1,11 +1,11 @@
 -- "Code 1 doesn't arise on it": no call on the plain day has code 1.
 use mathlib.Core.Path.{_≡_, ap}
 use native.Mathlib.Omega.{arith}
-use Rattle.plain.specs.Calls.{Call, Update, Query, Yield, Fork, Join, Show, Fill, Bundle}
+use Rattle.plain.specs.Calls.{Call, Update, Query, Yield, Fork, Join, Show, Fill, Bundle, Preview}
 use Rattle.plain.specs.Record.{PlainDay}
 use Rattle.plain.specs.Answers.{Outcome, called}
 use Rattle.plain.proofs.Bundles.{bundle-ends}
-use Rattle.plain.proofs.Ends.{Ends, no, yes, update-ends, query-ends, yield-ends, fork-ends, join-ends, show-ends, fill-ends}
+use Rattle.plain.proofs.Ends.{Ends, no, yes, update-ends, query-ends, yield-ends, fork-ends, join-ends, show-ends, fill-ends, preview-ends}
 
 not-one : {p : PlainDay} {Yes : Outcome → Type 0} {o : Outcome} → ((o : Outcome) → Yes o → o .answer .code ≡ 0) → Ends p Yes o → o .answer .code ≡ 1 → ⊥
 not-one f (no k) e = omega arith
@@ -20,3 +20,4 @@ never-one p (Join n m) = not-one (λ o h. ap (λ (o : Outcome). o .answer .code)
 never-one p (Show n room) = not-one (λ o h. ap (λ (o : Outcome). o .answer .code) (h .is)) (show-ends p n room)
 never-one p (Fill n) = not-one (λ o h. ap (λ (o : Outcome). o .answer .code) (h .is)) (fill-ends p n)
 never-one p (Bundle c n records) = not-one (λ o h. ap (λ (o : Outcome). o .answer .code) (h .is)) (bundle-ends p c n records)
+never-one p (Preview n m bib) = not-one (λ o h. ap (λ (o : Outcome). o .answer .code) (h .is)) (preview-ends p n m bib)

@@ -10,10 +10,10 @@ use Rattle.diagram.proofs.Order.Runs.{accepted-both, run-both}
 use Rattle.diagram.specs.Day.{Day, meant}
 use Rattle.diagram.specs.Steps.{AcceptedFrom, Event, Step, accepted, after, runFrom, yield}
 use Rattle.lists.proofs.Changed.{changed-other}
-use Rattle.plain.proofs.Ends.{Ends, fill-ends, fork-ends, join-ends, no, query-ends, show-ends, update-ends, yes, yield-ends}
+use Rattle.plain.proofs.Ends.{Ends, fill-ends, fork-ends, join-ends, no, query-ends, show-ends, update-ends, yes, yield-ends, preview-ends}
 use Rattle.plain.proofs.Bundles.{RanTo, bundle-ends, bundle-ran}
 use Rattle.plain.specs.Answers.{Outcome, called, dayFrom, stepped, taken}
-use Rattle.plain.specs.Calls.{Answer, Bundle, Call, Fill, Fork, Join, Query, Show, Update, Yield}
+use Rattle.plain.specs.Calls.{Answer, Bundle, Call, Fill, Fork, Join, Query, Show, Update, Yield, Preview}
 use Rattle.plain.specs.Taken.{bundleSteps, ifTaken, onRevision, stepOf, stepsFrom, stepsOf}
 use Rattle.plain.specs.Record.{PlainDay, noted}
 use Rattle.updates.specs.declared.kind.Kind.{Kind}
@@ -69,6 +69,7 @@ did p (Fill n) = did-end (λ o h. rw (h .is) (record { accepts = tt; same = refl
 did p (Bundle c n records) =
     did-end (λ o h. subst (λ m. Did p o (onRevision m (λ r. bundleSteps c r (entriesIn records)))) (sym (h .means)) (did-ran p _ _ o (ap (λ z. z .answer .code) (h .is)) (bundle-ran p c n records o h)))
     (bundle-ends p c n records)
+did p (Preview n m bib) = did-end (λ o h. rw (h .is) (record { accepts = tt; same = refl; more = omega arith; kept = λ i q. refl })) (preview-ends p n m bib)
 
 -- whole lists of calls
 pub record Ran (p : PlainDay) (cs : List Call) : Type 0 where

@@ -20,7 +20,7 @@ use Rattle.diagram.specs.Day.{meant, nextNumber}
 use Rattle.diagram.specs.Checks.{unknownClient, openElsewhere, busyByOther, busy, stale, logFull, noneLeft, notJoinable}
 use Rattle.diagram.specs.Steps as Steps
 use Rattle.diagram.specs.Steps.{after}
-use Rattle.plain.specs.Calls.{Call, Update, Query, Yield, Fork, Join, Show, Fill, Bundle, Answer}
+use Rattle.plain.specs.Calls.{Call, Update, Query, Yield, Fork, Join, Show, Fill, Bundle, Answer, Preview}
 use Rattle.plain.specs.Record.{PlainDay, freshDay, pathResult, linesOf, noted}
 
 pub record Outcome : Type 0 where
@@ -29,22 +29,22 @@ pub record Outcome : Type 0 where
 
 -- "a refused one changes nothing" and "A refusal gives value 0"
 abbrev pub refused : PlainDay → ℕ → Outcome
-refused p code = record { next = p; answer = record { code = code; state = state.Neither; value = 0; total = 0; lines = [] } }
+refused p code = record { next = p; answer = record { code = code; state = state.Neither; value = 0; total = 0; gain = 0; lines = [] } }
 
 abbrev pub taken : PlainDay → ℕ → Outcome
-taken p value = record { next = p; answer = record { code = 0; state = state.Neither; value = value; total = 0; lines = [] } }
+taken p value = record { next = p; answer = record { code = 0; state = state.Neither; value = value; total = 0; gain = 0; lines = [] } }
 
 -- a query: "the state .. with the value, 0 if struck"
 abbrev pub answered : PlainDay → Standing → Outcome
-answered p s = record { next = p; answer = record { code = 0; state = stateOf s; value = valueIn s; total = 0; lines = [] } }
+answered p s = record { next = p; answer = record { code = 0; state = stateOf s; value = valueIn s; total = 0; gain = 0; lines = [] } }
 
 -- "List: nothing" happens to the day; the numbers of the updates are shown, each with what it was
 abbrev pub shown : PlainDay → List ℕ → Outcome
-shown p numbers = record { next = p; answer = record { code = 0; state = state.Neither; value = length numbers; total = 0; lines = linesOf (p .entries) numbers } }
+shown p numbers = record { next = p; answer = record { code = 0; state = state.Neither; value = length numbers; total = 0; gain = 0; lines = linesOf (p .entries) numbers } }
 
 -- a fill is no event: the day stays
 abbrev pub told : PlainDay → ℕ → ℕ → Outcome
-told p own total = record { next = p; answer = record { code = 0; state = state.Neither; value = own; total = total; lines = [] } }
+told p own total = record { next = p; answer = record { code = 0; state = state.Neither; value = own; total = total; gain = 0; lines = [] } }
 
 -- a check that applies ends the call
 abbrev pub check : Bool → ℕ → PlainDay → Outcome → Outcome
@@ -88,6 +88,16 @@ yielded p c =
     check (unknownClient c) 2 p (
     taken (stepped p (Steps.Yield c)) 0)
 
+-- "Join: 1, 3, 4, 7, 11"; its value: "the count of updates the joiner gained"
+abbrev pub joining : PlainDay → ℕ → ℕ → Outcome
+joining p n m =
+    given (meant (p .day) n) p (λ a.
+    given (meant (p .day) m) p (λ b.
+    check (p .day .joined a || p .day .joined b) 4 p (
+    check (busy (p .day) a || busy (p .day) b) 7 p (
+    check (notJoinable (p .day) a b) 11 p (
+    taken (stepped p (Steps.Join a b)) (length (own (p .day .diagram) (p .day .terminal b))))))))
+
 -- 02, U4: "sending the updates one by one and then a yield"; the first that is refused ends it
 abbrev pub afterTaken : Outcome → (PlainDay → Outcome) → Outcome
 afterTaken o rest = cond (eqb (o .answer .code) 0) (rest (o .next)) o
@@ -99,6 +109,13 @@ sent p c n (e ∷ es) = afterTaken (updated p c n (e .kind) (e .bib) (e .v)) (λ
 -- "If any of them would be refused, the code of the earliest is given"; "The value is the first entry's number."
 abbrev pub bundled : PlainDay → Outcome → Outcome
 bundled p o = cond (eqb (o .answer .code) 0) (taken (o .next) (p .day .updates)) (refused p (o .answer .code))
+
+-- a preview's end, by the join's: "the state and value at the joiner's line end and the gain", where that line end is the join
+-- vertex, the next vertex of the day. The day stays.
+abbrev pub foreseen : PlainDay → Outcome → ℕ → Outcome
+foreseen p j bib =
+    let s = pathResult (j .next) (length (p .day .diagram)) bib in
+    record { next = p; answer = record { code = 0; state = stateOf s; value = valueIn s; total = 0; gain = j .answer .value; lines = [] } }
 
 unfoldable pub called : PlainDay → Call → Outcome
 called p (Update c n k bib v) = updated p c n k bib v
@@ -120,14 +137,7 @@ called p (Fork n) =
     check (busy (p .day) r) 7 p (
     check (noneLeft (p .day)) 10 p (
     taken (stepped p (Steps.Fork r)) (nextNumber (p .day))))))
--- "Join: 1, 3, 4, 7, 11"; its value: "the count of updates the joiner gained"
-called p (Join n m) =
-    given (meant (p .day) n) p (λ a.
-    given (meant (p .day) m) p (λ b.
-    check (p .day .joined a || p .day .joined b) 4 p (
-    check (busy (p .day) a || busy (p .day) b) 7 p (
-    check (notJoinable (p .day) a b) 11 p (
-    taken (stepped p (Steps.Join a b)) (length (own (p .day .diagram) (p .day .terminal b))))))))
+called p (Join n m) = joining p n m
 -- "List: 1, 3, 4, 7, 12"; its value: "the count n of updates visible at the line end"; "The sheet receives n entries of 12
 -- bytes, in the order in which the effects apply on the way from the root"
 called p (Show n room) =
@@ -146,6 +156,11 @@ called p (Fill n) =
 called p (Bundle c n records) =
     check (isWrong records) 14 p (
     bundled p (sent p c n (entriesIn records)))
+-- 02, U6, preview: "equal to joining on a copy of the table and reading there"; "Refusals are those of the join, then 5 for the bib"
+called p (Preview n m bib) =
+    check (not (eqb (joining p n m .answer .code) 0)) (joining p n m .answer .code) p (
+    check (badBib bib) 5 p (
+    foreseen p (joining p n m) bib))
 
 -- the day after a list of calls, each getting it "as the last one left it"; and what they answer
 unfoldable pub dayFrom : PlainDay → List Call → PlainDay

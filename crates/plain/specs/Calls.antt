@@ -1,4 +1,4 @@
--- The calls of a day and what they answer with: 01, "Codes of the desk" and "Listing a box"; 02, U1, U2 and U4.
+-- The calls of a day and what they answer with: 01, "Codes of the desk" and "Listing a box"; 02, U1, U2, U4 and U6.
 use Prim.Native.Nat.{ℕ}
 use mathlib.Core.List.{List}
 use Rattle.updates.specs.declared.kind.Kind.{Kind}
@@ -14,6 +14,7 @@ pub data Call : Type 0 where
   Show : (revision room : ℕ) → Call
   Fill : (revision : ℕ) → Call
   Bundle : (client revision : ℕ) (records : List ℕ) → Call
+  Preview : (joiner joinee bib : ℕ) → Call
 
 -- an update as it was entered
 pub record Entry : Type 0 where
@@ -30,9 +31,11 @@ pub record Line : Type 0 where
 -- "Each call's code and all that it answers with, and the entries a taken list writes"
 pub record Answer : Type 0 where
   pub code : ℕ
-  -- 02, U2, of a query: "struck, timed or neither; a refused one neither"; of any other call neither
+  -- 02, U2, of a query: "struck, timed or neither; a refused one neither"; U6, of a preview; of any other call neither
   pub state : State
   pub value : ℕ
   -- of a fill, besides its value: "the number taken by the whole table"
   pub total : ℕ
+  -- 02, U6, of a preview, besides its state and value: "the gain"
+  pub gain : ℕ
   pub lines : List Line

@@ -1,9 +1,9 @@
--- 01, "Edges of a race day": the starred edges E1 to E9 as one table of calls with what each gives; and 02, U1 to U4.
+-- 01, "Edges of a race day": the starred edges E1 to E9 as one table of calls with what each gives; and 02, U1 to U4 and U6.
 use Prim.Native.Nat.{ℕ}
 use mathlib.Core.List.{List, [], _∷_, _++_}
 use Rattle.updates.specs.declared.standing.State.{State}
 use Rattle.updates.specs.declared.standing.State.the-variants as state
-use Rattle.plain.specs.Calls.{Call, Update, Query, Yield, Fork, Join, Show, Fill, Bundle, Answer}
+use Rattle.plain.specs.Calls.{Call, Update, Query, Yield, Fork, Join, Show, Fill, Bundle, Answer, Preview}
 use Rattle.plain.specs.Answers.{answers}
 
 -- what a call gives
@@ -11,6 +11,7 @@ pub record Said : Type 0 where
   pub code : ℕ
   pub state : State
   pub value : ℕ
+  pub gain : ℕ
 
 pub record Edge : Type 0 where
   pub calls : List Call
@@ -21,19 +22,23 @@ edge calls says = record { calls = calls; says = says }
 
 -- refused; a query that finds a bib timed, neither or struck; any other call that is taken
 abbrev pub no : ℕ → Said
-no code = record { code = code; state = state.Neither; value = 0 }
+no code = record { code = code; state = state.Neither; value = 0; gain = 0 }
 
 abbrev timed : ℕ → Said
-timed value = record { code = 0; state = state.Timed; value = value }
+timed value = record { code = 0; state = state.Timed; value = value; gain = 0 }
 
 abbrev pub neither : Said
-neither = record { code = 0; state = state.Neither; value = 0 }
+neither = record { code = 0; state = state.Neither; value = 0; gain = 0 }
 
 abbrev struck : Said
-struck = record { code = 0; state = state.Struck; value = 0 }
+struck = record { code = 0; state = state.Struck; value = 0; gain = 0 }
 
 abbrev pub ok : ℕ → Said
-ok value = record { code = 0; state = state.Neither; value = value }
+ok value = record { code = 0; state = state.Neither; value = value; gain = 0 }
+
+-- a preview, by what a query there would say, and its gain
+abbrev foreseen : Said → ℕ → Said
+foreseen s gain = record { code = s .code; state = s .state; value = s .value; gain = gain }
 
 -- the numbers of the kinds
 abbrev time : ℕ
@@ -133,11 +138,30 @@ codes =
     (no 14 ∷ no 14 ∷ no 2 ∷ no 3 ∷ no 5
     ∷ no 5 ∷ ok 0 ∷ neither ∷ no 5 ∷ no 7 ∷ ok 0 ∷ ok 1 ∷ [])
     ∷ edge (Update 0 0 time 7 5 ∷ Update 0 0 time 8 6 ∷ Query 0 0 7 ∷ Query 0 0 8 ∷ Query 0 0 9 ∷ []) (ok 0 ∷ ok 1 ∷ timed 5 ∷ timed 6 ∷ neither ∷ [])
+    -- preview (02, U6) on the day of E1: 7 of either box; then, before the join, what the query after it gives, with the join's gain;
+    -- of another bib neither, with the same gain; nothing is moved by it
+    ∷ edge
+    (Update 0 0 time 7 61000 ∷ Yield 0 ∷ Fork 0 ∷ Update 1 1 penalty 7 5000 ∷ Preview 0 1 7 ∷ Yield 1 ∷ Update 0 0 time 7 60000 ∷ Preview 0 1 7
+    ∷ Yield 0 ∷ Preview 0 1 7 ∷ Preview 0 1 8 ∷ Query 0 0 7 ∷ Yield 0 ∷ Preview 0 1 7 ∷ Join 0 1 ∷ Query 1 0 7 ∷ [])
+    (ok 0 ∷ ok 0 ∷ ok 1 ∷ ok 1 ∷ no 7 ∷ ok 0 ∷ ok 2 ∷ no 7
+    ∷ ok 0 ∷ foreseen (timed 65000) 1 ∷ foreseen neither 1 ∷ timed 60000 ∷ ok 0 ∷ foreseen (timed 65000) 1 ∷ ok 1 ∷ timed 65000 ∷ [])
+    -- its refusals are those of the join, in the join's order, and 5 comes last
+    ∷ edge
+    (Fork 0 ∷ Preview 0 2 1000 ∷ Preview 2 0 7 ∷ Preview 1 0 1000 ∷ Preview 0 0 7 ∷ Preview 0 1 1000 ∷ Preview 0 1 999 ∷ Query 3 0 7 ∷ Preview 0 0 1000 ∷ Yield 3
+    ∷ Join 0 1 ∷ Preview 0 1 1000 ∷ Preview 1 0 7 ∷ Preview 1 2 1000 ∷ [])
+    (ok 1 ∷ no 3 ∷ no 3 ∷ no 11 ∷ no 11 ∷ no 5 ∷ neither ∷ neither ∷ no 7 ∷ ok 0
+    ∷ ok 0 ∷ no 4 ∷ no 4 ∷ no 3 ∷ [])
+    -- it finds a bib struck; what the joinee inherited is not applied again, and what was joined into it is
+    ∷ edge
+    (Update 0 0 time 7 100 ∷ Update 0 0 penalty 7 10 ∷ Yield 0 ∷ Fork 0 ∷ Fork 1 ∷ Update 0 0 penalty 7 5 ∷ Yield 0 ∷ Update 1 1 penalty 7 1 ∷ Yield 1
+    ∷ Update 2 2 strike 8 0 ∷ Yield 2 ∷ Preview 0 1 7 ∷ Preview 0 1 8 ∷ Preview 1 2 8 ∷ Join 1 2 ∷ Preview 0 1 7 ∷ Preview 0 1 8 ∷ [])
+    (ok 0 ∷ ok 1 ∷ ok 0 ∷ ok 1 ∷ ok 2 ∷ ok 2 ∷ ok 0 ∷ ok 3 ∷ ok 0
+    ∷ ok 4 ∷ ok 0 ∷ foreseen (timed 116) 1 ∷ foreseen neither 1 ∷ foreseen struck 1 ∷ ok 1 ∷ foreseen (timed 116) 2 ∷ foreseen struck 2 ∷ [])
     ∷ []
 
 abbrev pub said : List Answer → List Said
 said [] = []
-said (a ∷ more) = record { code = a .code; state = a .state; value = a .value } ∷ said more
+said (a ∷ more) = record { code = a .code; state = a .state; value = a .value; gain = a .gain } ∷ said more
 
 abbrev pub expected : List Edge → List (List Said)
 expected [] = []

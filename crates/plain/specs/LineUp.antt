@@ -17,11 +17,12 @@ use Rattle.diagram.specs.Day.{Day, IsOut, meant}
 use Rattle.diagram.specs.Steps.{Accepted, run}
 use Rattle.diagram.specs.Witness.{Witness}
 use Rattle.diagram.specs.Arbitration.{IsEvent, eventsOf, Sees, SeesTransaction, Shows, WholeAt, Extends}
-use Rattle.plain.specs.Calls.{Call, Update, Query, Show, Bundle, Answer}
+use Rattle.plain.specs.Calls.{Call, Update, Query, Show, Bundle, Answer, Preview}
 use Rattle.plain.specs.Record.{PlainDay, freshDay, standingOf, linesOf}
 use Rattle.plain.specs.Answers.{called, dayAfter}
 use Rattle.plain.specs.Taken.{stepsAfter}
 use Rattle.plain.specs.Bundles.{Bundled}
+use Rattle.plain.specs.Previews.{Foresees}
 
 -- the day of revisions after a list of calls
 abbrev pub endOf : List Call → Day
@@ -90,3 +91,6 @@ pub record LineUp (cs : List Call) : Type 0 where
   -- "Each event of a tablet's later transaction sees each event of its earlier ones."
   pub sessions : (s t e f : ℕ) → s < t → t < endOf cs .transactions → endOf cs .transaction s .client ≡ endOf cs .transaction t .client
       → e ∈ eventsOf (endOf cs) s → f ∈ eventsOf (endOf cs) t → Sees (endOf cs) f e
+  -- 02, U6: a preview is no step; a taken one answers what "joining on a copy of the table and reading there" would give
+  pub previews : (before rest : List Call) (n m bib : ℕ) → Taken cs before (Preview n m bib) rest
+      → Foresees before n m bib (called (dayAfter before) (Preview n m bib) .answer)

@@ -8,7 +8,7 @@ use Rattle.bundles.specs.Records.{entriesIn}
 use Rattle.diagram.specs.Day.{meant}
 use Rattle.diagram.specs.Steps as Steps
 use Rattle.diagram.specs.Steps.{Step, Event}
-use Rattle.plain.specs.Calls.{Call, Update, Query, Yield, Fork, Join, Show, Fill, Bundle}
+use Rattle.plain.specs.Calls.{Call, Update, Query, Yield, Fork, Join, Show, Fill, Bundle, Preview}
 use Rattle.plain.specs.Record.{PlainDay, freshDay}
 use Rattle.plain.specs.Answers.{called}
 
@@ -31,6 +31,7 @@ stepOf p (Join n m) = onRevision (meant (p .day) n) (λ a. onRevision (meant (p 
 stepOf p (Show n room) = []
 stepOf p (Fill n) = []
 stepOf p (Bundle c n records) = onRevision (meant (p .day) n) (λ r. bundleSteps c r (entriesIn records))
+stepOf p (Preview n m bib) = []
 
 -- the steps of a call that ended with a code: none if it was refused
 abbrev pub ifTaken : ℕ → List Step → List Step

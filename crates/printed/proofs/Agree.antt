@@ -27,7 +27,7 @@ step-same p t S (Query c n bib) = query-same p t S c n bib
 step-same p t S (Yield c) = yield-same p t S c
 step-same p t S (Fork n) = fork-same p t S n
 step-same p t S (Join n m) = join-same p t S n m
-step-same p t S Strange = record { code = refl; state = refl; value = refl; total = refl; lent = S }
+step-same p t S Strange = record { code = refl; state = refl; value = refl; total = refl; gain = refl; lent = S }
 
 stands : (f : List ℕ) (i : ℕ) → Stands (paperAfter f i) (tableAfter freshTable f i)
 unfolding paperAfter tableAfter freshTable

@@ -35,8 +35,8 @@ settled-same : (p : PlainDay) (t : List ℕ) → Stands p t → (o : Outcome) (u
 settled-same p t S o u h =
     rw (h .code)
     (cases (eqb (o .answer .code) 0)
-    (λ e. rw e (record { code = refl; state = refl; value = bytes-are p t S .follow .same-updates; total = refl; lent = h .lent }))
-    (λ e. rw e (record { code = refl; state = refl; value = refl; total = refl; lent = S })))
+    (λ e. rw e (record { code = refl; state = refl; value = bytes-are p t S .follow .same-updates; total = refl; gain = refl; lent = h .lent }))
+    (λ e. rw e (record { code = refl; state = refl; value = refl; total = refl; gain = refl; lent = S })))
 
 pub bundle-same : (p : PlainDay) (t : List ℕ) (S : Stands p t) (c n : ℕ) (records : List ℕ) → Same (OnTable p t S) (called p (Paper.Bundle c n records)) (bundleOut t c n records)
 unfolding called bundleOut

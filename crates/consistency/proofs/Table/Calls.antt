@@ -66,11 +66,11 @@ module _ (p : PlainDay) (t : List ℕ) (S : Stands p t) where
   stepped-on s e q b x = subst (λ k. Stands (stepped p s) (k ++ high t)) (sym x) (stands-next p t S s e (stepped p s) refl (high t) (high-size p t S) (λ n h. S .entries-are n (subst (λ k. n < k) q h)))
 
   by-step : (s : Step) → accepted y s ≡ true → after y s .updates ≡ y .updates → (value w : ℕ) → w ≡ value → (b : List ℕ) → b ≡ stepBytes (low t) s → Same OnTable (Plain.taken (stepped p s) value) (Table.taken (b ++ high t) w)
-  by-step s e q value w z b x = record { code = refl; state = refl; value = z; total = refl; lent = stepped-on s e q b x }
+  by-step s e q value w z b x = record { code = refl; state = refl; value = z; total = refl; gain = refl; lent = stepped-on s e q b x }
 
   by-query : (s : Step) → accepted y s ≡ true → after y s .updates ≡ y .updates → (standing w : Standing) → w ≡ standing → (b : List ℕ) → b ≡ stepBytes (low t) s
       → Same OnTable (Plain.answered (stepped p s) standing) (Table.answered (b ++ high t) w)
-  by-query s e q standing w z b x = record { code = refl; state = ap stateOf z; value = ap valueIn z; total = refl; lent = stepped-on s e q b x }
+  by-query s e q standing w z b x = record { code = refl; state = ap stateOf z; value = ap valueIn z; total = refl; gain = refl; lent = stepped-on s e q b x }
 
   client : (c : ℕ) → not (Asked.isClient c) ≡ Day.unknownClient c
   client c = client-is y (cellsOf t) (bytes-are p t S .follow) c
@@ -89,6 +89,7 @@ module _ (p : PlainDay) (t : List ℕ) (S : Stands p t) where
     state = refl;
     value = is;
     total = refl;
+    gain = refl;
     lent = stands-next p t S (Steps.Event c r true) e (noted p c r kind bib v) refl (wrote (high t) (cellsOf t .updates) (entry kind c bib v)) (wrote-length (high t) (cellsOf t .updates) (entry kind c bib v) (high-size p t S) (room e9)) kept;
   }
     where
@@ -178,7 +179,7 @@ module _ (p : PlainDay) (t : List ℕ) (S : Stands p t) where
       by-check p t S (OnSheet s) s (S, refl) _ (Day.busy y r) 7 _ _ (number n r e3 .same-busy) λ e7.
       let same = same-order p t S n r e3 e4 in
       by-check p t S (OnSheet s) s (S, refl) _ (ltb (length s) (12 * length (view (y .diagram) (y .terminal r)))) 12 _ _ (ap (λ z. ltb (length s) (12 * length z)) same) λ e12.
-      record { code = refl; state = refl; value = ap length same; total = refl; lent = (S, same-sheet p t S n r e3 e4 s) })
+      record { code = refl; state = refl; value = ap length same; total = refl; gain = refl; lent = (S, same-sheet p t S n r e3 e4 s) })
 
   -- a fill's end: the same numbers, and the day stays
   pub record SameLevel (o : Outcome) (f : Level) : Type 0 where
@@ -186,6 +187,7 @@ module _ (p : PlainDay) (t : List ℕ) (S : Stands p t) where
     pub state : Neither ≡ o .answer .state
     pub own : f .own ≡ o .answer .value
     pub total : f .total ≡ o .answer .total
+    pub gain : 0 ≡ o .answer .gain
     pub next : o .next ≡ p
 
   pub fill-same : (n : ℕ) → SameLevel (called p (Paper.Fill n)) (fillOut t n)
@@ -193,10 +195,10 @@ module _ (p : PlainDay) (t : List ℕ) (S : Stands p t) where
   fill-same n = rw (is-table p t S, numbers-are p t S .same-given n) (pick (meant y n) refl)
     where
       out : (r : ℕ) → meant y n ≡ some r → (b : Bool) → y .joined r ≡ b → SameLevel (Plain.check b 4 p (Plain.told p (length (own (y .diagram) (y .terminal r))) (y .updates))) (cond b (noFill 4) (told (cellsOf t) n))
-      out r e true j = record { code = refl; state = refl; own = refl; total = refl; next = refl }
-      out r e false j = record { code = refl; state = refl; own = number n r e .out j .same-gain; total = bytes-are p t S .follow .same-updates; next = refl }
+      out r e true j = record { code = refl; state = refl; own = refl; total = refl; gain = refl; next = refl }
+      out r e false j = record { code = refl; state = refl; own = number n r e .out j .same-gain; total = bytes-are p t S .follow .same-updates; gain = refl; next = refl }
 
       pick : (m : Option ℕ) → meant y n ≡ m
           → SameLevel (Plain.given m p (λ r. Plain.check (y .joined r) 4 p (Plain.told p (length (own (y .diagram) (y .terminal r))) (y .updates)))) (cond (not (isGiven m)) (noFill 3) (cond (Asked.joined (cellsOf t) n) (noFill 4) (told (cellsOf t) n)))
-      pick none e = record { code = refl; state = refl; own = refl; total = refl; next = refl }
+      pick none e = record { code = refl; state = refl; own = refl; total = refl; gain = refl; next = refl }
       pick (some r) e = rw (number n r e .same-joined) (out r e (y .joined r) refl)

@@ -17,16 +17,17 @@ use Rattle.table.specs.Answers.{Out}
 use Rattle.table.specs.Calls.{freshOut}
 use Rattle.table.proofs.Halves.{low-of}
 use Rattle.consistency.specs.Reached.{bytesAfter, bytesFrom}
-use Rattle.consistency.specs.Table.{Request, Update, Query, Yield, Fork, Join, Show, Fill, Bundle, Reply, onPaper, calls, onTable, served, repliesOn, tableAfter, said, replies, TableFollowsDays}
+use Rattle.consistency.specs.Table.{Request, Update, Query, Yield, Fork, Join, Show, Fill, Bundle, Reply, onPaper, calls, onTable, served, repliesOn, tableAfter, said, replies, TableFollowsDays, Preview}
 use Rattle.consistency.proofs.Follow.{bytes-follow}
 use Rattle.consistency.proofs.Table.Stands.{Stands}
 use Rattle.consistency.proofs.Table.Same.{Same}
 use Rattle.consistency.proofs.Table.Calls.{OnTable, update-same, query-same, yield-same, fork-same, join-same, list-same, fill-same}
 use Rattle.consistency.proofs.Table.Bundles.{bundle-same}
+use Rattle.consistency.proofs.Table.Previews.{preview-same}
 
-same-reply : (c d : ℕ) (a b : State) (v w i j : ℕ) (s z : List ℕ) → c ≡ d → a ≡ b → v ≡ w → i ≡ j → s ≡ z
-    → _≡_ {A = Reply} (record { code = c; state = a; value = v; total = i; sheet = s }) (record { code = d; state = b; value = w; total = j; sheet = z })
-same-reply c d a b v w i j s z e q f g h = rw (e, q, f, g, h)
+same-reply : (c d : ℕ) (a b : State) (v w i j x y : ℕ) (s z : List ℕ) → c ≡ d → a ≡ b → v ≡ w → i ≡ j → x ≡ y → s ≡ z
+    → _≡_ {A = Reply} (record { code = c; state = a; value = v; total = i; gain = x; sheet = s }) (record { code = d; state = b; value = w; total = j; gain = y; sheet = z })
+same-reply c d a b v w i j x y s z e q f g k h = rw (e, q, f, g, k, h)
 
 module _ (p : PlainDay) (t : List ℕ) (S : Stands p t) where
   -- the reply, and the table left
@@ -34,8 +35,8 @@ module _ (p : PlainDay) (t : List ℕ) (S : Stands p t) where
     reply : served t q .reply ≡ said q (called p (onPaper q) .answer)
     stands : Stands (called p (onPaper q) .next) (served t q .table)
 
-  on-table : (o : Outcome) (u : Out) → Same (OnTable p t S) o u → (onTable u .reply ≡ record { code = o .answer .code; state = o .answer .state; value = o .answer .value; total = o .answer .total; sheet = [] }) × Stands (o .next) (u .lent)
-  on-table o u h = (same-reply _ _ _ _ _ _ _ _ [] [] (h .code) (h .state) (h .value) (h .total) refl, h .lent)
+  on-table : (o : Outcome) (u : Out) → Same (OnTable p t S) o u → (onTable u .reply ≡ record { code = o .answer .code; state = o .answer .state; value = o .answer .value; total = o .answer .total; gain = o .answer .gain; sheet = [] }) × Stands (o .next) (u .lent)
+  on-table o u h = (same-reply _ _ _ _ _ _ _ _ _ _ [] [] (h .code) (h .state) (h .value) (h .total) (h .gain) refl, h .lent)
 
   call-same : (q : Request) → SameCall q
   call-same (Update c n k bib v) = let h = on-table _ _ (update-same p t S c n k bib v) in record { reply = h .0; stands = h .1 }
@@ -43,9 +44,10 @@ module _ (p : PlainDay) (t : List ℕ) (S : Stands p t) where
   call-same (Yield c) = let h = on-table _ _ (yield-same p t S c) in record { reply = h .0; stands = h .1 }
   call-same (Fork n) = let h = on-table _ _ (fork-same p t S n) in record { reply = h .0; stands = h .1 }
   call-same (Join n m) = let h = on-table _ _ (join-same p t S n m) in record { reply = h .0; stands = h .1 }
-  call-same (Show n s) = let h = list-same p t S n s in record { reply = same-reply _ _ _ _ _ _ _ _ _ _ (h .code) (h .state) (h .value) (h .total) (h .lent .1); stands = h .lent .0 }
-  call-same (Fill n) = let h = fill-same p t S n in record { reply = same-reply _ _ _ _ _ _ _ _ [] [] (h .code) (h .state) (h .own) (h .total) refl; stands = subst (λ q. Stands q t) (sym (h .next)) S }
+  call-same (Show n s) = let h = list-same p t S n s in record { reply = same-reply _ _ _ _ _ _ _ _ _ _ _ _ (h .code) (h .state) (h .value) (h .total) (h .gain) (h .lent .1); stands = h .lent .0 }
+  call-same (Fill n) = let h = fill-same p t S n in record { reply = same-reply _ _ _ _ _ _ _ _ _ _ [] [] (h .code) (h .state) (h .own) (h .total) (h .gain) refl; stands = subst (λ q. Stands q t) (sym (h .next)) S }
   call-same (Bundle c n records) = let h = on-table _ _ (bundle-same p t S c n records) in record { reply = h .0; stands = h .1 }
+  call-same (Preview n m bib) = let h = preview-same p t S n m bib in record { reply = same-reply _ _ _ _ _ _ _ _ _ _ [] [] (h .code) (h .state) (h .value) (h .total) (h .gain) refl; stands = subst (λ q. Stands q t) (sym (h .next)) S }
 
 filled : (a : List ℕ) (n m k : ℕ) → length a ≡ n → n + m ≡ k → length (a ++ replicate m 0) ≡ k
 filled a n m k e f = length-append a (replicate m 0) ∙ rw (e, length-replicate {A = ℕ} m 0) f

@@ -19,18 +19,19 @@ use Rattle.table.specs.Answers.{Out}
 use Rattle.consistency.specs.Numbers.{isGiven}
 use Rattle.consistency.proofs.Table.Stands.{Stands, is-table, numbers-are}
 
--- a call's end on the day and on the table: the same code, state and value, no second number, and lent bytes that stand for the day
+-- a call's end on the day and on the table: the same code, state and value, no second number, no gain, and lent bytes that stand for the day
 pub record Same (Lent : PlainDay → List Line → List ℕ → Type 0) (o : Outcome) (u : Out) : Type 0 where
   pub code : u .code ≡ o .answer .code
   pub state : u .state ≡ o .answer .state
   pub value : u .value ≡ o .answer .value
   pub total : 0 ≡ o .answer .total
+  pub gain : 0 ≡ o .answer .gain
   pub lent : Lent (o .next) (o .answer .lines) (u .lent)
 
 -- the checks of a call that has bytes l lent
 module _ (p : PlainDay) (t : List ℕ) (S : Stands p t) (Lent : PlainDay → List Line → List ℕ → Type 0) (l : List ℕ) (kept : Lent p [] l) where
   pub refused-same : (code : ℕ) → Same Lent (Plain.refused p code) (Table.refused l code)
-  refused-same code = record { code = refl; state = refl; value = refl; total = refl; lent = kept }
+  refused-same code = record { code = refl; state = refl; value = refl; total = refl; gain = refl; lent = kept }
 
   -- a check that finds the same
   pub by-check : (a b : Bool) (code : ℕ) (o : Outcome) (u : Out) → a ≡ b → (b ≡ false → Same Lent o u) → Same Lent (Plain.check b code p o) (Table.check a code l u)

@@ -2,16 +2,14 @@
 use Prim.Native.Nat.{ℕ, suc, _*_, _<_}
 use mathlib.Core.Bool.{false}
 use mathlib.Core.Path.{_≡_, refl, sym, _∙_, ap}
-use mathlib.Core.Option.{none, some}
-use mathlib.Core.List.{List, [], _∷_, _++_, append-nil}
+use mathlib.Core.Option.{some}
+use mathlib.Core.List.{List, [], _∷_, _++_}
 use lib.ListN.{length, drop}
 use Rattle.lists.specs.Lists.{_∈_}
 use Rattle.updates.specs.Applied.{applied, freshStanding}
-use Rattle.diagram.specs.Diagram.{event}
 use Rattle.diagram.specs.Day.{meant}
-use Rattle.diagram.specs.Effects.{view, viewStep}
-use Rattle.diagram.specs.Steps.{Event, after}
-use Rattle.diagram.proofs.Graph.Tables.{tabulate-newest}
+use Rattle.diagram.specs.Effects.{view}
+use Rattle.diagram.specs.Steps.{Event}
 use Rattle.diagram.proofs.Order.Runs.{fine-run}
 use Rattle.cells.specs.Order.{order}
 use Rattle.entries.specs.declared.entry.Entry as Stored
@@ -22,6 +20,7 @@ use Rattle.plain.specs.Calls.{Entry}
 use Rattle.plain.specs.Record as Plain
 use Rattle.plain.specs.Record.{PlainDay, linesOf, pathResult}
 use Rattle.plain.specs.Answers.{stepped}
+use Rattle.plain.proofs.Previews.{reads-terminal}
 use Rattle.plain.proofs.LineUp.{view-low, ofBib-same, linesOf-same}
 use Rattle.table.specs.Halves.{cellsOf, high}
 use Rattle.table.specs.Calls as Table
@@ -32,6 +31,10 @@ use Rattle.consistency.proofs.Table.Stands.{Stands, asEntered, numbers-
 ofBib-is : (f : ℕ → Stored.Entry) (bib : ℕ) (ns : List ℕ) → Folded.ofBib f bib ns ≡ Plain.ofBib (λ n. asEntered (f n)) bib ns
 ofBib-is f bib [] = refl
 ofBib-is f bib (n ∷ ns) = rw (ofBib-is f bib ns)
+
+-- a bib's standing by entries that are stored as they were entered
+pub standing-same : (f : ℕ → Stored.Entry) (g : ℕ → Entry) (bib : ℕ) (ns ms : List ℕ) → ns ≡ ms → ((k : ℕ) → k ∈ ms → asEntered (f k) ≡ g k) → Folded.standingOf f bib ns ≡ Plain.standingOf g bib ms
+standing-same f g bib ns ms e h = ap (λ us. applied us freshStanding) (ap (Folded.ofBib f bib) e ∙ ofBib-is f bib ms ∙ ofBib-same _ g bib ms h)
 
 -- the lines in bytes, of the entries as they are stored and as they were entered
 inBytes-is : (f : ℕ → Stored.Entry) (ns : List ℕ) → inBytes (linesOf (λ n. asEntered (f n)) ns) ≡ lines f ns
@@ -48,18 +51,18 @@ module _ (p : PlainDay) (t : List ℕ) (S : Stands p t) (n r : ℕ) (m : meant (
   same-order = numbers-are p t S .number n r m .out o .same-order
 
   -- every number shown is that of an update taken
-  shown-low : (k : ℕ) → k ∈ view (p .day .diagram) (p .day .terminal r) → k < p .day .updates
+  pub shown-low : (k : ℕ) → k ∈ view (p .day .diagram) (p .day .terminal r) → k < p .day .updates
   shown-low = rw (S .day-is) (λ k i. view-low (S .steps) (S .ok) _ k (fine-run (S .steps) (S .ok) .sound .real .linked .bound r) i)
 
   entries-same : (k : ℕ) → k ∈ view (p .day .diagram) (p .day .terminal r) → asEntered (entryAt (high t) k) ≡ p .entries k
   entries-same k i = S .entries-are k (shown-low k i)
 
+  pub same-reading : (bib : ℕ) → Table.standingAt t n bib ≡ pathResult p (p .day .terminal r) bib
+  unfolding Table.standingAt
+  same-reading bib = standing-same (entryAt (high t)) (p .entries) bib _ _ same-order entries-same
+
   pub same-standing : (c bib : ℕ) → Table.standingAt t n bib ≡ pathResult (stepped p (Event c r false)) (length (p .day .diagram)) bib
-  unfolding Table.standingAt after
-  same-standing c bib =
-      let seen : view (event (p .day .terminal r) c none ∷ p .day .diagram) (length (p .day .diagram)) ≡ view (p .day .diagram) (p .day .terminal r)
-      = tabulate-newest viewStep [] (event (p .day .terminal r) c none) (p .day .diagram) ∙ append-nil _ in
-      ap (λ us. applied us freshStanding) (ap (Folded.ofBib (entryAt (high t)) bib) same-order ∙ ofBib-is (entryAt (high t)) bib (view (p .day .diagram) (p .day .terminal r)) ∙ ofBib-same _ (p .entries) bib (view (p .day .diagram) (p .day .terminal r)) entries-same ∙ ap (Plain.ofBib (p .entries) bib) (sym seen))
+  same-standing c bib = same-reading bib ∙ sym (reads-terminal p c r bib)
 
   lines-same : inBytes (linesOf (p .entries) (view (p .day .diagram) (p .day .terminal r))) ≡ lines (entryAt (high t)) (order (cellsOf t) n)
   lines-same =

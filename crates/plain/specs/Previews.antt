@@ -1,0 +1,39 @@
+-- 02, U6, "Look before taking over", on the plain day: a taken preview answers what a join taken there and then, and the path-result
+-- at its join vertex, would give. The join is not among the calls; the line-up with it is that of `before` and the join.
+use Prim.Native.Nat.{ℕ}
+use mathlib.Core.Path.{_≡_}
+use mathlib.Core.Option.{some}
+use mathlib.Core.List.{List, [], _∷_, _++_}
+use lib.ListN.{length}
+use Rattle.updates.specs.Effect.{stateOf, valueIn}
+use Rattle.diagram.specs.Effects.{own, view}
+use Rattle.diagram.specs.Day.{meant}
+use Rattle.plain.specs.Calls.{Call, Query, Join, Answer}
+use Rattle.plain.specs.Record.{PlainDay, pathResult}
+use Rattle.plain.specs.Answers.{called, dayAfter}
+
+-- the day that a join taken after some calls would leave, and its join vertex: the next vertex of the day before it
+abbrev pub joinedDay : List Call → ℕ → ℕ → PlainDay
+joinedDay before n m = dayAfter (before ++ (Join n m ∷ []))
+
+abbrev pub joinVertex : List Call → ℕ
+joinVertex before = length (dayAfter before .day .diagram)
+
+pub record Foresees (before : List Call) (n m bib : ℕ) (answer : Answer) : Type 0 where
+  -- the join would be taken, "and the gain" is its value
+  pub joins : called (dayAfter before) (Join n m) .answer .code ≡ 0
+  pub gain : answer .gain ≡ called (dayAfter before) (Join n m) .answer .value
+  -- "the state and value at the joiner's line end": the join vertex would be that line end
+  pub joiner : ℕ
+  pub joinee : ℕ
+  pub joiner-is : meant (dayAfter before .day) n ≡ some joiner
+  pub joinee-is : meant (dayAfter before .day) m ≡ some joinee
+  pub terminal : joinedDay before n m .day .terminal joiner ≡ joinVertex before
+  pub state : answer .state ≡ stateOf (pathResult (joinedDay before n m) (joinVertex before) bib)
+  pub value : answer .value ≡ valueIn (pathResult (joinedDay before n m) (joinVertex before) bib)
+  -- what is shown there: the updates visible at the joiner, then the joinee's own
+  pub shown : view (joinedDay before n m .day .diagram) (joinVertex before)
+      ≡ view (dayAfter before .day .diagram) (dayAfter before .day .terminal joiner) ++ own (dayAfter before .day .diagram) (dayAfter before .day .terminal joinee)
+  -- so a query of the joiner that is taken right after that join, whoever asks, would answer the same
+  pub query : (c : ℕ) → called (joinedDay before n m) (Query c n bib) .answer .code ≡ 0
+      → (called (joinedDay before n m) (Query c n bib) .answer .state ≡ answer .state) × (called (joinedDay before n m) (Query c n bib) .answer .value ≡ answer .value)
