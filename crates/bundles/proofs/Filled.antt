@@ -1,30 +1,18 @@
 -- Room for records with one record more.
-use Prim.Native.Nat.{ℕ, suc, _+_, _*_, _-_, _<_, _≤_}
-use mathlib.Core.Bool.{cond}
+use Prim.Native.Nat.{ℕ, _+_, _*_, _-_, _<_, _≤_}
 use mathlib.Core.Path.{_≡_, refl, sym, _∙_, ap}
 use mathlib.Core.List.{List, [], _∷_, _++_, append-assoc, append-nil}
 use native.Mathlib.Omega.{arith}
 use native.Mathlib.Numerals.{add-one}
 use lib.Dec.{ltb}
-use lib.ListN.{length, take, drop, getD, replicate, length-append, replicate-append-replicate}
+use lib.ListN.{length, take, drop, getD, replicate, replicate-append-replicate}
 use lib.Seq.{take-at, drop-at, drop-drop, take-all, take-length, take-suc, length-take-le}
 use borrow.Author.Tests.{ltb-true, ltb-false}
 use Rattle.lists.proofs.Cases.{cases}
 use Rattle.bundles.specs.declared.entry.Entry.{Entry}
 use Rattle.bundles.specs.Records.{recordOf, recordsOf, withRecord}
-use Rattle.bundles.specs.Packed.{atMost, filled}
-
-pub record-length : (e : Entry) → length (recordOf e) ≡ 12
-unfolding recordOf
-record-length e = refl
-
-pub records-length : (es : List Entry) → length (recordsOf es) ≡ 12 * length es
-unfolding recordsOf
-records-length [] = refl
-records-length (e ∷ es) =
-    let h = records-length es in
-    let l = record-length e in
-    length-append (recordOf e) (recordsOf es) ∙ omega arith
+use Rattle.bundles.specs.Packed.{atMost, filled, packedOf}
+use Rattle.bundles.proofs.Held.{records-length}
 
 records-append : (a b : List Entry) → recordsOf (a ++ b) ≡ recordsOf a ++ recordsOf b
 unfolding recordsOf
@@ -39,6 +27,15 @@ pub none-filled : (es : List Entry) → replicate 768 0 ≡ filled (take 0 es)
 unfolding filled recordsOf
 none-filled es = refl
 
+-- the room behind record i
+zeros-left : (k : ℕ) → drop {A = ℕ} 12 (replicate (12 + k) 0) ≡ replicate k 0
+zeros-left k = ap (drop 12) (sym (replicate-append-replicate 12 k 0)) ∙ drop-at (replicate 12 0) (replicate k 0) 12 refl
+
+room-left : (i : ℕ) → i < 64 → drop {A = ℕ} 12 (replicate (768 - 12 * i) 0) ≡ replicate (768 - 12 * (i + 1)) 0
+room-left i small =
+    let left : 768 - 12 * i ≡ 12 + (768 - 12 * (i + 1)) = omega arith in
+    ap (λ k. drop {A = ℕ} 12 (replicate k 0)) left ∙ zeros-left (768 - 12 * (i + 1))
+
 -- record i put behind the i records before it
 pub one-more : (es : List Entry) (i : ℕ) (d : Entry) → i < 64 → i < length es → withRecord (filled (take i es)) i (getD es i d) ≡ filled (take (i + 1) es)
 unfolding filled
@@ -50,9 +47,8 @@ one-more es i d small h =
     let b = filled (take i es) in
     let b-is : b ≡ first ++ replicate (768 - 12 * i) 0 = ap (λ k. first ++ replicate (768 - 12 * k) 0) size in
     let front : take (12 * i) b ≡ first = ap (take (12 * i)) b-is ∙ take-at first (replicate (768 - 12 * i) 0) (12 * i) long in
-    let left : 768 - 12 * i ≡ 12 + (768 - 12 * (i + 1)) = omega arith in
     let back : drop (12 * i + 12) b ≡ replicate (768 - 12 * (i + 1)) 0 =
-    sym (drop-drop 12 (12 * i) b) ∙ ap (drop 12) (ap (drop (12 * i)) b-is ∙ drop-at first (replicate (768 - 12 * i) 0) (12 * i) long ∙ ap (λ k. replicate k 0) left ∙ sym (replicate-append-replicate 12 (768 - 12 * (i + 1)) 0)) ∙ drop-at (replicate 12 0) (replicate (768 - 12 * (i + 1)) 0) 12 refl in
+    sym (drop-drop 12 (12 * i) b) ∙ ap (drop 12) (ap (drop (12 * i)) b-is ∙ drop-at first (replicate (768 - 12 * i) 0) (12 * i) long) ∙ room-left i small in
     let next : take (i + 1) es ≡ take i es ++ (e ∷ []) = ap (λ k. take k es) (add-one i) ∙ take-suc es i d h in
     let more : recordsOf (take (i + 1) es) ≡ first ++ recordOf e = ap recordsOf next ∙ records-append (take i es) (e ∷ []) ∙ ap (λ z. first ++ z) (records-one e) in
     let count : length (take (i + 1) es) ≡ i + 1 = length-take-le (i + 1) es (omega arith) in
@@ -70,3 +66,9 @@ below-most n i =
     cases {C = i < atMost n → (i < n) × (i < 64)} (ltb n 64)
     (λ h. rw h (λ l. let g = ltb-true n 64 h in (l, omega arith)))
     (λ h. rw h (λ l. let g = ltb-false n 64 h in (omega arith, l)))
+
+-- what is said of the bytes of no more than 64 entries is said of their records
+pub packed-records : (es : List Entry) → length es ≤ 64 → take (12 * length es) (packedOf es .bytes) ≡ recordsOf es
+unfolding packedOf filled
+packed-records es h =
+    rw (take-all 64 es h) (take-at (recordsOf es) (replicate (768 - 12 * length es) 0) (12 * length es) (records-length es))

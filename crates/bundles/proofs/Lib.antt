@@ -1,3 +1,5 @@
--- Laws that belong to no one function.
+-- Laws that belong to no one function, and examples.
 pub mod Written
+pub mod Held
 pub mod Filled
+mod Examples
