@@ -2,3 +2,4 @@
 pub mod entry; // entry.rt: an update as it is sent
 pub mod record; // record.rt: a record read, and a record put
 pub mod check; // check.rt: how many records the bytes are
+pub mod pack; // pack.rt: a lent list of entries put as records

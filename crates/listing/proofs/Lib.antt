@@ -1,3 +1,3 @@
--- Laws that belong to no one function: twelve bytes written one by one, and one line more; and examples.
+-- Laws that belong to no one function: one line more, and a line as a record of a bundle; and examples.
 pub mod Written
 mod Examples

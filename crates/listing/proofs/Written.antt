@@ -1,20 +1,17 @@
--- A sheet with one line more.
-use Prim.Native.Nat.{ℕ, _+_, _*_, _-_, _<_}
+-- A sheet with one line more, and a line read as a record of a bundle.
+use Prim.Native.Nat.{ℕ, _+_, _*_, _<_}
 use mathlib.Core.Path.{_≡_, refl, sym, _∙_, ap}
 use mathlib.Core.List.{List, [], _∷_, _++_, append-assoc, append-nil}
 use native.Mathlib.Omega.{arith}
 use native.Mathlib.Numerals.{add-one}
-use lib.ListN.{length, set, take, drop, getD, length-append, drop-of-length-le}
-use lib.Seq.{sets-eq, take-at, drop-at, drop-drop, take-suc, length-take-le}
+use lib.ListN.{length, take, drop, getD, length-append}
+use lib.Seq.{take-at, drop-at, drop-drop, take-suc, length-take-le}
+use Rattle.records.specs.Numbers.{word}
+use Rattle.bundles.specs.Records.{entryIn}
+use Rattle.bundles.proofs.Held.{entry-laid}
+use Rattle.updates.specs.Kinds.{kindNumber}
 use Rattle.entries.specs.declared.entry.Entry.{Entry}
 use Rattle.listing.specs.Lines.{line, lines, sheet}
-
--- twelve bytes written one by one
-pub twelve-set : (p : List ℕ) (a b c d e f g h i j k l : ℕ) → length p ≡ 12
-    → set (set (set (set (set (set (set (set (set (set (set (set p 0 a) 1 b) 2 c) 3 d) 4 e) 5 f) 6 g) 7 h) 8 i) 9 j) 10 k) 11 l
-    ≡ a ∷ b ∷ c ∷ d ∷ e ∷ f ∷ g ∷ h ∷ i ∷ j ∷ k ∷ l ∷ []
-twelve-set p a b c d e f g h i j k l z =
-    sets-eq (a ∷ b ∷ c ∷ d ∷ e ∷ f ∷ g ∷ h ∷ i ∷ j ∷ k ∷ l ∷ []) p 0 (omega arith) ∙ rw (drop-of-length-le p {i = 12} (omega arith))
 
 pub line-length : (e : Entry) (n : ℕ) → length (line e n) ≡ 12
 unfolding line
@@ -62,11 +59,7 @@ one-more entries order s old i h e =
     let far : 12 * length (take (i + 1) order) ≡ 12 * i + 12 = omega arith in
     rw (front, back, more, far) (sym (append-assoc first (line (entries n) n) (drop (12 * i + 12) old)))
 
--- for code: the twelve bytes of line i, lent as `&mut s[at..end]`, come back as l
-lent-size : (i : ℕ) → 12 * i + 12 - 12 * i ≡ 12
-lent-size i = omega arith
-
-pub lent-line : (s q l : List ℕ) (i : ℕ) → q ≡ l → take (12 * i) s ++ (q ++ drop (12 * i + 12 - 12 * i) (drop (12 * i) s)) ≡ take (12 * i) s ++ (l ++ drop (12 * i + 12) s)
-lent-line s q l i h =
-    let rest : drop (12 * i + 12 - 12 * i) (drop (12 * i) s) ≡ drop (12 * i + 12) s = ap (λ k. drop k (drop (12 * i) s)) (lent-size i) ∙ drop-drop 12 (12 * i) s in
-    rw (h, rest)
+-- "Records are laid out as in the listing": a line read as a record of a bundle is its kind's number, bib and v
+pub line-entry : (e : Entry) (n : ℕ) → entryIn (line e n) ≡ record { kind = kindNumber (e .kind); bib = e .bib; v = e .v }
+unfolding line
+line-entry e n = entry-laid (kindNumber (e .kind)) (e .client) (e .bib) (e .v) (word n)

@@ -1,12 +1,12 @@
--- A number read from its last byte to its first, and its bound.
-use Prim.Native.Nat.{ℕ, suc, _+_, _*_, _-_, _^_, _<_, _≤_}
+-- A number read from its last byte to its first, its bound, and a number read back from its bytes.
+use Prim.Native.Nat.{ℕ, suc, _+_, _*_, _-_, _/_, _%_, _^_, _<_, _≤_}
 use mathlib.Core.Path.{_≡_, ap, subst}
-use mathlib.Core.List.{List}
+use mathlib.Core.List.{List, [], _∷_}
 use native.Mathlib.Nat.{pow-le-pow-right, pow-succ', lt-of-lt-of-le}
 use native.Mathlib.Omega.{arith}
 use lib.ListN.{length, take, drop, getD, length-take, drop-of-length-le}
 use lib.Seq.{drop-cons}
-use Rattle.records.specs.Numbers.{number}
+use Rattle.records.specs.Numbers.{number, word}
 
 -- no byte is left past the last
 pub number-end : (p : List ℕ) → number (drop (length p) p) ≡ 0
@@ -33,3 +33,12 @@ bound-four n h = pow-le-pow-right (omega arith) h
 -- what is read from a part of at most k bytes
 pub part-below : (v k : ℕ) (p : List ℕ) → v < 256 ^ length (take k p) → v < 256 ^ k
 part-below v k p h = lt-of-lt-of-le h (pow-le-pow-right (omega arith) (rw length-take (omega arith)))
+
+-- a number of two bytes and one of four read back, of any size: what does not fit stays in the last byte
+pub number-two : (b : ℕ) → number (b % 256 ∷ b / 256 ∷ []) ≡ b
+unfolding number
+number-two b = omega arith
+
+pub number-word : (v : ℕ) → number (word v) ≡ v
+unfolding number
+number-word v = omega arith

@@ -3,7 +3,7 @@ use native.Mathlib.Omega.{arith}
 use lib.ListN.{length-set}
 use borrow.Author.Needs.{needs}
 use Rattle.listing.specs.Lines.{line}
-use Rattle.listing.proofs.Written.{twelve-set}
+use Rattle.bundles.proofs.Written.{twelve-set}
 use Rattle.listing.proofs.line.write.Statement.{statement}
 use Rattle.listing.proofs.line.write.Tie as tie
 

@@ -1,0 +1,27 @@
+-- 02, U4: ".. then as a lent list of entries": the entries as records in room for 64, and how many entries there are.
+use Prim.Native.Nat.{ℕ, _*_, _-_}
+use mathlib.Core.Bool.{cond}
+use mathlib.Core.List.{List, _++_}
+use lib.Dec.{ltb}
+use lib.ListN.{length, replicate, take}
+use Rattle.bundles.specs.Records.{recordsOf, withRecord}
+use Rattle.bundles.specs.declared.entry.Entry.{Entry}
+use Rattle.bundles.specs.declared.pack.Packed.{Packed}
+
+-- "Accept 1 to 64 updates"
+abbrev pub atMost : ℕ → ℕ
+atMost n = cond (ltb n 64) n 64
+
+abbrev pub blank : ℕ → Packed
+blank n = record { bytes = replicate 768 0; count = n }
+
+abbrev pub withEntry : Packed → ℕ → Entry → Packed
+withEntry p i e = record { bytes = withRecord (p .bytes) i e; count = p .count }
+
+-- no more than 64 entries as records, and zeros behind them
+unfoldable pub filled : List Entry → List ℕ
+filled es = recordsOf es ++ replicate (768 - 12 * length es) 0
+
+-- of more than 64 entries the count alone decides: the bundle is wrong
+unfoldable pub packedOf : List Entry → Packed
+packedOf es = record { bytes = filled (take 64 es); count = length es }
