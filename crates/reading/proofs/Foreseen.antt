@@ -1,4 +1,4 @@
--- A preview from what the checks of the join find; and the standing after a join.
+-- A preview from what its checks find.
 use Prim.Native.Nat.{ℕ}
 use mathlib.Core.Bool.{Bool, true, false, not, cond, _||_}
 use mathlib.Core.Path.{_≡_, refl, _∙_}
@@ -17,6 +17,7 @@ use Rattle.table.specs.declared.answer.Prospect.{Prospect}
 use Rattle.table.specs.declared.answer.Reading.{Reading}
 use Rattle.table.specs.declared.pair.PairCheck.{PairCheck}
 use Rattle.table.proofs.Calls.{given-is, over, pair-cond, either}
+use Rattle.reading.specs.Checks.{previewCheck}
 
 -- the call on bytes that are no table
 pub no-preview : (t : List ℕ) → isTable t ≡ false → (n m bib : ℕ) → noProspect 1 ≡ previewOut t n m bib
@@ -30,13 +31,7 @@ weighed bib s o = cond (not (eqb (o .code) 0)) (noProspect (o .code)) (cond (bad
 weighed-cond : (bib : ℕ) (s : Standing) (b : Bool) (x y : Out) → weighed bib s (cond b x y) ≡ cond b (weighed bib s x) (weighed bib s y)
 weighed-cond bib s b x y = over (weighed bib s) b x y
 
--- 5 of a preview, and its end
-pub strange : (bib : ℕ) (p : Prospect) → badBib bib ≡ true → noProspect 5 ≡ cond (badBib bib) (noProspect 5) p
-strange bib p e = rw e
-
-pub told : (bib : ℕ) (q : Prospect) → badBib bib ≡ false → {p : Prospect} → p ≡ q → p ≡ cond (badBib bib) (noProspect 5) q
-told bib q e h = rw e h
-
+-- its end, from what is told of the standing
 pub seen : {s z : Standing} {g w : ℕ} {r : Reading} → r ≡ record { code = 0; state = stateOf s; value = valueIn s } → s ≡ z → g ≡ w
     → _≡_ {A = Prospect} (record { code = 0; state = r .state; value = r .value; gain = g }) (foreseen z w)
 seen er es eg = rw (er, es, eg)
@@ -51,16 +46,20 @@ module _ (t : List ℕ) (n m : ℕ) where
       cond (busy (cellsOf t) n || busy (cellsOf t) m) (end 7) (
       cond (not (joinable (cellsOf t) n m)) (end 11) rest))))
 
-  by-pair : {A : Type 0} (end : ℕ → A) (rest : ℕ → ℕ → A) → onPair (joinCheck (low t) n m) end (λ a b. rest (a .0) (b .0)) ≡ checked end (rest n m)
-  unfolding joinCheck bothCheck meetCheck onPair
-  by-pair end rest = simp (given-is, pair-cond, either)
-
   module _ (bib : ℕ) where
-    by-join : isTable t ≡ true → (s : Standing) → checked (λ k. weighed bib s (refused t k)) (weighed bib s (taken (joinBytes (low t) n m ++ high t) (cellsOf t .count m))) ≡ weighed bib s (joinOut t n m)
+    by-pair : {A : Type 0} (end : ℕ → A) (rest : ℕ → ℕ → A)
+        → onPair (previewCheck (low t) n m bib) end (λ a b. rest (a .0) (b .0)) ≡ checked end (cond (badBib bib) (end 5) (rest n m))
+    unfolding previewCheck joinCheck bothCheck meetCheck onPair
+    by-pair end rest = simp (given-is, pair-cond, either)
+
+    by-join : isTable t ≡ true → (s : Standing)
+        → checked (λ k. weighed bib s (refused t k)) (weighed bib s (taken (joinBytes (low t) n m ++ high t) (cellsOf t .count m))) ≡ weighed bib s (joinOut t n m)
     unfolding joinOut
     by-join h s = simp (weighed-cond, h)
 
-    codes : (s : Standing) → checked noProspect (cond (badBib bib) (noProspect 5) (foreseen s (cellsOf t .count m))) ≡ checked (λ k. weighed bib s (refused t k)) (weighed bib s (taken (joinBytes (low t) n m ++ high t) (cellsOf t .count m)))
+    codes : (s : Standing)
+        → checked noProspect (cond (badBib bib) (noProspect 5) (foreseen s (cellsOf t .count m)))
+        ≡ checked (λ k. weighed bib s (refused t k)) (weighed bib s (taken (joinBytes (low t) n m ++ high t) (cellsOf t .count m)))
     unfolding weighed
     codes s = refl
 
@@ -69,6 +68,11 @@ module _ (t : List ℕ) (n m : ℕ) where
     is-weighed = refl
 
     -- the call on a table, from what its checks find
-    pub preview-by : isTable t ≡ true → (z : PairCheck) → joinCheck (low t) n m ≡ z
-        → onPair z noProspect (λ a b. cond (badBib bib) (noProspect 5) (foreseen (standingAfter t (a .0) (b .0) bib) (cellsOf t .count (b .0)))) ≡ previewOut t n m bib
-    preview-by h z e = rw (← e) (by-pair noProspect (λ a b. cond (badBib bib) (noProspect 5) (foreseen (standingAfter t a b bib) (cellsOf t .count b))) ∙ codes (standingAfter t n m bib) ∙ by-join h (standingAfter t n m bib) ∙ is-weighed)
+    pub preview-by : isTable t ≡ true → (z : PairCheck) → previewCheck (low t) n m bib ≡ z
+        → onPair z noProspect (λ a b. foreseen (standingAfter t (a .0) (b .0) bib) (cellsOf t .count (b .0))) ≡ previewOut t n m bib
+    preview-by h z e =
+        rw (← e)
+        (by-pair noProspect (λ a b. foreseen (standingAfter t a b bib) (cellsOf t .count b))
+        ∙ codes (standingAfter t n m bib)
+        ∙ by-join h (standingAfter t n m bib)
+        ∙ is-weighed)

@@ -1,12 +1,17 @@
 // The call preview (02, U6): how a bib will stand at the joiner after a join, and the join's gain. The table is only read.
-ghost use mathlib.Core.Bool.{true, cond};
+ghost use mathlib.Core.Bool.{true};
+ghost use mathlib.Core.List.{_++_};
 ghost use mathlib.Core.Path.{_≡_};
-ghost use Prim.Native.Nat.{_<_};
-ghost use lib.ListN.{length};
-ghost use Rattle.cells.specs.Sizes.{revisions};
+ghost use Prim.Native.Nat.{_<_, _≤_};
+ghost use lib.ListN.{drop, length};
+ghost use Rattle.cells.specs.Sizes as Lower;
+ghost use Rattle.cells.specs.Sizes.{revisions, updates};
+ghost use Rattle.cells.specs.Cells.{own};
 ghost use Rattle.cells.specs.Range.{inRange};
 ghost use Rattle.table.specs.Halves.{bytes, cellsOf, isTable, low};
-ghost use Rattle.table.specs.Calls.{badBib, foreseen, noProspect, previewOut, standingAfter};
+ghost use Rattle.table.specs.Calls.{foreseen, noProspect, previewOut, standingAfter};
+ghost use Rattle.table.specs.Checks.{pairIn};
+ghost use Rattle.reading.specs.Checks.{previewCheck};
 use crate::standing::standing_at;
 use crate::standing::tell;
 use fields::read;
@@ -21,6 +26,14 @@ use table::sound::TableCheck;
 use updates::standing::Standing;
 use updates::standing::State;
 
+// The own list of r into the first places of `out`; how many it has.
+fn own_of(t: &[u8], r: Revision, out: &mut [u16]) -> usize
+    requires { ⌜ (length (now t) ≡ bytes) × (inRange (low (now t)) ≡ true) × (r .0 < revisions) × (length (now out) ≡ updates) ⌝ }
+    ensures { λ n. ⌜ (n ≡ cellsOf (now (t .entry)) .count (r .0)) × (n ≤ updates) × (now (out .exit) ≡ own (cellsOf (now (t .entry))) (r .0) ++ drop n (now (out .entry))) ⌝ }
+{
+    order::links::own_list(&t[0..40960], r, out)
+}
+
 // The standing of a bib after what is visible at a, then b's own updates.
 fn standing_after(t: &[u8], a: Revision, b: Revision, bib: u16) -> Standing
     requires { ⌜ (length (now t) ≡ bytes) × (inRange (low (now t)) ≡ true) × (a .0 < revisions) × (b .0 < revisions) ⌝ }
@@ -28,7 +41,7 @@ fn standing_after(t: &[u8], a: Revision, b: Revision, bib: u16) -> Standing
 {
     let start = standing_at(t, a, bib);
     let mut out = order::links::room();
-    let n = order::links::own_list(&t[0..40960], b, &mut out);
+    let n = own_of(t, b, &mut out);
     entries::standing::standing_from(&t[40960..65536], &out, n, bib, start)
 }
 
@@ -38,6 +51,23 @@ fn brought(t: &[u8], b: Revision) -> u16
     ensures { λ n. ⌜ n ≡ cellsOf (now (t .entry)) .count (b .0) ⌝ }
 {
     read::count(&t[0..40960], b) as u16
+}
+
+// The end of a preview that the checks allow.
+fn foresee(t: &[u8], a: Revision, b: Revision, bib: u16) -> Prospect
+    requires { ⌜ (length (now t) ≡ bytes) × (inRange (low (now t)) ≡ true) × (a .0 < revisions) × (b .0 < revisions) ⌝ }
+    ensures { λ p. ⌜ p ≡ foreseen (standingAfter (now (t .entry)) (a .0) (b .0) bib) (cellsOf (now (t .entry)) .count (b .0)) ⌝ }
+{
+    let standing = standing_after(t, a, b, bib);
+    let gain = brought(t, b);
+    let told = tell(standing);
+    let state = told.state;
+    Prospect {
+        code: 0,
+        state,
+        value: told.value,
+        gain,
+    }
 }
 
 fn refused(code: u8) -> Prospect
@@ -51,24 +81,19 @@ fn refused(code: u8) -> Prospect
     }
 }
 
-// Check 5, after those of the join, and the end.
-fn foresee(t: &[u8], a: Revision, b: Revision, bib: u16) -> Prospect
-    requires { ⌜ (length (now t) ≡ bytes) × (inRange (low (now t)) ≡ true) × (a .0 < revisions) × (b .0 < revisions) ⌝ }
-    ensures { λ p. ⌜ p ≡ cond (badBib bib) (noProspect 5) (foreseen (standingAfter (now (t .entry)) (a .0) (b .0) bib) (cellsOf (now (t .entry)) .count (b .0))) ⌝ }
+// The checks of the join, then 5.
+fn check_preview(d: &[u8], joiner: u8, joinee: u8, bib: u16) -> PairCheck
+    requires { ⌜ length (now d) ≡ Lower.bytes ⌝ }
+    ensures { λ r. ⌜ (r ≡ previewCheck (now (d .entry)) joiner joinee bib) × pairIn r ⌝ }
 {
-    let BibCheck::Known = bib::check_bib(bib) else {
-        return refused(5);
+    let found = meet::check_join(d, joiner, joinee);
+    let PairCheck::Allowed(a, b) = found else {
+        return found;
     };
-    let standing = standing_after(t, a, b, bib);
-    let gain = brought(t, b);
-    let told = tell(standing);
-    let state = told.state;
-    Prospect {
-        code: 0,
-        state,
-        value: told.value,
-        gain,
-    }
+    let BibCheck::Known = bib::check_bib(bib) else {
+        return PairCheck::Refused(5);
+    };
+    PairCheck::Allowed(a, b)
 }
 
 // The call on bytes that are a table.
@@ -76,7 +101,7 @@ fn preview_sound(t: &[u8], joiner: u8, joinee: u8, bib: u16) -> Prospect
     requires { ⌜ (isTable (now t) ≡ true) × (length (now t) ≡ bytes) × (inRange (low (now t)) ≡ true) ⌝ }
     ensures { λ p. ⌜ p ≡ previewOut (now (t .entry)) joiner joinee bib ⌝ }
 {
-    let found = meet::check_join(&t[0..40960], joiner, joinee);
+    let found = check_preview(&t[0..40960], joiner, joinee, bib);
     match found {
         PairCheck::Refused(code) => refused(code),
         PairCheck::Allowed(a, b) => foresee(t, a, b, bib),

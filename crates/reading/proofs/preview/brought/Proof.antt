@@ -6,7 +6,7 @@ use Rattle.reading.proofs.preview.brought.Tie as tie
 
 returns : tie.Need-returns
 unfolding low
-returns c = c .count .ensures .0
+returns c = search needs
 
 pub brought-spec : {M : Type 1} → statement M
 brought-spec = tie.close (tie.spec

@@ -1,4 +1,4 @@
--- `reading::preview::preview_sound` meets its contract: the checks of the join, then 5 and the end. Assumes nothing.
+-- `reading::preview::preview_sound` meets its contract: the checks, then the end. Assumes nothing.
 use mathlib.Core.Path.{sym, _∙_}
 use borrow.Author.Needs.{needs}
 use Rattle.table.specs.Halves.{low}
@@ -13,7 +13,7 @@ foresee-requires c κs =
     let at-found = c .before in
     let at-check = at-found .before .before in
     let start = at-check .before .before .before in
-    let i = rw (at-found .found2 .given .1) at (at-check .check-join .ensures .1) in
+    let i = rw (at-found .found2 .given .1) at (at-check .check-preview .ensures .1) in
     (start .pre .1, start .pre .2, i .0, i .1)
 
 returns : tie.Need-returns
@@ -24,7 +24,7 @@ returns c =
     let start = at-check .before .before .before in
     let s = start .args in
     c .refused .ensures
-    ∙ preview-by (s .t .now) (s .joiner) (s .joinee) (s .bib) (start .pre .0) _ (sym (at-check .check-join .ensures .0) ∙ at-found .found .given .1)
+    ∙ preview-by (s .t .now) (s .joiner) (s .joinee) (s .bib) (start .pre .0) _ (sym (at-check .check-preview .ensures .0) ∙ at-found .found .given .1)
 
 returns-2 : tie.Need-returns-2
 unfolding low onPair
@@ -34,7 +34,7 @@ returns-2 c =
     let start = at-check .before .before .before in
     let s = start .args in
     c .foresee .ensures
-    ∙ preview-by (s .t .now) (s .joiner) (s .joinee) (s .bib) (start .pre .0) _ (sym (at-check .check-join .ensures .0) ∙ at-found .found2 .given .1)
+    ∙ preview-by (s .t .now) (s .joiner) (s .joinee) (s .bib) (start .pre .0) _ (sym (at-check .check-preview .ensures .0) ∙ at-found .found2 .given .1)
 
 pub preview-sound-spec : {M : Type 1} → statement M
 preview-sound-spec = tie.close (tie.spec
