@@ -9,8 +9,8 @@
  *
  * Each call hands back its answer in one number: silttongs_code is 0 if the call was taken, else
  * says why it was refused; silttongs_value is the value named below, 0 in a refusal. A query's has
- * the bib's state besides, silttongs_state. A refusal changes no byte. The checks run in ascending
- * order of their codes.
+ * the bib's state besides, silttongs_state, and a preview's has that and silttongs_gain. A refusal
+ * changes no byte. The checks run in ascending order of their codes; a preview checks 5 last.
  *
  * Nothing is allocated. A call needs up to 48 KiB of stack.
  *
@@ -59,11 +59,11 @@ enum {
     SILTTONGS_STRIKE = 4    /* the bib is struck; v is not looked at */
 };
 
-/* The states of a bib, as a query tells them. */
+/* The states of a bib, as a query and a preview tell them. */
 enum {
     SILTTONGS_NEITHER = 0, /* not struck, and its value is 0; also in a refusal */
     SILTTONGS_TIMED = 1,   /* not struck, and its value is not 0 */
-    SILTTONGS_STRUCK = 2   /* struck; the query's value is 0 */
+    SILTTONGS_STRUCK = 2   /* struck; the value is 0 */
 };
 
 /* The code of an answer. */
@@ -72,8 +72,11 @@ static inline uint8_t silttongs_code(uint64_t answer) { return (uint8_t)(answer 
 /* The value of an answer. */
 static inline uint32_t silttongs_value(uint64_t answer) { return (uint32_t)answer; }
 
-/* The state of a query's answer; SILTTONGS_NEITHER for all other calls. */
+/* The state of a query's or a preview's answer; SILTTONGS_NEITHER for all other calls. */
 static inline uint8_t silttongs_state(uint64_t answer) { return (uint8_t)(answer >> 40); }
+
+/* The gain of a preview's answer. */
+static inline uint16_t silttongs_gain(uint64_t answer) { return (uint16_t)(answer >> 48); }
 
 /* The two numbers of a fill's answer: the box's own updates, and those of the whole table. */
 static inline uint16_t silttongs_own(uint64_t answer) { return (uint16_t)answer; }
@@ -121,6 +124,13 @@ uint64_t silttongs_list(const uint8_t *table, size_t length, uint8_t box, uint8_
  * From fresh on, through the calls alone, the own updates of all boxes out come to the total. The
  * table is only read: a fill is no event. */
 uint64_t silttongs_fill(const uint8_t *table, size_t length, uint8_t box);
+
+/* Looks ahead: how a bib will stand on the joiner once it has taken over the joinee's updates, as a
+ * join on a copy of the table and a look there would tell. Codes 1, 3, 4, 7, 11 as a join's, then 5
+ * for the bib. State and value: as a query's; 0 in a refusal. Gain, 0 in a refusal: how many updates
+ * the joiner would gain. The table is only read: a preview is no event. */
+uint64_t silttongs_preview(const uint8_t *table, size_t length, uint8_t joiner, uint8_t joinee,
+                           uint16_t bib);
 
 #ifdef __cplusplus
 }

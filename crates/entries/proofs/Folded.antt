@@ -1,4 +1,4 @@
--- The standing of a bib, one number further.
+-- The standing of a bib, further numbers later.
 use Prim.Native.Nat.{ℕ, _+_, _<_}
 use mathlib.Core.Path.{_≡_, refl, _∙_, ap}
 use mathlib.Core.List.{List, [], _∷_, _++_}
@@ -7,10 +7,11 @@ use lib.Dec.{eqb}
 use lib.ListN.{length, take, getD}
 use lib.Seq.{take-suc}
 use Rattle.lists.proofs.Cases.{cases}
-use Rattle.updates.specs.Applied.{applied, freshStanding}
+use Rattle.updates.specs.Applied.{applied}
+use Rattle.updates.specs.declared.standing.Standing.{Standing}
 use Rattle.updates.proofs.Laws.{applied-append}
 use Rattle.entries.specs.declared.entry.Entry.{Entry}
-use Rattle.entries.specs.Folded.{ofBib, standingOf}
+use Rattle.entries.specs.Folded.{ofBib}
 
 pub ofBib-append : (entries : ℕ → Entry) (bib : ℕ) (ns ms : List ℕ)
     → ofBib entries bib (ns ++ ms) ≡ ofBib entries bib ns ++ ofBib entries bib ms
@@ -20,10 +21,15 @@ ofBib-append entries bib (n ∷ ns) ms =
     (λ e. rw (e, ofBib-append entries bib ns ms))
     (λ e. rw (e, ofBib-append entries bib ns ms))
 
+-- the updates of some numbers, then those of others
+pub applied-both : (entries : ℕ → Entry) (bib : ℕ) (ns ms : List ℕ) (s : Standing)
+    → applied (ofBib entries bib (ns ++ ms)) s ≡ applied (ofBib entries bib ms) (applied (ofBib entries bib ns) s)
+applied-both entries bib ns ms s =
+    ap (λ us. applied us s) (ofBib-append entries bib ns ms) ∙ applied-append (ofBib entries bib ns) (ofBib entries bib ms) s
+
 -- one number more is its entry applied to what the numbers before it give
-pub standing-more : (entries : ℕ → Entry) (bib : ℕ) (ns : List ℕ) (i : ℕ) → i < length ns
-    → standingOf entries bib (take (i + 1) ns) ≡ applied (ofBib entries bib (getD ns i 0 ∷ [])) (standingOf entries bib (take i ns))
-standing-more entries bib ns i h =
-    ap (standingOf entries bib) (ap (λ k. take k ns) (add-one i) ∙ take-suc ns i 0 h)
-    ∙ ap (λ us. applied us freshStanding) (ofBib-append entries bib (take i ns) (getD ns i 0 ∷ []))
-    ∙ applied-append (ofBib entries bib (take i ns)) (ofBib entries bib (getD ns i 0 ∷ [])) freshStanding
+pub applied-more : (entries : ℕ → Entry) (bib : ℕ) (ns : List ℕ) (i : ℕ) (s : Standing) → i < length ns
+    → applied (ofBib entries bib (take (i + 1) ns)) s ≡ applied (ofBib entries bib (getD ns i 0 ∷ [])) (applied (ofBib entries bib (take i ns)) s)
+applied-more entries bib ns i s h =
+    ap (λ ms. applied (ofBib entries bib ms) s) (ap (λ k. take k ns) (add-one i) ∙ take-suc ns i 0 h)
+    ∙ applied-both entries bib (take i ns) (getD ns i 0 ∷ []) s

@@ -23,16 +23,24 @@ fn after(t: &[u8], n: u16, bib: u16, standing: Standing) -> Standing
     standing
 }
 
-// The standing after the entries of the first `count` numbers of `order`.
-pub fn standing(t: &[u8], order: &[u16], count: usize, bib: u16) -> Standing
+// The standing after the entries of the first `count` numbers of `order`, from `start` on.
+pub fn standing_from(t: &[u8], order: &[u16], count: usize, bib: u16, start: Standing) -> Standing
     requires { ⌜ (length (now t) ≡ bytes) × (count ≤ length (now order)) ⌝ }
-    ensures { λ r. ⌜ r ≡ standingOf (entryAt (now (t .entry))) bib (take count (now (order .entry))) ⌝ }
+    ensures { λ r. ⌜ r ≡ applied (ofBib (entryAt (now (t .entry))) bib (take count (now (order .entry)))) start ⌝ }
 {
-    let mut s = Standing::At(0);
+    let mut s = start;
     let mut i: usize = 0;
     while i < count {
         s = after(t, order[i], bib, s);
         i += 1;
     }
     s
+}
+
+// The same from a fresh day on.
+pub fn standing(t: &[u8], order: &[u16], count: usize, bib: u16) -> Standing
+    requires { ⌜ (length (now t) ≡ bytes) × (count ≤ length (now order)) ⌝ }
+    ensures { λ r. ⌜ r ≡ standingOf (entryAt (now (t .entry))) bib (take count (now (order .entry))) ⌝ }
+{
+    standing_from(t, order, count, bib, Standing::At(0))
 }

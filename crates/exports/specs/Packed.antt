@@ -5,6 +5,7 @@ use Rattle.updates.specs.declared.standing.State.{State}
 use Rattle.updates.specs.declared.standing.State.the-variants.{Neither, Timed, Struck}
 use Rattle.table.specs.Answers.{Out}
 use Rattle.table.specs.declared.answer.Level.{Level}
+use Rattle.table.specs.declared.answer.Prospect.{Prospect}
 
 -- the code in the upper 32 bits, the value in the lower
 abbrev pub packed : ℕ → ℕ → ℕ
@@ -19,6 +20,10 @@ stateNumber Struck = 2
 -- the state above the code, in bits 40 and 41
 abbrev pub packedState : ℕ → State → ℕ → ℕ
 packedState code state value = stateNumber state * 1099511627776 + packed code value
+
+-- 02, U6: a preview's gain above the state, in bits 48 to 63
+abbrev pub packedGain : ℕ → State → ℕ → ℕ → ℕ
+packedGain code state value gain = gain * 281474976710656 + packedState code state value
 
 pub record Handed : Type 0 where
   pub result : ℕ
@@ -35,3 +40,6 @@ exported o = handed (packedState (o .code) (o .state) (o .value)) (o .lent)
 -- a fill's two numbers, 16 bits each: the table's above the revision's own
 unfoldable pub exportedLevel : Level → ℕ
 exportedLevel f = packed (f .code) (f .total * 65536 + f .own)
+
+unfoldable pub exportedProspect : Prospect → ℕ
+exportedProspect p = packedGain (p .code) (p .state) (p .value) (p .gain)

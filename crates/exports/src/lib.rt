@@ -2,8 +2,8 @@
 // (specs/Packed.antt). A slice is passed as a pointer and a length.
 ghost use mathlib.Core.Path.{_≡_};
 ghost use Prim.Native.Nat.{_≤_};
-ghost use Rattle.table.specs.Calls.{fillOut, forkOut, freshOut, joinOut, listOut, queryOut, updateOut, yieldOut};
-ghost use Rattle.exports.specs.Packed.{exported, exportedLevel, handed, packed, packedState, stateNumber};
+ghost use Rattle.table.specs.Calls.{fillOut, forkOut, freshOut, joinOut, listOut, previewOut, queryOut, updateOut, yieldOut};
+ghost use Rattle.exports.specs.Packed.{exported, exportedLevel, exportedProspect, handed, packed, packedGain, packedState, stateNumber};
 use updates::standing::State;
 
 // The code in the upper 32 bits, the value in the lower.
@@ -28,6 +28,14 @@ fn pack_state(code: u8, state: State, value: u32) -> u64
     ensures { λ r. ⌜ r ≡ packedState code state value ⌝ }
 {
     state_number(state) * 1099511627776 + ((code as u64) * 4294967296 + (value as u64))
+}
+
+// A preview's gain besides, above the state.
+fn pack_gain(code: u8, state: State, value: u32, gain: u16) -> u64
+    ensures { λ r. ⌜ r ≡ packedGain code state value gain ⌝ }
+{
+    (gain as u64) * 281474976710656
+        + (state_number(state) * 1099511627776 + ((code as u64) * 4294967296 + (value as u64)))
 }
 
 #[no_mangle]
@@ -100,4 +108,13 @@ pub extern "C" fn silttongs_fill(t: &[u8], revision: u8) -> u64
 {
     let f = reading::fill::fill(t, revision);
     pack(f.code, (f.total as u32) * 65536 + (f.own as u32))
+}
+
+#[no_mangle]
+pub extern "C" fn silttongs_preview(t: &[u8], joiner: u8, joinee: u8, bib: u16) -> u64
+    ensures { λ r. ⌜ r ≡ exportedProspect (previewOut (now (t .entry)) joiner joinee bib) ⌝ }
+{
+    let p = reading::preview::preview(t, joiner, joinee, bib);
+    let state = p.state;
+    pack_gain(p.code, state, p.value, p.gain)
 }

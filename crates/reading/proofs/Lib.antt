@@ -1,4 +1,5 @@
--- Laws of a standing and of the end of a list, and the calls from what their checks find.
-pub mod Standing
+-- Laws of a standing, of the end of a list and of a join foreseen, and the calls from what their checks find.
+pub mod Along
 pub mod Calls
 pub mod Listed
+pub mod Foreseen

@@ -8,12 +8,13 @@ ghost use Rattle.cells.specs.Sizes as Lower;
 ghost use Rattle.cells.specs.Sizes.{clients, revisions};
 ghost use Rattle.cells.specs.Range.{inRange};
 ghost use Rattle.cells.specs.Steps.{queryBytes};
-ghost use Rattle.updates.specs.Effect.{stateOf, valueIn};
 ghost use Rattle.table.specs.Halves.{bytes, high, isTable, low};
 ghost use Rattle.table.specs.Answers.{leftRead};
-ghost use Rattle.table.specs.Calls.{queryOut, standingAt};
+ghost use Rattle.table.specs.Calls.{queryOut};
 ghost use Rattle.table.specs.Checks.{eventIn};
 ghost use Rattle.reading.specs.Checks.{queryCheck};
+use crate::standing::standing_at;
+use crate::standing::tell;
 use fields::table::Client;
 use fields::table::Revision;
 use table::answer::Reading;
@@ -23,44 +24,7 @@ use table::event;
 use table::event::EventCheck;
 use table::sound;
 use table::sound::TableCheck;
-use table::visible::visible;
-use updates::standing::Standing;
 use updates::standing::State;
-
-// What a query tells of a standing.
-fn tell(standing: Standing) -> Reading
-    ensures { λ a. ⌜ a ≡ record { code = 0; state = stateOf standing; value = valueIn standing } ⌝ }
-{
-    let Standing::At(value) = standing else {
-        return Reading {
-            code: 0,
-            state: State::Struck,
-            value: 0,
-        };
-    };
-    if value == 0 {
-        return Reading {
-            code: 0,
-            state: State::Neither,
-            value: 0,
-        };
-    }
-    Reading {
-        code: 0,
-        state: State::Timed,
-        value,
-    }
-}
-
-// The standing of a bib after the updates visible at r.
-fn standing_at(t: &[u8], r: Revision, bib: u16) -> Standing
-    requires { ⌜ (length (now t) ≡ bytes) × (inRange (low (now t)) ≡ true) × (r .0 < revisions) ⌝ }
-    ensures { λ s. ⌜ s ≡ standingAt (now (t .entry)) (r .0) bib ⌝ }
-{
-    let mut out = order::links::room();
-    let n = visible(t, r, &mut out);
-    entries::standing::standing(&t[40960..65536], &out, n, bib)
-}
 
 // The query is r's last event, and opens or continues its client's transaction.
 fn ask(t: &mut [u8], c: Client, r: Revision)

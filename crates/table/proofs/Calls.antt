@@ -12,7 +12,7 @@ use Rattle.revisions.specs.Checks.{clientCheck, givenCheck}
 use Rattle.revisions.specs.declared.checks.ClientCheck.the-variants as client
 use Rattle.revisions.specs.declared.checks.GivenCheck.the-variants as given
 use Rattle.table.specs.Halves.{low, high, cellsOf, isTable}
-use Rattle.table.specs.Answers.{Out, refused, taken}
+use Rattle.table.specs.Answers.{refused, taken}
 use Rattle.table.specs.Calls.{joinOut}
 use Rattle.table.specs.Found.{onClient, onGiven, onQuiet, onEvent, onPair}
 use Rattle.table.specs.Checks.{bothCheck, meetCheck, joinCheck}
@@ -64,7 +64,7 @@ unfolding onPair
 pair-ends f q k rest e h = h ∙ rw (sym e ∙ h)
 
 -- one of two
-either : (a b : Bool) (x y : Out) → cond (a || b) x y ≡ cond a x (cond b x y)
+pub either : {A : Type 0} (a b : Bool) (x y : A) → cond (a || b) x y ≡ cond a x (cond b x y)
 either true b x y = refl
 either false b x y = refl
 

@@ -25,5 +25,5 @@ pub struct Prospect {
     pub code: u8,
     pub state: State,
     pub value: u32,
-    pub gain: u32,
+    pub gain: u16,
 }

@@ -1,49 +1,12 @@
--- `entries::standing::standing` meets its contract: the standing after the first i numbers, one more at each turn. Assumes nothing.
-use Prim.Native.Nat.{_-_, _≤_}
-use mathlib.Core.Path.{_≡_, refl, sym, _∙_, ap}
-use native.Mathlib.Omega.{arith}
-use lib.ListN.{take}
+-- `entries::standing::standing` meets its contract: from a fresh day on. Assumes nothing.
 use borrow.Author.Needs.{needs}
-use Rattle.updates.specs.Applied.{applied}
-use Rattle.entries.specs.Entries.{entryAt}
-use Rattle.entries.specs.Folded.{standingOf}
-use Rattle.entries.proofs.Folded.{standing-more}
 use Rattle.entries.proofs.standing.standing.Statement.{statement}
 use Rattle.entries.proofs.standing.standing.Tie as tie
 
-abbrev Inv-loop : tie.InvT-loop
-Inv-loop t order count bib s₀ i₀ s i = (i ≤ count) × (s ≡ standingOf (entryAt t) bib (take i order))
-
-abbrev μ-loop : tie.MeasureT-loop
-μ-loop t order count bib s₀ i₀ s i = count - i
-
-loop-holds : tie.Need-loop-holds Inv-loop μ-loop
-unfolding applied
-loop-holds c = (search needs, refl)
-
-loop-again : tie.Need-loop-again Inv-loop μ-loop
-loop-again c =
-    let s = c .before .before .before .before .before .before .args in
-    let l = c .before .before .before .loop in
-    (omega arith, c .after .ensures ∙ ap (applied _) (l .inv .1) ∙ sym (standing-more (entryAt (s .t .now)) (s .bib) (s .order .now) (l .i) (omega arith)))
-
-returns : tie.Need-returns Inv-loop μ-loop
-returns c =
-    let s = c .before .before .before .before .args in
-    let e : c .before .loop .i ≡ s .count = omega arith in
-    c .before .loop .inv .1 ∙ ap (λ k. standingOf (entryAt (s .t .now)) (s .bib) (take k (s .order .now))) e
+returns : tie.Need-returns
+returns c = c .standing-from .ensures
 
 pub standing-spec : {M : Type 1} → statement M
-standing-spec =
-    tie.close
-    (tie.spec
-    Inv-loop
-    μ-loop
-    loop-holds
-    (λ c. search needs)
-    (λ c. search needs)
+standing-spec = tie.close (tie.spec
     (λ c κs. search needs)
-    (λ c. search needs)
-    (λ c. search needs)
-    loop-again
     returns)

@@ -1,10 +1,10 @@
--- `reading::query::standing_at` meets its contract: the order of r, then the standing along it. Assumes nothing.
+-- `reading::standing::standing_at` meets its contract: the order of r, then the standing along it. Assumes nothing.
 use borrow.Author.Needs.{needs}
 use Rattle.table.specs.Halves.{high}
 use Rattle.table.proofs.Halves.{high-length}
-use Rattle.reading.proofs.Standing.{standing-along}
-use Rattle.reading.proofs.query.standing_at.Statement.{statement}
-use Rattle.reading.proofs.query.standing_at.Tie as tie
+use Rattle.reading.proofs.Along.{standing-along}
+use Rattle.reading.proofs.standing.standing_at.Statement.{statement}
+use Rattle.reading.proofs.standing.standing_at.Tie as tie
 
 visible-requires : tie.Need-visible-requires
 visible-requires c κs =

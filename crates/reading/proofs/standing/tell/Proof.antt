@@ -1,9 +1,9 @@
--- `reading::query::tell` meets its contract: struck, or else by the value. Assumes nothing.
+-- `reading::standing::tell` meets its contract: struck, or else by the value. Assumes nothing.
 use borrow.Author.Needs.{needs}
 use borrow.Author.Tests.{ne-eqb}
 use Rattle.updates.specs.Effect.{stateOf, valueIn}
-use Rattle.reading.proofs.query.tell.Statement.{statement}
-use Rattle.reading.proofs.query.tell.Tie as tie
+use Rattle.reading.proofs.standing.tell.Statement.{statement}
+use Rattle.reading.proofs.standing.tell.Tie as tie
 
 returns : tie.Need-returns
 unfolding stateOf valueIn
