@@ -2,7 +2,7 @@
 // (specs/Packed.antt). A slice is passed as a pointer and a length.
 ghost use mathlib.Core.Path.{_≡_};
 ghost use Prim.Native.Nat.{_≤_};
-ghost use Rattle.table.specs.Calls.{fillOut, forkOut, freshOut, joinOut, listOut, previewOut, queryOut, updateOut, yieldOut};
+ghost use Rattle.table.specs.Calls.{bundleOut, fillOut, forkOut, freshOut, joinOut, listOut, previewOut, queryOut, updateOut, yieldOut};
 ghost use Rattle.exports.specs.Packed.{exported, exportedLevel, exportedProspect, handed, packed, packedGain, packedState, stateNumber};
 use updates::standing::State;
 
@@ -58,6 +58,14 @@ pub extern "C" fn silttongs_update(
     ensures { λ r. ⌜ handed r (now (t .exit)) ≡ exported (updateOut (now (t .entry)) client revision kind bib v) ⌝ }
 {
     let a = entering::update::update(t, client, revision, kind, bib, v);
+    pack(a.code, a.value)
+}
+
+#[no_mangle]
+pub extern "C" fn silttongs_bundle(t: &mut [u8], client: u8, revision: u8, records: &[u8]) -> u64
+    ensures { λ r. ⌜ handed r (now (t .exit)) ≡ exported (bundleOut (now (t .entry)) client revision (now (records .entry))) ⌝ }
+{
+    let a = entering::bundle::bundle(t, client, revision, records);
     pack(a.code, a.value)
 }
 
