@@ -31,7 +31,7 @@ fn the_cells_with_a_range() {
 }
 
 /// What a refusal gives: no state, no number, and the sheet as it was.
-fn refused(call: Call, code: u8) -> Given {
+fn refused(call: &Call, code: u8) -> Given {
     Given { code, state: State::Neither, value: 0, total: 0, sheet: sheet(call) }
 }
 
@@ -49,9 +49,9 @@ fn each_cell_at_its_limits() {
             cell.set(&mut t, value);
             let code = if cell.range.contains(&value) { 0 } else { 1 };
             // A fill may find revision 0 never sent or joined.
-            let fill = library(&mut t, Call::Fill { revision: 0 });
+            let fill = library(&mut t, &Call::Fill { revision: 0 });
             assert_eq!(fill.code == 1, code == 1, "{value} in {cell:?}");
-            let given = library(&mut t, Call::Yield { client: 0 });
+            let given = library(&mut t, &Call::Yield { client: 0 });
             assert_eq!((given.code, given.value), (code, 0), "{value} in {cell:?}");
         }
     }
@@ -67,7 +67,7 @@ fn the_other_bytes_have_every_value_in_range() {
     }
     for at in (0..BYTES).filter(|&at| !ranged[at]) {
         t[at] ^= 0xff;
-        assert_eq!(library(&mut t, Call::Yield { client: 0 }).code, 0, "byte {at}");
+        assert_eq!(library(&mut t, &Call::Yield { client: 0 }).code, 0, "byte {at}");
     }
 }
 
@@ -86,7 +86,7 @@ fn wrong_lengths() {
         let mut t = fresh();
         t.resize(length, 0);
         let before = t.clone();
-        for call in calls {
+        for call in &calls {
             assert_eq!(library(&mut t, call), refused(call, 1), "{length} bytes, `{call}`");
             assert!(t == before, "{length} bytes, `{call}`: changed");
         }
@@ -114,23 +114,24 @@ fn random_calls_on_damaged_buffers() {
         let mut rng = Rng::new(seed);
         let mut t = damaged(&cells, &mut rng);
         for step in 0..CALLS {
-            let mut made = |call| {
+            let mut made = |call: &Call| {
                 judged(&cells, &mut t, call)
                     .unwrap_or_else(|fault| panic!("seed {seed}, call {step}, `{call}`: {fault}"))
             };
             let call = any_call(&mut rng);
-            let Given { code, value, sheet, .. } = made(call);
+            let Given { code, value, sheet, .. } = made(&call);
             *met.entry(code).or_default() += 1;
             // A taken list is taken with just the room that it needs, and not with a byte less.
             if let (Call::List { revision, .. }, 1..) = (call, value) {
                 let needed = 12 * value as usize;
                 for (room, code) in [(needed, 0), (needed - 1, 12)] {
                     let list = Call::List { revision, room };
-                    assert_eq!(made(list).code, code, "seed {seed}, call {step}, `{list}`");
+                    assert_eq!(made(&list).code, code, "seed {seed}, call {step}, `{list}`");
                 }
                 // The bib of its last entry is queried, by the first client that may.
                 let bib = u16::from_le_bytes([sheet[needed - 10], sheet[needed - 9]]);
-                let mut queries = (0..16).map(|client| made(Call::Query { client, revision, bib }));
+                let mut queries =
+                    (0..16).map(|client| made(&Call::Query { client, revision, bib }));
                 if let Some(found) = queries.find(|given| given.code == 0) {
                     *states.entry(found.state).or_default() += 1;
                 }
@@ -146,7 +147,7 @@ fn random_calls_on_damaged_buffers() {
 }
 
 /// Makes the call, or says what is wrong with it.
-fn judged(cells: &[Cell], t: &mut Vec<u8>, call: Call) -> Result<Given, String> {
+fn judged(cells: &[Cell], t: &mut Vec<u8>, call: &Call) -> Result<Given, String> {
     let mut again = t.clone();
     let mut plain = t.clone();
     let before = t.clone();
@@ -186,7 +187,9 @@ fn damaged(cells: &[Cell], rng: &mut Rng) -> Vec<u8> {
         _ => {
             let mut t = fresh();
             for call in random_day(&Profile::MIXED, rng.bits()) {
-                library(&mut t, call);
+                if !matches!(call, Call::Bundle { .. } | Call::Preview { .. }) {
+                    library(&mut t, &call);
+                }
             }
             t
         }

@@ -32,7 +32,7 @@ impl Side {
                 black_box(self.fresh(t));
             }
             Work::Calls(calls) => {
-                for &call in calls {
+                for call in calls {
                     black_box(self.call(t, sheet, black_box(call)));
                 }
             }
@@ -47,9 +47,9 @@ impl Side {
     }
 
     /// Makes one call.
-    pub(crate) fn call(self, t: &mut [u8], sheet: &mut [u8], call: Call) -> Given {
+    pub(crate) fn call(self, t: &mut [u8], sheet: &mut [u8], call: &Call) -> Given {
         match self {
-            Side::Plain => by_plain(match call {
+            Side::Plain => by_plain(match *call {
                 Call::Update { client, revision, kind, bib, v } => {
                     plain::update(t, client, revision, kind, bib, v).map(Some)
                 }
@@ -62,10 +62,11 @@ impl Side {
                     plain::list(t, revision, &mut sheet[..room]).map(Some)
                 }
                 Call::Fill { revision } => plain::fill(t, revision).map(|f| both(f.own, f.total)),
+                Call::Bundle { .. } | Call::Preview { .. } => unreachable!("not timed"),
             }),
             Side::Library => {
                 let mut t = Table::from_bytes(t);
-                by_library(match call {
+                by_library(match *call {
                     Call::Update { client, revision, kind, bib, v } => {
                         t.update(client, revision, kind, bib, v).map(Some)
                     }
@@ -77,6 +78,7 @@ impl Side {
                     Call::Join { joiner, joinee } => t.join(joiner, joinee).map(Some),
                     Call::List { revision, room } => t.list(revision, &mut sheet[..room]).map(Some),
                     Call::Fill { revision } => t.fill(revision).map(|f| both(f.own, f.total)),
+                    Call::Bundle { .. } | Call::Preview { .. } => unreachable!("not timed"),
                 })
             }
         }
@@ -99,7 +101,7 @@ fn by_library(answer: Result<Option<u32>, Refusal>) -> Given {
 pub(crate) fn made(calls: &[Call]) -> Box<[u8]> {
     let mut t = vec![0; BYTES].into_boxed_slice();
     Side::Library.fresh(&mut t);
-    for &call in calls {
+    for call in calls {
         assert_eq!(Side::Library.call(&mut t, &mut [], call).0, 0, "`{call}`");
     }
     t

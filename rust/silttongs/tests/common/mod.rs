@@ -18,8 +18,8 @@ pub(crate) struct Given {
 
 /// The sheet of a list before the call: as long as the call says, up to more than any listing
 /// needs, and no byte like its neighbours.
-pub(crate) fn sheet(call: Call) -> Vec<u8> {
-    match call {
+pub(crate) fn sheet(call: &Call) -> Vec<u8> {
+    match *call {
         Call::List { room, .. } => {
             (0..room.min(50_000)).map(|at| (at * 167 + at / 256) as u8).collect()
         }
@@ -28,12 +28,12 @@ pub(crate) fn sheet(call: Call) -> Vec<u8> {
 }
 
 /// What the library gives.
-pub(crate) fn library(bytes: &mut [u8], call: Call) -> Given {
+pub(crate) fn library(bytes: &mut [u8], call: &Call) -> Given {
     let mut table = Table::from_bytes(bytes);
     let mut sheet = sheet(call);
     let mut state = State::Neither;
     let mut total = 0;
-    let answer = match call {
+    let answer = match *call {
         Call::Update { client, revision, kind, bib, v } => {
             table.update(client, revision, kind, bib, v)
         }
@@ -55,6 +55,7 @@ pub(crate) fn library(bytes: &mut [u8], call: Call) -> Given {
             total = u32::from(fill.total);
             u32::from(fill.own)
         }),
+        Call::Bundle { .. } | Call::Preview { .. } => unreachable!("not made on the library"),
     };
     let (code, value) = answer.map_or_else(|refusal| (refusal.code(), 0), |value| (0, value));
     Given { code, state, value, total, sheet }
@@ -62,9 +63,9 @@ pub(crate) fn library(bytes: &mut [u8], call: Call) -> Given {
 
 /// What the plain implementation gives.
 #[allow(dead_code, reason = "for the damaged buffers alone")]
-pub(crate) fn plainly(bytes: &mut [u8], call: Call) -> Given {
+pub(crate) fn plainly(bytes: &mut [u8], call: &Call) -> Given {
     let mut sheet = sheet(call);
-    let answer = match call {
+    let answer = match *call {
         Call::List { revision, .. } => {
             plain::list(bytes, revision, &mut sheet).map(Answer::accepted)
         }
@@ -76,7 +77,7 @@ pub(crate) fn plainly(bytes: &mut [u8], call: Call) -> Given {
 
 /// What the literal replay's answer comes to: its lines, and behind them the sheet as it was.
 #[allow(dead_code, reason = "for the random days alone")]
-pub(crate) fn as_given(call: Call, answer: &Answer) -> Given {
+pub(crate) fn as_given(call: &Call, answer: &Answer) -> Given {
     let mut sheet = sheet(call);
     for (place, line) in sheet.chunks_exact_mut(12).zip(&answer.lines) {
         place.copy_from_slice(&line.to_bytes());
