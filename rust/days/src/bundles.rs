@@ -57,6 +57,10 @@ fn singly<D: Clone>(
         }
         first.get_or_insert(value);
     }
-    make(&mut day, &Call::Yield { client });
+    // On a table that no day made, the last update may have left no table for the yield.
+    let closed = make(&mut day, &Call::Yield { client });
+    if closed.code != 0 {
+        return (refused(closed.code), before);
+    }
     (Shown { value: first.unwrap_or(0), ..refused(0) }, day)
 }
