@@ -4,13 +4,13 @@
  *
  * A table is a buffer of SILTTONGS_BYTES bytes that the caller lends for each call; nothing else
  * is kept. `table` points to `length` bytes that no one else reads or writes during the call, and
- * is not null; so does `sheet`, to bytes apart from the table's. Every content and every number is
- * answered: what is proved of the calls has no precondition besides.
+ * is not null; so do `sheet` and `records`, to bytes apart from the table's. Every content and every
+ * number is answered: what is proved of the calls has no precondition besides.
  *
  * Each call hands back its answer in one number: silttongs_code is 0 if the call was taken, else
- * says why it was refused; silttongs_value is the value named below, 0 in a refusal. A query's has
- * the bib's state besides, silttongs_state, and a preview's has that and silttongs_gain. A refusal
- * changes no byte. The checks run in ascending order of their codes; a preview checks 5 last.
+ * says why it was refused; silttongs_value is the value named below, 0 in a refusal. A query's and a
+ * preview's have the bib's state besides, silttongs_state, and a preview's has silttongs_gain. A
+ * refusal changes no byte. The checks run in ascending order of their codes, but where said below.
  *
  * Nothing is allocated. A call needs up to 48 KiB of stack.
  *
@@ -30,9 +30,13 @@ extern "C" {
 /* The length of a table. */
 #define SILTTONGS_BYTES 65536
 
-/* The length of an entry of a listing, and of a sheet that every listing fits. */
+/* The length of an entry of a listing, and of a sheet that every listing fits. A record of a bundle is
+ * as long as an entry. */
 #define SILTTONGS_ENTRY 12
 #define SILTTONGS_SHEET 49152
+
+/* How many records a bundle has at most. */
+#define SILTTONGS_BUNDLE 64
 
 /* Why a call was refused. */
 enum {
@@ -48,7 +52,8 @@ enum {
     SILTTONGS_LOG_FULL = 9,       /* 4,096 updates taken */
     SILTTONGS_NO_BOX_LEFT = 10,   /* 64 boxes started */
     SILTTONGS_NOT_JOINABLE = 11,  /* box 0, the joiner itself, its fork unseen, or its start seen */
-    SILTTONGS_SHEET_SHORT = 12    /* the listing needs more bytes */
+    SILTTONGS_SHEET_SHORT = 12,   /* the listing needs more bytes */
+    SILTTONGS_WRONG_BUNDLE = 14   /* no record, more than 64, or bytes not a multiple of 12 */
 };
 
 /* The kinds of update, and what each does to a bib. */
@@ -59,11 +64,11 @@ enum {
     SILTTONGS_STRIKE = 4    /* the bib is struck; v is not looked at */
 };
 
-/* The states of a bib, as a query and a preview tell them. */
+/* The states of a bib, as a query or a preview tells them. */
 enum {
     SILTTONGS_NEITHER = 0, /* not struck, and its value is 0; also in a refusal */
     SILTTONGS_TIMED = 1,   /* not struck, and its value is not 0 */
-    SILTTONGS_STRUCK = 2   /* struck; the value is 0 */
+    SILTTONGS_STRUCK = 2   /* struck; the value told is 0 */
 };
 
 /* The code of an answer. */
@@ -75,7 +80,7 @@ static inline uint32_t silttongs_value(uint64_t answer) { return (uint32_t)answe
 /* The state of a query's or a preview's answer; SILTTONGS_NEITHER for all other calls. */
 static inline uint8_t silttongs_state(uint64_t answer) { return (uint8_t)(answer >> 40); }
 
-/* The gain of a preview's answer. */
+/* The gain of a preview's answer; 0 for all other calls. */
 static inline uint16_t silttongs_gain(uint64_t answer) { return (uint16_t)(answer >> 48); }
 
 /* The two numbers of a fill's answer: the box's own updates, and those of the whole table. */
@@ -125,10 +130,19 @@ uint64_t silttongs_list(const uint8_t *table, size_t length, uint8_t box, uint8_
  * table is only read: a fill is no event. */
 uint64_t silttongs_fill(const uint8_t *table, size_t length, uint8_t box);
 
-/* Looks ahead: how a bib will stand on the joiner once it has taken over the joinee's updates, as a
- * join on a copy of the table and a look there would tell. Codes 1, 3, 4, 7, 11 as a join's, then 5
- * for the bib. State and value: as a query's; 0 in a refusal. Gain, 0 in a refusal: how many updates
- * the joiner would gain. The table is only read: a preview is no event. */
+/* Enters 1 to 64 updates on a box and closes the tablet's transaction there, which they open if need
+ * be: as silttongs_update one by one and then silttongs_yield, but all or none. Codes 1, then 14, then
+ * that of the earliest update that would be refused, 2 to 9. Value: the first update's number.
+ *
+ * A record has 12 bytes, laid out as an entry of a listing; its tablet and number are not looked at. */
+uint64_t silttongs_bundle(uint8_t *table, size_t length, uint8_t tablet, uint8_t box,
+                          const uint8_t *records, size_t records_length);
+
+/* Tells what a join would bring: the state and value of a bib at the joiner after it, and
+ * silttongs_gain, how many updates the joiner would gain. Codes 1, 3, 4, 7, 11 as for the join, and
+ * then 5, for the bib. In a refusal the state is SILTTONGS_NEITHER, value and gain are 0.
+ *
+ * The table is only read: a preview is no event. */
 uint64_t silttongs_preview(const uint8_t *table, size_t length, uint8_t joiner, uint8_t joinee,
                            uint16_t bib);
 

@@ -1,5 +1,5 @@
-/* The example day of examples/crossing.txt and a strike behind it, called from C. From the
- * repository's folder:
+/* The example day of examples/crossing.txt, with a look at the join before it, and then a strike and a
+ * bundle, called from C. From the repository's folder:
  *
  *     rt staticlib exports
  *     cc -Iinclude examples/c/crossing.c target/staticlib/libexports.a -o target/crossing
@@ -19,15 +19,37 @@ static void show(const char *step, uint64_t answer) {
            silttongs_value(answer));
 }
 
-static void show_query(const char *step, uint64_t answer) {
+static const char *state(uint64_t answer) {
     static const char *const states[] = {"neither", "timed", "struck"};
+    return states[silttongs_state(answer)];
+}
+
+static void show_query(const char *step, uint64_t answer) {
     printf("%-26s code %2u  value %" PRIu32 "  %s\n", step, (unsigned)silttongs_code(answer),
-           silttongs_value(answer), states[silttongs_state(answer)]);
+           silttongs_value(answer), state(answer));
+}
+
+static void show_preview(const char *step, uint64_t answer) {
+    printf("%-26s code %2u  value %" PRIu32 "  %s  gain %u\n", step,
+           (unsigned)silttongs_code(answer), silttongs_value(answer), state(answer),
+           (unsigned)silttongs_gain(answer));
 }
 
 static void show_fill(const char *step, uint64_t answer) {
     printf("%-26s code %2u  own %u  total %u\n", step, (unsigned)silttongs_code(answer),
            (unsigned)silttongs_own(answer), (unsigned)silttongs_total(answer));
+}
+
+/* Writes a number into so many bytes, the least significant first. */
+static void put(uint8_t *bytes, int count, uint32_t n) {
+    for (; count-- > 0; n >>= 8) *bytes++ = (uint8_t)n;
+}
+
+/* Writes a record of a bundle; its tablet and number are not looked at. */
+static void put_record(uint8_t *r, uint8_t kind, uint16_t bib, uint32_t v) {
+    r[0] = kind;
+    put(r + 2, 2, bib);
+    put(r + 4, 4, v);
 }
 
 /* The number of so many bytes, the least significant first. */
@@ -57,6 +79,8 @@ int main(void) {
     show_query("query 0/1", silttongs_query(table, n, 0, 1, 7));
     show_fill("fill box 0", silttongs_fill(table, n, 0));
     show_fill("fill box 1", silttongs_fill(table, n, 1));
+    show_preview("preview 0 with 1", silttongs_preview(table, n, 0, 1, 7));
+    show_preview("preview 1 with 0", silttongs_preview(table, n, 1, 0, 7));
     show("join 0 with 1", silttongs_join(table, n, 0, 1));
     show_fill("fill box 0", silttongs_fill(table, n, 0));
     show_fill("fill box 1", silttongs_fill(table, n, 1));
@@ -76,5 +100,16 @@ int main(void) {
     show_query("query 0/0", silttongs_query(table, n, 0, 0, 7));
     show("update 1/0 Time 62000", silttongs_update(table, n, 1, 0, SILTTONGS_TIME, 7, 62000));
     show_query("query 1/0", silttongs_query(table, n, 1, 0, 7));
+
+    /* A bundle is taken whole or not at all, and closes the transaction. */
+    uint8_t records[2 * SILTTONGS_ENTRY] = {0};
+    put_record(records, SILTTONGS_PENALTY, 7, 3000);
+    put_record(records + SILTTONGS_ENTRY, SILTTONGS_TIME, 1000, 63000);
+    show("bundle 1/0, bib 1000", silttongs_bundle(table, n, 1, 0, records, sizeof records));
+    put_record(records + SILTTONGS_ENTRY, SILTTONGS_TIME, 8, 63000);
+    show("bundle 1/0", silttongs_bundle(table, n, 1, 0, records, sizeof records));
+    show_query("query 0/0", silttongs_query(table, n, 0, 0, 7));
+    show("bundle 1/0, a byte short",
+         silttongs_bundle(table, n, 1, 0, records, sizeof records - 1));
     return 0;
 }

@@ -13,23 +13,26 @@ pub enum State {
     Struck,
 }
 
-/// The code, the state that a query finds, the value, the second number of a fill, and the lines
-/// that an accepted list writes.
+/// The code, the state that a query or a preview finds, the value, the second number of a fill, the
+/// gain of a preview, and the lines that an accepted list writes.
 #[derive(Clone, Debug, PartialEq, Eq)]
 pub struct Answer {
     /// Why the call was refused, or that it was accepted.
     pub code: Code,
-    /// How the bib stands; neither but for an accepted query.
+    /// How the bib stands; neither but for an accepted query or preview.
     pub state: State,
-    /// 0 in a refusal; of a query, 0 if the bib is struck; of a fill, the revision's own updates.
+    /// 0 in a refusal; of a query or a preview, 0 if the bib is struck; of a fill, the revision's
+    /// own updates; of a bundle, the first entry's number.
     pub value: u32,
     /// The updates taken by the whole table; 0 but for an accepted fill.
     pub total: u32,
+    /// The updates that the join would gain; 0 but for an accepted preview.
+    pub gain: u32,
     /// Empty but for an accepted list.
     pub lines: Vec<Line>,
 }
 
-/// One entry of a listing, in the order of its fields there.
+/// One entry of a listing, in the order of its fields there; or a record of a bundle.
 #[derive(Clone, Copy, Debug, PartialEq, Eq)]
 pub struct Line {
     /// 1 Time, 2 Earliest, 3 Penalty, 4 Strike.
@@ -68,15 +71,14 @@ impl Line {
 }
 
 impl Answer {
-    /// A refusal: state neither, both numbers 0, nothing written.
+    /// A refusal: state neither, every number 0, nothing written.
     pub fn refused(code: Code) -> Self {
-        Answer { code, state: State::Neither, value: 0, total: 0, lines: Vec::new() }
+        Answer { code, state: State::Neither, value: 0, total: 0, gain: 0, lines: Vec::new() }
     }
 
     /// Accepted, with a value.
     pub fn accepted(value: u32) -> Self {
-        let code = Code::Accepted;
-        Answer { code, state: State::Neither, value, total: 0, lines: Vec::new() }
+        Answer { value, ..Answer::refused(Code::Accepted) }
     }
 
     /// An accepted query: how the bib stands, and its value.
@@ -93,6 +95,11 @@ impl Answer {
     /// An accepted fill: the revision's own updates, and those of the whole table.
     pub fn filled(own: u32, total: u32) -> Self {
         Answer { total, ..Answer::accepted(own) }
+    }
+
+    /// An accepted preview: how the bib will stand, its value, and what the join gains.
+    pub fn previewed(state: State, value: u32, gain: u32) -> Self {
+        Answer { gain, ..Answer::found(state, value) }
     }
 }
 

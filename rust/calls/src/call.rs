@@ -2,8 +2,10 @@
 
 use std::fmt;
 
+use crate::Line;
+
 /// A call with its arguments as they come, in range or not.
-#[derive(Clone, Copy, Debug, PartialEq, Eq)]
+#[derive(Clone, Debug, PartialEq, Eq)]
 pub enum Call {
     /// One entry by a client on a revision.
     Update {
@@ -57,6 +59,26 @@ pub enum Call {
         /// 01: box.
         revision: u8,
     },
+    /// Several entries by a client on a revision, and then its yield. No step of a day file.
+    Bundle {
+        /// 01: tablet.
+        client: u8,
+        /// 01: box.
+        revision: u8,
+        /// 12 bytes each, laid out as a [`Line`] of a listing. "their tablet and number aren't
+        /// looked at".
+        records: Vec<u8>,
+    },
+    /// What a bib will show at the joiner after a join, and what that gains. A preview is no event,
+    /// and no step of a day file.
+    Preview {
+        /// The revision that would go on.
+        joiner: u8,
+        /// The revision that would end.
+        joinee: u8,
+        /// The bib that is looked up.
+        bib: u16,
+    },
 }
 
 /// The kinds of update by name, kind 1 first. What each makes of a bib, by 01 and 02's U2:
@@ -75,15 +97,7 @@ impl fmt::Display for Call {
         match *self {
             Call::Update { client, revision, kind, bib, v } => {
                 write!(f, "update {client}/{revision} ")?;
-                match KINDS.get(usize::from(kind).wrapping_sub(1)) {
-                    Some(name) => f.write_str(name)?,
-                    None => write!(f, "{kind}")?,
-                }
-                write!(f, " bib {bib}")?;
-                if kind == STRIKE && v == 0 {
-                    return Ok(());
-                }
-                write!(f, " {v}")
+                write_entry(f, kind, bib, v)
             }
             Call::Query { client, revision, bib } => {
                 write!(f, "query {client}/{revision} bib {bib}")
@@ -93,7 +107,44 @@ impl fmt::Display for Call {
             Call::Join { joiner, joinee } => write!(f, "join {joiner} with {joinee}"),
             Call::List { revision, room } => write!(f, "list box {revision} room {room}"),
             Call::Fill { revision } => write!(f, "fill box {revision}"),
+            Call::Bundle { client, revision, ref records } => {
+                write!(f, "bundle {client}/{revision}")?;
+                write_records(f, records)
+            }
+            Call::Preview { joiner, joinee, bib } => {
+                write!(f, "preview {joiner} with {joinee} bib {bib}")
+            }
         }
+    }
+}
+
+/// Kind, bib and argument of an entry.
+fn write_entry(f: &mut fmt::Formatter<'_>, kind: u8, bib: u16, v: u32) -> fmt::Result {
+    match KINDS.get(usize::from(kind).wrapping_sub(1)) {
+        Some(name) => f.write_str(name)?,
+        None => write!(f, "{kind}")?,
+    }
+    write!(f, " bib {bib}")?;
+    if kind == STRIKE && v == 0 {
+        return Ok(());
+    }
+    write!(f, " {v}")
+}
+
+/// Each record; where a client or number stands in one, that too. Then how many bytes are left over.
+fn write_records(f: &mut fmt::Formatter<'_>, records: &[u8]) -> fmt::Result {
+    let (whole, rest) = records.as_chunks();
+    for &record in whole {
+        let Line { kind, client, bib, v, number } = Line::from_bytes(record);
+        f.write_str(", ")?;
+        write_entry(f, kind, bib, v)?;
+        if (client, number) != (0, 0) {
+            write!(f, " (tablet {client}, number {number})")?;
+        }
+    }
+    match rest.len() {
+        0 => Ok(()),
+        left => write!(f, ", {left} bytes"),
     }
 }
 
@@ -116,6 +167,26 @@ mod tests {
             (Call::Join { joiner: 0, joinee: 1 }, "join 0 with 1"),
             (Call::List { revision: 2, room: 12 }, "list box 2 room 12"),
             (Call::Fill { revision: 63 }, "fill box 63"),
+            (Call::Preview { joiner: 0, joinee: 1, bib: 7 }, "preview 0 with 1 bib 7"),
+        ];
+        for (call, text) in written {
+            assert_eq!(call.to_string(), text);
+        }
+    }
+    #[test]
+    fn bundles_are_written_with_their_records() {
+        let line = |kind, client, number| Line { kind, client, bib: 7, v: 5, number }.to_bytes();
+        let bundle =
+            |records: &[u8]| Call::Bundle { client: 2, revision: 3, records: records.into() };
+        let records = [line(1, 0, 0), line(4, 0, 0), line(9, 15, 8)].concat();
+        let written = [
+            (bundle(&[]), "bundle 2/3"),
+            (bundle(&records[..12]), "bundle 2/3, Time bib 7 5"),
+            (bundle(&records[..23]), "bundle 2/3, Time bib 7 5, 11 bytes"),
+            (
+                bundle(&records),
+                "bundle 2/3, Time bib 7 5, Strike bib 7 5, 9 bib 7 5 (tablet 15, number 8)",
+            ),
         ];
         for (call, text) in written {
             assert_eq!(call.to_string(), text);

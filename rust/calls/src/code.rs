@@ -1,8 +1,8 @@
-//! The codes of the desk: their numbers and names in 01.
+//! The codes of the desk: their numbers and names in 01 and 02.
 
 use std::fmt;
 
-/// Why a call was refused, or that it was accepted. The discriminant is 01's number.
+/// Why a call was refused, or that it was accepted. The discriminant is its number there.
 #[derive(Clone, Copy, Debug, PartialEq, Eq, PartialOrd, Ord)]
 #[repr(u8)]
 pub enum Code {
@@ -34,15 +34,17 @@ pub enum Code {
     ListingShort = 12,
     /// A day file's step byte is not 1 to 5. Given by the program, by no call.
     StrangeStep = 13,
+    /// 02, U4: the records of a bundle are none or above 64, or not whole.
+    WrongBundle = 14,
 }
 
 impl Code {
-    /// 01's number.
+    /// The number.
     pub fn number(self) -> u8 {
         self as u8
     }
 
-    /// 01's name.
+    /// The name.
     pub fn name(self) -> &'static str {
         match self {
             Code::Accepted => "taken",
@@ -59,6 +61,7 @@ impl Code {
             Code::NotJoinable => "not joinable",
             Code::ListingShort => "sheet short",
             Code::StrangeStep => "strange step",
+            Code::WrongBundle => "wrong bundle",
         }
     }
 }

@@ -107,7 +107,9 @@ impl Drawing {
                 let edge = format!("<path d=\"M{end} {from}H{turn}L{} {to}\"/>", self.now);
                 put(&mut self.edges, edge);
             }
-            Call::Yield { .. } | Call::List { .. } | Call::Fill { .. } => {}
+            Call::Yield { .. } => {}
+            // No steps of a day file.
+            Call::List { .. } | Call::Fill { .. } | Call::Bundle { .. } | Call::Preview { .. } => {}
         }
     }
 

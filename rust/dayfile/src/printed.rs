@@ -12,7 +12,7 @@ use crate::record::Record;
 pub fn answers(records: &[Record]) -> Vec<Answer> {
     let mut day = Day::fresh();
     let answer = |record: &Record| match record.call() {
-        Some(call) => day.call(call),
+        Some(call) => day.call(&call),
         None => Answer::refused(Code::StrangeStep),
     };
     records.iter().map(answer).collect()

@@ -162,7 +162,10 @@ fn random_files_are_drawn_step_by_step() {
 #[test]
 fn days_survive_text_and_file() {
     for seed in 0..200 {
-        let is_step = |call: &Call| !matches!(call, Call::List { .. } | Call::Fill { .. });
+        let is_step = |call: &Call| {
+            let read = matches!(call, Call::List { .. } | Call::Fill { .. } | Call::Preview { .. });
+            !read && !matches!(call, Call::Bundle { .. })
+        };
         let day: Vec<Call> =
             random_day(&Profile::STRANGE, seed).into_iter().filter(is_step).collect();
         let text: String = day.iter().map(|call| format!("{call}\n")).collect();

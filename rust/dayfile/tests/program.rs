@@ -47,9 +47,9 @@ fn must_print(bytes: &[u8], what: &str) -> usize {
 }
 
 /// A record of a step, with any bytes in the fields that the step doesn't use.
-fn record(call: Call, rng: &mut Rng) -> Option<Record> {
+fn record(call: &Call, rng: &mut Rng) -> Option<Record> {
     let any = Record::from_bytes(std::array::from_fn(|_| rng.bits() as u8));
-    Some(match call {
+    Some(match *call {
         Call::Update { client, revision, kind, bib, v } => {
             Record { step: 1, client, revision, kind, bib, v, ..any }
         }
@@ -60,6 +60,7 @@ fn record(call: Call, rng: &mut Rng) -> Option<Record> {
             Record { step: 5, revision: joiner, second: joinee, ..any }
         }
         Call::List { .. } | Call::Fill { .. } => return None,
+        Call::Bundle { .. } | Call::Preview { .. } => return None,
     })
 }
 
@@ -74,7 +75,7 @@ fn with_gap(records: &[Record], gap: usize, rng: &mut Rng) -> Vec<u8> {
 /// A day, as far as it fits a file, with strange steps in it.
 fn day_file(calls: &[Call], rng: &mut Rng) -> Vec<u8> {
     let mut records = Vec::new();
-    for &call in calls {
+    for call in calls {
         if rng.percent(3) {
             let any = 6 + rng.below(250) as u8;
             records.push(Record { step: rng.pick(&[0, 6, 255, any]), ..random_record(rng) });
@@ -132,7 +133,7 @@ fn days_with_late_updates() {
     let mut struck = 0;
     for (number, calls) in late_days().enumerate() {
         let records: Vec<Record> =
-            calls.into_iter().filter_map(|call| record(call, &mut Rng::new(0))).collect();
+            calls.into_iter().filter_map(|call| record(&call, &mut Rng::new(0))).collect();
         let bytes = with_gap(&records, 0, &mut Rng::new(0));
         struck += must_print(&bytes, &format!("late updates, day {number}"));
     }
@@ -247,7 +248,7 @@ fn the_longest_printed_day() {
     let time = Call::Update { client: 0, revision: 0, kind: 1, bib: 7, v: u32::MAX };
     let query = Call::Query { client: 0, revision: 0, bib: 7 };
     let calls = std::iter::once(time).chain(std::iter::repeat_n(query, 5_459));
-    let records: Vec<Record> = calls.filter_map(|call| record(call, &mut rng)).collect();
+    let records: Vec<Record> = calls.filter_map(|call| record(&call, &mut rng)).collect();
     let bytes = with_gap(&records, 8, &mut rng);
     assert_eq!(bytes.len(), LONGEST);
     must_print(&bytes, "the longest printed day");

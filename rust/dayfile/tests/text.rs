@@ -61,6 +61,8 @@ fn each_error_names_its_line_and_what_was_expected() {
         ("step 256", "expected a step byte from 0 to 255, found `256`"),
         ("list box 0 room 12", "unknown step `list`; there are update, query, yield, fork, join and step"),
         ("fill box 0", "unknown step `fill`; there are update, query, yield, fork, join and step"),
+        ("bundle 0/0, Time bib 7 1", "unknown step `bundle`; there are update, query, yield, fork, join and step"),
+        ("preview 0 with 1 bib 7", "unknown step `preview`; there are update, query, yield, fork, join and step"),
     ];
     for (line, message) in cases {
         let error = read_text(&format!("yield 0\n\n{line}\nyield x\n")).unwrap_err();

@@ -27,6 +27,7 @@ pub fn chain_of_joins(seed: u64) -> Vec<Call> {
         _ => (1..=length).rev().map(|r| (r - 1, r)).collect(),
     };
     for (joiner, joinee) in joins {
+        calls.extend([0, 1].map(|bib| Call::Preview { joiner, joinee, bib }));
         calls.push(Call::Join { joiner, joinee });
         entries(&mut rng, joiner, &mut calls);
         calls.push(Call::List { revision: joiner, room: 49_152 });

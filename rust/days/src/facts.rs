@@ -11,7 +11,7 @@ pub struct Step {
     pub call: Call,
     /// What it answered.
     pub answer: Answer,
-    /// The size of the diagram before it, which is the place of the vertex that it adds.
+    /// The size of the diagram before it, which is the place of the first vertex that it adds.
     pub vertices: usize,
     /// Which of the transactions begun before it were closed then.
     pub closed: Vec<bool>,
@@ -49,11 +49,11 @@ impl Facts {
         let mut day = Day::fresh();
         let mut views = vec![views_now(&day)];
         let mut steps = Vec::new();
-        for &call in calls {
+        for call in calls {
             let vertices = day.diagram().size();
             let closed = day.transactions().iter().map(|t| t.yielded.is_some()).collect();
             let answer = day.call(call);
-            steps.push(Step { call, answer, vertices, closed });
+            steps.push(Step { call: call.clone(), answer, vertices, closed });
             views.push(views_now(&day));
         }
         let diagram = day.diagram();

@@ -15,12 +15,12 @@ pub fn told(answer: &Answer) -> Told {
 
 /// The first time of a day, its start included, at which the fills of all revisions do not come to
 /// the updates accepted until then, in words. `make` makes one call, on a table that was fresh.
-pub fn fault_of_fills(calls: &[Call], mut make: impl FnMut(Call) -> Told) -> Option<String> {
+pub fn fault_of_fills(calls: &[Call], mut make: impl FnMut(&Call) -> Told) -> Option<String> {
     let mut history = History { accepted: 0, out: BTreeSet::from([0]) };
     if let Some(fault) = history.fault(&mut make) {
         return Some(format!("at the start: {fault}"));
     }
-    calls.iter().find_map(|&call| {
+    calls.iter().find_map(|call| {
         history.learn(call, make(call));
         history.fault(&mut make).map(|fault| format!("after `{call}`: {fault}"))
     })
@@ -35,10 +35,11 @@ struct History {
 }
 
 impl History {
-    fn learn(&mut self, call: Call, told: Told) {
+    fn learn(&mut self, call: &Call, told: Told) {
         let Some((value, _)) = told else { return };
-        match call {
+        match *call {
             Call::Update { .. } => self.accepted += 1,
+            Call::Bundle { ref records, .. } => self.accepted += records.len() as u32 / 12,
             Call::Fork { .. } => {
                 self.out.insert(value as u8);
             }
@@ -50,11 +51,11 @@ impl History {
     }
 
     /// A fill of each number in range and of some above: those that are out are told, and no others.
-    fn fault(&self, make: &mut impl FnMut(Call) -> Told) -> Option<String> {
+    fn fault(&self, make: &mut impl FnMut(&Call) -> Told) -> Option<String> {
         let History { accepted, out } = self;
         let mut sum = 0;
         for revision in (0..=64).chain([128, 255]) {
-            let told = make(Call::Fill { revision });
+            let told = make(&Call::Fill { revision });
             if told.is_some() != out.contains(&revision) {
                 return Some(format!("box {revision} gives {told:?}, out are {out:?}"));
             }

@@ -14,20 +14,20 @@ pub fn random_day(profile: &Profile, seed: u64) -> Vec<Call> {
     let mut generator = Generator::new(profile, seed);
     let mut day = plain::Day::fresh();
     let count = profile.calls / 2 + generator.rng.below(profile.calls / 2 + 1);
-    (0..count)
-        .map(|_| {
-            let call = generator.pick();
-            let answer = day.call(call);
-            generator.learn(call, &answer);
+    (0..profile.first + count)
+        .map(|at| {
+            let call = if at < profile.first { generator.first() } else { generator.pick() };
+            let answer = day.call(&call);
+            generator.learn(&call, &answer);
             call
         })
         .collect()
 }
 
 /// What the answers told so far.
-struct Generator<'a> {
+pub(crate) struct Generator<'a> {
     profile: &'a Profile,
-    rng: Rng,
+    pub(crate) rng: Rng,
     /// The revisions that are out.
     out: Vec<u8>,
     /// How many revisions were started.
@@ -38,7 +38,9 @@ struct Generator<'a> {
     open: [Option<u8>; 16],
     /// Where each client was last, or who took that over.
     last: [u8; 16],
-    updates: usize,
+    pub(crate) updates: usize,
+    /// What was picked together with the call before it.
+    next: Option<Call>,
 }
 
 impl<'a> Generator<'a> {
@@ -52,14 +54,15 @@ impl<'a> Generator<'a> {
             open: [None; 16],
             last: [0; 16],
             updates: 0,
+            next: None,
         }
     }
 
-    fn learn(&mut self, call: Call, answer: &Answer) {
+    fn learn(&mut self, call: &Call, answer: &Answer) {
         if answer.code != Code::Accepted {
             return;
         }
-        match call {
+        match *call {
             Call::Update { client, revision, .. } => {
                 self.entered(client, revision);
                 self.updates += 1;
@@ -76,7 +79,12 @@ impl<'a> Generator<'a> {
                 let moved = self.last.iter_mut().chain(&mut self.forker);
                 moved.filter(|revision| **revision == joinee).for_each(|place| *place = joiner);
             }
-            Call::List { .. } | Call::Fill { .. } => {}
+            Call::Bundle { client, revision, ref records } => {
+                self.entered(client, revision);
+                self.open[usize::from(client)] = None;
+                self.updates += records.len() / 12;
+            }
+            Call::List { .. } | Call::Fill { .. } | Call::Preview { .. } => {}
         }
     }
 
@@ -86,6 +94,9 @@ impl<'a> Generator<'a> {
     }
 
     fn pick(&mut self) -> Call {
+        if let Some(call) = self.next.take() {
+            return call;
+        }
         let call = self.likely();
         if self.rng.percent(self.profile.strange) {
             self.spoilt(call)
@@ -98,7 +109,7 @@ impl<'a> Generator<'a> {
     fn likely(&mut self) -> Call {
         let w = self.profile.weights;
         let steps = w.update + w.query + w.yields + w.fork + w.join;
-        let mut at = self.rng.below(steps + w.list + w.fill);
+        let mut at = self.rng.below(steps + w.list + w.fill + w.bundle + w.preview);
         let mut falls = |weight: usize| {
             let here = at < weight;
             at = at.saturating_sub(weight);
@@ -116,12 +127,16 @@ impl<'a> Generator<'a> {
             self.join()
         } else if falls(w.list) {
             self.list()
+        } else if falls(w.bundle) {
+            self.bundle()
+        } else if falls(w.preview) {
+            self.preview()
         } else {
             self.fill()
         }
     }
 
-    fn client(&mut self) -> u8 {
+    pub(crate) fn client(&mut self) -> u8 {
         self.rng.below(usize::from(self.profile.clients)) as u8
     }
 
@@ -130,7 +145,7 @@ impl<'a> Generator<'a> {
     }
 
     /// Where a client goes on or starts.
-    fn place(&mut self, client: u8) -> u8 {
+    pub(crate) fn place(&mut self, client: u8) -> u8 {
         let at = usize::from(client);
         let here = self.open[at].unwrap_or(self.last[at]);
         let roam = match self.open[at] {
@@ -151,12 +166,18 @@ impl<'a> Generator<'a> {
     fn update(&mut self) -> Call {
         let client = self.client();
         let revision = self.place(client);
+        let (kind, bib, v) = self.entry();
+        let call = Call::Update { client, revision, kind, bib, v };
+        self.settled(Some(client), &[revision], call)
+    }
+
+    /// Kind, bib and argument of an update.
+    pub(crate) fn entry(&mut self) -> (u8, u16, u32) {
         let kind = self.rng.pick(self.profile.kinds);
         let any = self.rng.bits() as u32;
         let small = self.rng.below(100_000) as u32;
         let v = self.rng.pick(&[0, 1, small, small, small, any, u32::MAX]);
-        let call = Call::Update { client, revision, kind, bib: self.bib(), v };
-        self.settled(Some(client), &[revision], call)
+        (kind, self.bib(), v)
     }
 
     fn query(&mut self) -> Call {
@@ -167,7 +188,7 @@ impl<'a> Generator<'a> {
     }
 
     /// In most cases, the yield of another client that keeps one of these revisions busy.
-    fn settled(&mut self, caller: Option<u8>, revisions: &[u8], call: Call) -> Call {
+    pub(crate) fn settled(&mut self, caller: Option<u8>, revisions: &[u8], call: Call) -> Call {
         let busy = (0..16).find(|&client| {
             let open = self.open[usize::from(client)];
             Some(client) != caller && open.is_some_and(|revision| revisions.contains(&revision))
@@ -185,13 +206,35 @@ impl<'a> Generator<'a> {
         self.settled(None, &[revision], Call::Fork { revision })
     }
 
-    /// In most cases a revision with its forker, else any two.
     fn join(&mut self) -> Call {
+        let (joiner, joinee) = self.pair();
+        self.settled(None, &[joiner, joinee], Call::Join { joiner, joinee })
+    }
+
+    /// A joiner and a joinee: in most cases a revision with its forker, else any two.
+    fn pair(&mut self) -> (u8, u8) {
         let joinee = self.any_out();
         let any = self.any_out();
         let likely = self.rng.percent(60);
-        let joiner = if likely { self.forker[usize::from(joinee)] } else { any };
-        self.settled(None, &[joiner, joinee], Call::Join { joiner, joinee })
+        (if likely { self.forker[usize::from(joinee)] } else { any }, joinee)
+    }
+
+    /// In many cases of a revision that some client entered on last, with its forker; and the join
+    /// comes next.
+    fn preview(&mut self) -> Call {
+        let entered = self.last[usize::from(self.client())];
+        let (joiner, joinee) = match self.rng.percent(50) && self.out.contains(&entered) {
+            true => (self.forker[usize::from(entered)], entered),
+            false => self.pair(),
+        };
+        let strange = self.rng.pick(&[1_000, 65_535]);
+        let bib = if self.rng.percent(5) { strange } else { self.bib() };
+        let call = Call::Preview { joiner, joinee, bib };
+        let call = self.settled(None, &[joiner, joinee], call);
+        if matches!(call, Call::Preview { .. }) && self.rng.percent(40) {
+            self.next = Some(Call::Join { joiner, joinee });
+        }
+        call
     }
 
     fn list(&mut self) -> Call {
@@ -244,6 +287,15 @@ impl<'a> Generator<'a> {
             },
             Call::List { room, .. } => Call::List { revision: number, room },
             Call::Fill { .. } => Call::Fill { revision: number },
+            Call::Bundle { client, revision, records } => match which {
+                0 => Call::Bundle { client: strange_client, revision, records },
+                _ => Call::Bundle { client, revision: number, records },
+            },
+            Call::Preview { joiner, joinee, bib } => match which {
+                0 => Call::Preview { joiner: number, joinee, bib },
+                1 => Call::Preview { joiner, joinee: number, bib },
+                _ => Call::Preview { joiner, joinee, bib: strange_bib },
+            },
         }
     }
 }

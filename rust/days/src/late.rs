@@ -9,14 +9,16 @@ const UPDATES: [(u8, u32); 7] = [(1, 0), (1, 8), (2, 0), (2, 5), (3, 0), (3, 5),
 /// A day for each list of up to three updates of one bib and each place at which the list is cut.
 /// What stands behind the cut is entered first, on a revision of its own; then come the updates
 /// before the cut, on the main revision, which then joins the other. Both are queried before the
-/// join, and the main one after it.
+/// join, which has a preview, and the main one after it.
 pub fn late_days() -> impl Iterator<Item = Vec<Call>> {
     lists(3).into_iter().flat_map(|list| {
         (0..=list.len()).map(move |cut| {
             let mut calls = vec![Call::Fork { revision: 0 }];
             entered(1, &list[cut..], &mut calls);
             entered(0, &list[..cut], &mut calls);
-            calls.push(Call::Join { joiner: 0, joinee: 1 });
+            let (joiner, joinee) = (0, 1);
+            calls.push(Call::Preview { joiner, joinee, bib: 7 });
+            calls.push(Call::Join { joiner, joinee });
             entered(0, &[], &mut calls);
             calls
         })

@@ -1,13 +1,16 @@
 //! Random days, and the checkers that judge them.
 //!
-//! Days are made from a seed, but for the short ones of [`late_days`], and a failed check prints it with the shortest day found that still
-//! fails. Three checkers use them: the literal replay and the plain implementation agree on every
-//! answer, demand 3's line-up holds by brute force, and the fills of all revisions come to the
-//! updates accepted.
+//! Days are made from a seed, but for the short ones of [`late_days`], and a failed check prints it
+//! with the shortest day found that still fails. Five checkers use them: the literal replay and the
+//! plain implementation agree on every answer, demand 3's line-up holds by brute force, the fills of
+//! all revisions come to the updates accepted, a bundle is its updates and a yield, and a preview is
+//! the join on a copy and a query there.
 
 #![forbid(unsafe_code)]
 
 mod arbitration;
+mod bundled;
+mod bundles;
 mod chains;
 mod compare;
 mod facts;
@@ -15,20 +18,25 @@ mod fills;
 mod generator;
 mod late;
 mod line_up;
+mod previews;
 mod profile;
 mod report;
 mod rng;
 mod seeds;
+mod shown;
 
 pub use arbitration::arbitration_order;
+pub use bundles::fault_of_bundles;
 pub use chains::chain_of_joins;
-pub use compare::{disagreement, disagreement_with_reads};
+pub use compare::{disagreement, disagreement_with_previews, disagreement_with_reads};
 pub use facts::{Facts, Step, View};
 pub use fills::{fault_of_fills, told, Told};
 pub use generator::random_day;
 pub use late::late_days;
 pub use line_up::{broken_sentence, SENTENCES};
+pub use previews::fault_of_previews;
 pub use profile::{Profile, Weights};
 pub use report::must_pass;
 pub use rng::Rng;
 pub use seeds::seeds;
+pub use shown::{shown, Shown};

@@ -17,6 +17,10 @@ pub struct Weights {
     pub list: usize,
     /// Fills.
     pub fill: usize,
+    /// Bundles.
+    pub bundle: usize,
+    /// Previews.
+    pub preview: usize,
 }
 
 /// A kind of day.
@@ -24,7 +28,9 @@ pub struct Weights {
 pub struct Profile {
     /// Printed with the seed.
     pub name: &'static str,
-    /// A day has so many calls at most, and at least half of them.
+    /// A day begins with so many bundles of 64 good entries on the main revision.
+    pub first: usize,
+    /// Then it has so many calls at most, and at least half of them.
     pub calls: usize,
     /// Clients that take part.
     pub clients: u8,
@@ -53,6 +59,7 @@ impl Profile {
     /// Short days that brute force can judge, on few revisions and bibs.
     pub const SMALL: Profile = Profile {
         name: "small",
+        first: 0,
         calls: 64,
         clients: 3,
         bibs: 2,
@@ -66,6 +73,8 @@ impl Profile {
             join: 16,
             list: 4,
             fill: 6,
+            bundle: 4,
+            preview: 8,
         },
         newest: 30,
         settle: 80,
@@ -76,6 +85,7 @@ impl Profile {
     /// A bit of everything.
     pub const MIXED: Profile = Profile {
         name: "mixed",
+        first: 0,
         calls: 200,
         clients: 16,
         bibs: 5,
@@ -89,6 +99,8 @@ impl Profile {
             join: 12,
             list: 8,
             fill: 6,
+            bundle: 5,
+            preview: 6,
         },
         newest: 20,
         settle: 60,
@@ -99,12 +111,23 @@ impl Profile {
     /// Revisions that fork revisions of their own.
     pub const NESTED: Profile = Profile {
         name: "nested",
+        first: 0,
         calls: 200,
         clients: 6,
         bibs: 2,
         kinds: ALIKE,
         revisions: 65,
-        weights: Weights { update: 25, query: 8, yields: 20, fork: 20, join: 24, list: 3, fill: 4 },
+        weights: Weights {
+            update: 25,
+            query: 8,
+            yields: 20,
+            fork: 20,
+            join: 24,
+            list: 3,
+            fill: 4,
+            bundle: 4,
+            preview: 8,
+        },
         newest: 75,
         settle: 90,
         roam: 70,
@@ -114,6 +137,7 @@ impl Profile {
     /// Clients that walk off without a yield, or start where they are not caught up.
     pub const STALE: Profile = Profile {
         name: "stale",
+        first: 0,
         calls: 200,
         clients: 16,
         bibs: 3,
@@ -127,6 +151,8 @@ impl Profile {
             join: 14,
             list: 4,
             fill: 4,
+            bundle: 5,
+            preview: 6,
         },
         newest: 20,
         settle: 15,
@@ -137,12 +163,23 @@ impl Profile {
     /// Transactions of queries alone.
     pub const QUERIES: Profile = Profile {
         name: "queries",
+        first: 0,
         calls: 150,
         clients: 5,
         bibs: 2,
         kinds: ALIKE,
         revisions: 65,
-        weights: Weights { update: 8, query: 40, yields: 22, fork: 12, join: 15, list: 3, fill: 4 },
+        weights: Weights {
+            update: 8,
+            query: 40,
+            yields: 22,
+            fork: 12,
+            join: 15,
+            list: 3,
+            fill: 4,
+            bundle: 2,
+            preview: 6,
+        },
         newest: 30,
         settle: 80,
         roam: 60,
@@ -152,6 +189,7 @@ impl Profile {
     /// Strikes of a single bib on revisions that are soon joined, and queries among them.
     pub const STRIKES: Profile = Profile {
         name: "strikes",
+        first: 0,
         calls: 150,
         clients: 10,
         bibs: 1,
@@ -165,6 +203,8 @@ impl Profile {
             join: 24,
             list: 1,
             fill: 1,
+            bundle: 3,
+            preview: 12,
         },
         newest: 30,
         settle: 95,
@@ -175,12 +215,23 @@ impl Profile {
     /// All 64 revisions and the fork that is refused.
     pub const FORKS: Profile = Profile {
         name: "forks",
+        first: 0,
         calls: 400,
         clients: 4,
         bibs: 2,
         kinds: ALIKE,
         revisions: 65,
-        weights: Weights { update: 12, query: 5, yields: 12, fork: 50, join: 18, list: 3, fill: 4 },
+        weights: Weights {
+            update: 12,
+            query: 5,
+            yields: 12,
+            fork: 50,
+            join: 18,
+            list: 3,
+            fill: 4,
+            bundle: 2,
+            preview: 6,
+        },
         newest: 40,
         settle: 95,
         roam: 60,
@@ -190,6 +241,7 @@ impl Profile {
     /// Arguments out of their range.
     pub const STRANGE: Profile = Profile {
         name: "strange",
+        first: 0,
         calls: 150,
         clients: 16,
         bibs: 1_000,
@@ -203,6 +255,8 @@ impl Profile {
             join: 15,
             list: 10,
             fill: 12,
+            bundle: 12,
+            preview: 15,
         },
         newest: 20,
         settle: 60,
@@ -213,6 +267,7 @@ impl Profile {
     /// A log that fills up, and what goes on after it.
     pub const FULL: Profile = Profile {
         name: "full",
+        first: 0,
         calls: 14_000,
         clients: 4,
         bibs: 20,
@@ -226,10 +281,39 @@ impl Profile {
             join: 8,
             list: 2,
             fill: 10,
+            bundle: 4,
+            preview: 4,
         },
         newest: 30,
         settle: 90,
         roam: 8,
         strange: 0,
     };
+    /// Bundles of all sizes.
+    pub const BUNDLES: Profile = Profile {
+        name: "bundles",
+        first: 0,
+        calls: 100,
+        clients: 5,
+        bibs: 10,
+        kinds: ALIKE,
+        revisions: 12,
+        weights: Weights {
+            update: 12,
+            query: 4,
+            yields: 12,
+            fork: 4,
+            join: 4,
+            list: 1,
+            fill: 1,
+            bundle: 60,
+            preview: 4,
+        },
+        newest: 30,
+        settle: 80,
+        roam: 30,
+        strange: 2,
+    };
+    /// Bundles that fill the log to its last place, or find it full in their midst.
+    pub const NEARLY_FULL: Profile = Profile { name: "nearly full", first: 61, ..Profile::BUNDLES };
 }

@@ -1,16 +1,16 @@
 //! Random days of all kinds: the literal replay and the plain implementation give the same code,
-//! state, value, total and listing for every call.
+//! state, value, total, gain and listing for every call.
 
 use std::collections::BTreeMap;
 
 use calls::{Call, Code, State, KINDS as NAMES};
 use days::{
-    chain_of_joins, disagreement, disagreement_with_reads, late_days, must_pass, random_day, seeds,
-    Profile,
+    chain_of_joins, disagreement, disagreement_with_previews, disagreement_with_reads, late_days,
+    must_pass, random_day, seeds, Profile,
 };
 
 /// How many days of each kind are replayed.
-const KINDS: [(Profile, u64); 8] = [
+const KINDS: [(Profile, u64); 10] = [
     (Profile::MIXED, 600),
     (Profile::NESTED, 600),
     (Profile::STALE, 400),
@@ -19,6 +19,8 @@ const KINDS: [(Profile, u64); 8] = [
     (Profile::FORKS, 200),
     (Profile::STRANGE, 400),
     (Profile::FULL, 12),
+    (Profile::BUNDLES, 200),
+    (Profile::NEARLY_FULL, 60),
 ];
 
 #[test]
@@ -26,6 +28,14 @@ fn small_days_agree_in_every_listing_and_fill_after_every_step() {
     for seed in seeds(3_000) {
         let day = random_day(&Profile::SMALL, seed);
         must_pass("small", seed, &day, disagreement_with_reads);
+    }
+}
+
+#[test]
+fn small_days_agree_in_every_preview_after_every_step() {
+    for seed in seeds(200) {
+        let day = random_day(&Profile::SMALL, seed);
+        must_pass("small", seed, &day, |day| disagreement_with_previews(day, &[0, 1, 1_000]));
     }
 }
 
@@ -63,11 +73,11 @@ fn every_call_meets_each_of_its_codes() {
         for seed in 0..count {
             let mut day = plain::Day::fresh();
             for call in random_day(&profile, seed) {
-                *met.entry((name(call), day.call(call).code.number())).or_default() += 1;
+                *met.entry((name(&call), day.call(&call).code.number())).or_default() += 1;
             }
         }
     }
-    let codes: [(&str, &[u8]); 7] = [
+    let codes: [(&str, &[u8]); 9] = [
         ("update", &[0, 2, 3, 4, 5, 6, 7, 8, 9]),
         ("query", &[0, 2, 3, 4, 5, 6, 7, 8]),
         ("yield", &[0, 2]),
@@ -75,6 +85,8 @@ fn every_call_meets_each_of_its_codes() {
         ("join", &[0, 3, 4, 7, 11]),
         ("list", &[0, 3, 4, 7, 12]),
         ("fill", &[0, 3, 4]),
+        ("bundle", &[0, 2, 3, 4, 5, 6, 7, 8, 9, 14]),
+        ("preview", &[0, 3, 4, 5, 7, 11]),
     ];
     for (call, codes) in codes {
         let of_call = met.iter().filter(|((name, _), _)| *name == call);
@@ -98,7 +110,7 @@ fn queries_find_bibs_in_every_state() {
         for seed in 0..count / 2 {
             let mut day = literal::Day::fresh();
             for call in random_day(&profile, seed) {
-                let answer = day.call(call);
+                let answer = day.call(&call);
                 let Call::Query { revision, bib, .. } = call else { continue };
                 if answer.code != Code::Accepted {
                     continue;
@@ -148,7 +160,7 @@ fn fills_of_every_kind_are_made() {
                 if let Call::Fill { revision } = call {
                     *met.entry(kind_of(&day, usize::from(revision))).or_default() += 1;
                 }
-                day.call(call);
+                day.call(&call);
             }
         }
     }
@@ -174,11 +186,11 @@ fn random_days_reach_the_limits() {
     let full = (0..12).filter(|&seed| {
         let calls = random_day(&Profile::FULL, seed);
         let mut day = plain::Day::fresh();
-        let codes: Vec<Code> = calls.iter().map(|&call| day.call(call).code).collect();
+        let codes: Vec<Code> = calls.iter().map(|call| day.call(call).code).collect();
         let at = codes.iter().position(|&code| code == Code::LogFull);
         let joined_after = |at: usize| {
             let mut rest = calls[at..].iter().zip(&codes[at..]);
-            rest.any(|(call, &code)| name(*call) == "join" && code == Code::Accepted)
+            rest.any(|(call, &code)| name(call) == "join" && code == Code::Accepted)
         };
         at.is_some_and(joined_after)
     });
@@ -186,25 +198,25 @@ fn random_days_reach_the_limits() {
 
     let all_started = (0..100).filter(|&seed| {
         let mut day = plain::Day::fresh();
-        let mut answered = random_day(&Profile::FORKS, seed).into_iter().map(|c| (c, day.call(c)));
-        answered.any(|(call, answer)| name(call) == "fork" && answer.value == 63)
+        let calls = random_day(&Profile::FORKS, seed);
+        calls.iter().any(|call| day.call(call).value == 63 && name(call) == "fork")
     });
     assert!(all_started.count() >= 30, "days with 64 revisions");
 
     let joins = (0..100).map(|seed| {
         let mut day = plain::Day::fresh();
         let calls = chain_of_joins(seed);
-        for &call in &calls {
+        for call in &calls {
             let accepted = day.call(call).code == Code::Accepted;
             assert!(accepted || !["fork", "join"].contains(&name(call)), "seed {seed}: {call}");
         }
-        calls.into_iter().filter(|&call| name(call) == "join").count()
+        calls.iter().filter(|call| name(call) == "join").count()
     });
     assert_eq!(joins.max(), Some(63), "joins of one day");
 }
 
-fn name(call: Call) -> &'static str {
-    match call {
+fn name(call: &Call) -> &'static str {
+    match *call {
         Call::Update { .. } => "update",
         Call::Query { .. } => "query",
         Call::Yield { .. } => "yield",
@@ -212,5 +224,7 @@ fn name(call: Call) -> &'static str {
         Call::Join { .. } => "join",
         Call::List { .. } => "list",
         Call::Fill { .. } => "fill",
+        Call::Bundle { .. } => "bundle",
+        Call::Preview { .. } => "preview",
     }
 }

@@ -6,7 +6,7 @@ use days::{chain_of_joins, fault_of_fills, must_pass, random_day, seeds, told, P
 use literal::{Day, VertexId, VertexKind};
 
 /// How many days of each kind are replayed.
-const KINDS: [(Profile, u64); 8] = [
+const KINDS: [(Profile, u64); 10] = [
     (Profile::SMALL, 300),
     (Profile::MIXED, 100),
     (Profile::NESTED, 100),
@@ -15,6 +15,8 @@ const KINDS: [(Profile, u64); 8] = [
     (Profile::FORKS, 50),
     (Profile::STRANGE, 100),
     (Profile::FULL, 2),
+    (Profile::BUNDLES, 50),
+    (Profile::NEARLY_FULL, 5),
 ];
 
 fn by_literal(calls: &[Call]) -> Option<String> {
@@ -104,7 +106,7 @@ fn wrong_fills_are_found() {
             let mut day = Day::fresh();
             fault_of_fills(&random_day(&few_calls, seed), |call| {
                 let right = told(&day.call(call));
-                match call {
+                match *call {
                     Call::Fill { revision } => wrong(&day, usize::from(revision), right),
                     _ => right,
                 }

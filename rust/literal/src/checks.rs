@@ -1,4 +1,4 @@
-//! The checks behind codes 2 to 12, each by itself: 01, "Codes of the desk".
+//! The checks behind codes 2 to 12 and 14, each by itself: 01, "Codes of the desk", and 02, U4.
 
 use calls::Code;
 
@@ -9,8 +9,8 @@ use crate::update::BIBS;
 const REVISIONS: usize = 64;
 /// 4,096 updates, the sum over all boxes.
 const UPDATES: usize = 4_096;
-/// Bytes of one entry of a listing.
-const ENTRY: usize = 12;
+/// Bytes of one entry of a listing, and of one record of a bundle.
+pub(crate) const ENTRY: usize = 12;
 
 /// The code, if the condition in the table of codes holds.
 fn refuse_if(condition: bool, code: Code) -> Result<(), Code> {
@@ -29,6 +29,12 @@ pub(crate) fn bib_known(bib: u16) -> Result<(), Code> {
 /// 5: "update kind not 1 to 4".
 pub(crate) fn kind_known(kind: u8) -> Result<(), Code> {
     refuse_if(!(1..=4).contains(&kind), Code::BadEntry)
+}
+
+/// 14: "the count is 0 or above 64 or the bytes aren't a multiple of 12".
+pub(crate) fn bundle_whole(bytes: usize) -> Result<(), Code> {
+    let whole = bytes.is_multiple_of(ENTRY);
+    refuse_if(!whole || !(1..=64).contains(&(bytes / ENTRY)), Code::WrongBundle)
 }
 
 impl Day {

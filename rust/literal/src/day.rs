@@ -7,7 +7,7 @@ use crate::update::Update;
 pub(crate) const CLIENTS: usize = 16;
 
 /// A revision that was started.
-#[derive(Clone, Copy, Debug)]
+#[derive(Clone, Copy, Debug, PartialEq, Eq)]
 pub struct Revision {
     /// Its start vertex.
     pub start: VertexId,
@@ -18,7 +18,7 @@ pub struct Revision {
 }
 
 /// The events of a client between yields.
-#[derive(Clone, Debug)]
+#[derive(Clone, Debug, PartialEq, Eq)]
 pub struct Transaction {
     /// Whose it is.
     pub client: usize,
@@ -32,7 +32,7 @@ pub struct Transaction {
 }
 
 /// What is kept of a client.
-#[derive(Clone, Copy, Debug, Default)]
+#[derive(Clone, Copy, Debug, Default, PartialEq, Eq)]
 pub(crate) struct Client {
     pub(crate) last_event: Option<VertexId>,
     /// Its open transaction, by its place among all transactions.
@@ -40,7 +40,7 @@ pub(crate) struct Client {
 }
 
 /// The day kept on paper.
-#[derive(Clone, Debug)]
+#[derive(Clone, Debug, PartialEq, Eq)]
 pub struct Day {
     pub(crate) diagram: Diagram,
     pub(crate) revisions: Vec<Revision>,

@@ -29,7 +29,7 @@ pub enum VertexKind {
 }
 
 /// A vertex with the edges that lead to it.
-#[derive(Clone, Debug)]
+#[derive(Clone, Debug, PartialEq, Eq)]
 struct Vertex {
     kind: VertexKind,
     successor_of: Option<VertexId>,
@@ -38,7 +38,7 @@ struct Vertex {
 }
 
 /// The diagram.
-#[derive(Clone, Debug)]
+#[derive(Clone, Debug, PartialEq, Eq)]
 pub struct Diagram {
     vertices: Vec<Vertex>,
 }

@@ -21,6 +21,15 @@ pub struct Fill {
     pub total: u16,
 }
 
+/// What a join would bring.
+#[derive(Clone, Copy, Debug, PartialEq, Eq)]
+pub struct Preview {
+    /// How the bib will stand at the joiner.
+    pub standing: Standing,
+    /// How many updates the joiner will gain.
+    pub gain: u16,
+}
+
 /// A new day, whatever the bytes were.
 pub fn fresh(t: &mut [u8]) -> Result<u32, Code> {
     table::fresh(t.try_into().map_err(|_| Code::NoTable)?);
@@ -86,14 +95,20 @@ pub fn fork(t: &mut [u8], revision: u8) -> Result<u32, Code> {
 /// The joiner takes over the joinee's updates; how many.
 pub fn join(t: &mut [u8], joiner: u8, joinee: u8) -> Result<u32, Code> {
     let mut t = checked(t)?;
-    let (joiner, joinee) = (t.check_given(joiner)?, t.check_given(joinee)?);
-    t.check_out(joiner)?;
-    t.check_out(joinee)?;
-    t.check_idle(joiner)?;
-    t.check_idle(joinee)?;
-    t.check_joinable(joiner, joinee)?;
+    let (joiner, joinee) = t.check_join(joiner, joinee)?;
 
     Ok(u32::from(t.join(joiner, joinee)))
+}
+
+/// How a bib will stand at the joiner after a join, and how many updates that gains. The table stays
+/// as it is.
+pub fn preview(t: &mut [u8], joiner: u8, joinee: u8, bib: u16) -> Result<Preview, Code> {
+    let t = checked(t)?;
+    let (joiner, joinee) = t.check_join(joiner, joinee)?;
+    let bib = Bib::checked(bib)?;
+
+    let standing = t.standing_joined(joiner, joinee, bib);
+    Ok(Preview { standing, gain: t.count(joinee) })
 }
 
 /// Writes the visible updates of a revision to the sheet; how many. The table stays as it is.

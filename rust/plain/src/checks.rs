@@ -41,7 +41,12 @@ impl Table<'_> {
 
     /// Code 9.
     pub(crate) fn check_log(&self) -> Result<(), Code> {
-        refuse(usize::from(self.updates()) >= UPDATES, Code::LogFull)
+        self.check_log_after(0)
+    }
+
+    /// Code 9, once so many more updates are taken.
+    pub(crate) fn check_log_after(&self, more: usize) -> Result<(), Code> {
+        refuse(usize::from(self.updates()) + more >= UPDATES, Code::LogFull)
     }
 
     /// Code 10, or the next revision number.
@@ -51,15 +56,26 @@ impl Table<'_> {
         Ok(Revision(given))
     }
 
+    /// All checks of a join, and the two revisions.
+    pub(crate) fn check_join(&self, joiner: u8, joinee: u8) -> Result<(Revision, Revision), Code> {
+        let (joiner, joinee) = (self.check_given(joiner)?, self.check_given(joinee)?);
+        self.check_out(joiner)?;
+        self.check_out(joinee)?;
+        self.check_idle(joiner)?;
+        self.check_idle(joinee)?;
+        self.check_joinable(joiner, joinee)?;
+        Ok((joiner, joinee))
+    }
+
     /// Code 11.
-    pub(crate) fn check_joinable(&self, joiner: Revision, joinee: Revision) -> Result<(), Code> {
+    fn check_joinable(&self, joiner: Revision, joinee: Revision) -> Result<(), Code> {
         let joinable =
             joinee != Revision::MAIN && joiner != joinee && self.seen(joiner).has(joinee);
         refuse(!joinable, Code::NotJoinable)
     }
 }
 
-fn refuse(applies: bool, code: Code) -> Result<(), Code> {
+pub(crate) fn refuse(applies: bool, code: Code) -> Result<(), Code> {
     if applies {
         Err(code)
     } else {

@@ -2,13 +2,15 @@
 
 use calls::{Answer, Call, Code, Line, State};
 
-use crate::calls::{fill, fork, fresh, join, list, query, update, yield_, Fill, LISTED};
+use crate::bundle::bundle;
+use crate::calls::{fill, fork, fresh, join, list, preview, query, update, yield_};
+use crate::calls::{Fill, Preview, LISTED};
 use crate::order::UPDATES;
 use crate::parts::BYTES;
 use crate::update::Standing;
 
 /// A table of its own, and the calls as values.
-#[derive(Clone, Debug)]
+#[derive(Clone, Debug, PartialEq, Eq)]
 pub struct Day(Vec<u8>);
 
 impl Day {
@@ -26,14 +28,14 @@ impl Day {
     }
 
     /// Makes one call. A refused one changes nothing.
-    pub fn call(&mut self, call: Call) -> Answer {
+    pub fn call(&mut self, call: &Call) -> Answer {
         crate::call(&mut self.0, call).unwrap_or_else(Answer::refused)
     }
 }
 
 /// Makes one call on any bytes.
-pub fn call(t: &mut [u8], call: Call) -> Result<Answer, Code> {
-    let value = match call {
+pub fn call(t: &mut [u8], call: &Call) -> Result<Answer, Code> {
+    let value = match *call {
         Call::Update { client, revision, kind, bib, v } => {
             update(t, client, revision, kind, bib, v)?
         }
@@ -48,11 +50,16 @@ pub fn call(t: &mut [u8], call: Call) -> Result<Answer, Code> {
             let Fill { own, total } = fill(t, revision)?;
             return Ok(Answer::filled(u32::from(own), u32::from(total)));
         }
+        Call::Bundle { client, revision, ref records } => bundle(t, client, revision, records)?,
+        Call::Preview { joiner, joinee, bib } => {
+            let Preview { standing, gain } = preview(t, joiner, joinee, bib)?;
+            return Ok(Answer { gain: u32::from(gain), ..found(standing) });
+        }
     };
     Ok(Answer::accepted(value))
 }
 
-/// What a query answers of a bib that stands so.
+/// What a query or a preview answers of a bib that stands so.
 fn found(Standing { struck, value }: Standing) -> Answer {
     let state = match (struck, value) {
         (true, _) => State::Struck,

@@ -6,6 +6,7 @@
 
 #![forbid(unsafe_code)]
 
+mod bundle;
 mod calls;
 mod checks;
 mod day;
@@ -19,7 +20,9 @@ mod steps;
 mod table;
 mod update;
 
-pub use self::calls::{fill, fork, fresh, join, list, query, update, yield_, Fill};
+pub use self::calls::{fill, fork, fresh, join, list, preview, query, update, yield_};
+pub use self::calls::{Fill, Preview};
+pub use bundle::bundle;
 pub use day::{call, Day};
 pub use parts::BYTES;
 pub use update::Standing;

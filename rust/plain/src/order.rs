@@ -61,12 +61,22 @@ impl Table<'_> {
 
     /// How a bib stands at a revision.
     pub(crate) fn standing(&self, r: Revision, bib: Bib) -> Standing {
-        let mut numbers = [0; UPDATES];
-        let order = self.order(r, &mut numbers);
-        order
+        self.after(Standing::at(0), self.order(r, &mut [0; UPDATES]), bib)
+    }
+
+    /// How a bib will stand at a revision that joins another: first its own order, then the other's
+    /// own list.
+    pub(crate) fn standing_joined(&self, joiner: Revision, joinee: Revision, bib: Bib) -> Standing {
+        let before = self.standing(joiner, bib);
+        self.after(before, self.own(joinee, &mut [0; UPDATES]), bib)
+    }
+
+    /// How a bib that stands so does after these updates.
+    fn after(&self, before: Standing, numbers: &[u16], bib: Bib) -> Standing {
+        numbers
             .iter()
             .map(|&u| Entry::from_bytes(self.entry(u)))
             .filter(|entry| entry.bib == bib.0)
-            .fold(Standing::at(0), |standing, entry| entry.kind.applied(standing, entry.v))
+            .fold(before, |standing, entry| entry.kind.applied(standing, entry.v))
     }
 }

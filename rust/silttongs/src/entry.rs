@@ -1,52 +1,72 @@
-//! The entries of a listing.
+//! The entries of a bundle.
 
-/// The length of a sheet that every listing fits: 4,096 entries.
-pub const SHEET: usize = 4_096 * Entry::BYTES;
+/// A bundle has so many entries at most.
+pub const BUNDLE: usize = 64;
 
-/// An update as a listing shows it.
+/// An update as a bundle has it. Tablet and box are those of the bundle.
 ///
 /// ```
 /// use silttongs::{Entry, Kind};
 ///
-/// let entry = Entry::from_bytes([1, 15, 0xe7, 3, 0x48, 0xee, 0, 0, 0xff, 0xf, 0, 0]);
-/// assert_eq!(Kind::try_from(entry.kind), Ok(Kind::Time));
-/// assert_eq!((entry.client, entry.bib), (15, 999));
-/// assert_eq!((entry.v, entry.number), (61_000, 4_095));
+/// let entry = Entry::new(Kind::Penalty, 7, 5_000);
+/// assert_eq!(entry, Entry { kind: 3, bib: 7, v: 5_000 });
+/// assert_eq!(entry.to_bytes(), [3, 0, 7, 0, 0x88, 0x13, 0, 0, 0, 0, 0, 0]);
 /// ```
 #[derive(Clone, Copy, Debug, PartialEq, Eq, Hash)]
 pub struct Entry {
-    /// The number of the [`Kind`](crate::Kind), 1 to 4 in every listing.
+    /// The number of the [`Kind`](crate::Kind).
     pub kind: u8,
-    /// The tablet that entered it.
-    pub client: u8,
     /// The bib.
     pub bib: u16,
-    /// The argument as it was entered, a Strike's too.
+    /// The argument.
     pub v: u32,
-    /// The update's number, counted over all boxes from 0.
-    pub number: u32,
 }
 
 impl Entry {
-    /// The length of an entry in bytes.
+    /// The length of a record in bytes.
     pub const BYTES: usize = 12;
 
-    /// The entry in these bytes of a sheet.
-    pub fn from_bytes(bytes: [u8; Entry::BYTES]) -> Self {
-        let [kind, client, b0, b1, v0, v1, v2, v3, number @ ..] = bytes;
-        Entry {
-            kind,
-            client,
-            bib: u16::from_le_bytes([b0, b1]),
-            v: u32::from_le_bytes([v0, v1, v2, v3]),
-            number: u32::from_le_bytes(number),
-        }
+    /// An entry of this kind.
+    pub fn new(kind: impl Into<u8>, bib: u16, v: u32) -> Self {
+        Entry { kind: kind.into(), bib, v }
+    }
+
+    /// Its record, laid out as a [`Line`](crate::Line), with 0 for what is not looked at: tablet and
+    /// number.
+    pub fn to_bytes(self) -> [u8; Entry::BYTES] {
+        let Entry { kind, bib, v } = self;
+        let [b0, b1] = bib.to_le_bytes();
+        let [v0, v1, v2, v3] = v.to_le_bytes();
+        [kind, 0, b0, b1, v0, v1, v2, v3, 0, 0, 0, 0]
     }
 }
 
-/// The first `count` entries of a sheet, or as many as it has: those of a listing, if `count` is
-/// what [`Table::list`](crate::Table::list) answered.
-pub fn entries(sheet: &[u8], count: u32) -> impl Iterator<Item = Entry> + '_ {
-    let (chunks, _) = sheet.as_chunks();
-    chunks.iter().take(count as usize).map(|&bytes| Entry::from_bytes(bytes))
+/// The records of some entries, in the room lent for them; none if there are more than [`BUNDLE`], so
+/// that they are a wrong bundle too.
+pub(crate) fn records<'a>(
+    entries: &[Entry],
+    room: &'a mut [[u8; Entry::BYTES]; BUNDLE],
+) -> &'a [u8] {
+    let count = if entries.len() <= BUNDLE { entries.len() } else { 0 };
+    let places = &mut room[..count];
+    for (place, entry) in places.iter_mut().zip(entries) {
+        *place = entry.to_bytes();
+    }
+    places.as_flattened()
+}
+
+#[cfg(test)]
+mod tests {
+    use super::*;
+
+    #[test]
+    fn as_many_records_as_entries_up_to_64() {
+        let entries = [Entry { kind: 4, bib: 0x0102, v: 0x0304_0506 }; 66];
+        for (count, length) in [(0, 0), (1, 12), (2, 24), (64, 768), (65, 0), (66, 0)] {
+            let mut room = [[9; Entry::BYTES]; BUNDLE];
+            let records = records(&entries[..count], &mut room);
+            assert_eq!(records.len(), length);
+            assert!(records.chunks(12).all(|record| record == entries[0].to_bytes()));
+        }
+    }
 }

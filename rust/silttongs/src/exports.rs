@@ -3,6 +3,7 @@
 #![allow(unsafe_code)]
 
 use crate::fill::Fill;
+use crate::preview::Preview;
 use crate::refusal::{answer, Refusal};
 use crate::standing::Standing;
 
@@ -29,6 +30,15 @@ extern "C" {
         sheet_length: usize,
     ) -> u64;
     fn silttongs_fill(table: *const u8, length: usize, revision: u8) -> u64;
+    fn silttongs_bundle(
+        table: *mut u8,
+        length: usize,
+        client: u8,
+        revision: u8,
+        records: *const u8,
+        records_length: usize,
+    ) -> u64;
+    fn silttongs_preview(table: *const u8, length: usize, joiner: u8, joinee: u8, bib: u16) -> u64;
 }
 
 // Each export takes any bytes and any numbers: it has no precondition, is proved to stay within
@@ -83,4 +93,21 @@ pub(crate) fn list(t: &[u8], revision: u8, sheet: &mut [u8]) -> Result<u32, Refu
 pub(crate) fn fill(t: &[u8], revision: u8) -> Result<Fill, Refusal> {
     // SAFETY: as above. The table is only read.
     answer(unsafe { silttongs_fill(t.as_ptr(), t.len(), revision) }).map(Fill::from_value)
+}
+
+pub(crate) fn bundle(
+    t: &mut [u8],
+    client: u8,
+    revision: u8,
+    records: &[u8],
+) -> Result<u32, Refusal> {
+    let (at, length) = (records.as_ptr(), records.len());
+    // SAFETY: as above. The records are only read, and lie apart from the table.
+    answer(unsafe { silttongs_bundle(t.as_mut_ptr(), t.len(), client, revision, at, length) })
+}
+
+pub(crate) fn preview(t: &[u8], joiner: u8, joinee: u8, bib: u16) -> Result<Preview, Refusal> {
+    // SAFETY: as above. The table is only read.
+    let packed = unsafe { silttongs_preview(t.as_ptr(), t.len(), joiner, joinee, bib) };
+    Preview::from_packed(packed)
 }

@@ -30,12 +30,16 @@
 mod entry;
 mod exports;
 mod fill;
+mod line;
+mod preview;
 mod refusal;
 mod standing;
 mod table;
 
-pub use entry::{entries, Entry, SHEET};
+pub use entry::{Entry, BUNDLE};
 pub use fill::Fill;
+pub use line::{lines, Line, SHEET};
+pub use preview::Preview;
 pub use refusal::Refusal;
 pub use standing::Standing;
 pub use table::{Kind, Table, BYTES};

@@ -31,10 +31,12 @@ pub enum Refusal {
     NotJoinable = 11,
     /// The listing needs more bytes.
     SheetShort = 12,
+    /// A bundle of no update or of more than 64, or bytes that are not a multiple of 12.
+    WrongBundle = 14,
 }
 
-/// In the order of their numbers, 1 first.
-const ALL: [Refusal; 12] = [
+/// In the order of their numbers. 13 is given by the program `day` alone.
+const ALL: [Refusal; 13] = [
     Refusal::NoTable,
     Refusal::StrangeTablet,
     Refusal::NeverSent,
@@ -47,6 +49,7 @@ const ALL: [Refusal; 12] = [
     Refusal::NoBoxLeft,
     Refusal::NotJoinable,
     Refusal::SheetShort,
+    Refusal::WrongBundle,
 ];
 
 impl Refusal {
@@ -70,6 +73,7 @@ impl Refusal {
             Refusal::NoBoxLeft => "no box left",
             Refusal::NotJoinable => "not joinable",
             Refusal::SheetShort => "sheet short",
+            Refusal::WrongBundle => "wrong bundle",
         }
     }
 }
@@ -83,14 +87,16 @@ impl fmt::Display for Refusal {
 impl core::error::Error for Refusal {}
 
 /// The answer in a packed number: the code in the upper 32 bits, the value in the lower. A query's
-/// is [`Standing::from_packed`](crate::Standing).
+/// is [`Standing::from_packed`](crate::Standing), a preview's [`Preview::from_packed`](crate::Preview).
 pub(crate) fn answer(packed: u64) -> Result<u32, Refusal> {
-    match (packed >> 32) as usize {
-        0 => Ok(packed as u32),
-        code => {
-            debug_assert_eq!(packed as u32, 0, "a refusal gives value 0");
-            Err(ALL[code - 1])
-        }
+    let code = packed >> 32;
+    if code == 0 {
+        return Ok(packed as u32);
+    }
+    debug_assert_eq!(packed as u32, 0, "a refusal gives value 0");
+    match ALL.into_iter().find(|&refusal| refusal as u64 == code) {
+        Some(refusal) => Err(refusal),
+        None => unreachable!("code {code}"),
     }
 }
 
@@ -99,11 +105,17 @@ mod tests {
     use super::*;
 
     #[test]
-    fn numbers_and_names_go_together() {
-        for (place, refusal) in ALL.into_iter().enumerate() {
-            assert_eq!(usize::from(refusal.code()), place + 1);
+    fn each_number_has_its_refusal() {
+        assert!(ALL.map(Refusal::code).into_iter().eq((1..=12).chain([14])));
+        for refusal in ALL {
             assert_eq!(answer(u64::from(refusal.code()) << 32), Err(refusal));
         }
         assert_eq!(answer(4_294_967_295), Ok(u32::MAX));
+    }
+
+    #[test]
+    #[should_panic(expected = "code 13")]
+    fn no_call_gives_13() {
+        let _ = answer(13 << 32);
     }
 }

@@ -1,7 +1,9 @@
 //! The calls as methods.
 
+use crate::entry::{records, Entry, BUNDLE};
 use crate::exports;
 use crate::fill::Fill;
+use crate::preview::Preview;
 use crate::refusal::Refusal;
 use crate::standing::Standing;
 
@@ -16,7 +18,7 @@ pub enum Kind {
     Time = 1,
     /// The smaller of value and v among those that aren't 0. A struck bib stays struck.
     Earliest = 2,
-    /// v is added modulo 4,294,967,296. A struck bib stays struck.
+    /// v is added modulo 4,294,967,296, to value 0 nothing. A struck bib stays struck.
     Penalty = 3,
     /// The bib is struck; v isn't looked at.
     Strike = 4,
@@ -41,7 +43,7 @@ impl TryFrom<u8> for Kind {
 }
 
 /// A table on bytes of its own, as `[u8; BYTES]` or `Box<[u8]>`, or on lent ones, as `&mut [u8]`,
-/// or `&[u8]` for lists and fills alone.
+/// or `&[u8]` for lists, fills and previews alone.
 ///
 /// Nothing but the bytes is kept. A refused call changes none of them. A box is a revision of the
 /// table, a tablet is a client.
@@ -192,15 +194,73 @@ impl<B: AsMut<[u8]>> Table<B> {
     pub fn join(&mut self, joiner: u8, joinee: u8) -> Result<u32, Refusal> {
         exports::join(self.0.as_mut(), joiner, joinee)
     }
+
+    /// Enters 1 to 64 updates on a box, and closes the tablet's transaction there: as
+    /// [`update`](Table::update) one by one and then [`yield_`](Table::yield_), but all or none. The
+    /// first entry's number is the answer.
+    ///
+    /// The records have 12 bytes each, laid out as a [`Line`](crate::Line); their tablet and number
+    /// aren't looked at.
+    ///
+    /// ```
+    /// use silttongs::{Entry, Kind, Refusal, Table, BYTES};
+    ///
+    /// let mut table = Table::fresh([0; BYTES])?;
+    /// let time = Entry::new(Kind::Time, 7, 61_000).to_bytes();
+    /// let strike = Entry::new(Kind::Strike, 8, 0).to_bytes();
+    /// assert_eq!(table.bundle(0, 0, &[time, strike].concat()), Ok(0));
+    /// assert_eq!(table.bundle(0, 0, &time), Ok(2));
+    /// assert_eq!(table.bundle(0, 0, &time[1..]), Err(Refusal::WrongBundle));
+    /// # Ok::<(), Refusal>(())
+    /// ```
+    ///
+    /// # Errors
+    ///
+    /// Code 1, then 14 if there are no records, more than 64, or bytes left over. Then that of the
+    /// earliest update that would be refused, 2 to 9; no byte of the table is changed.
+    pub fn bundle(&mut self, client: u8, revision: u8, records: &[u8]) -> Result<u32, Refusal> {
+        exports::bundle(self.0.as_mut(), client, revision, records)
+    }
+
+    /// As [`bundle`](Table::bundle), of a list of entries.
+    ///
+    /// ```
+    /// use silttongs::{Entry, Fill, Kind, Refusal, Standing, Table, BYTES};
+    ///
+    /// let mut table = Table::fresh([0; BYTES])?;
+    /// let entries = [Entry::new(Kind::Time, 7, 61_000), Entry::new(Kind::Penalty, 7, 5_000)];
+    /// assert_eq!(table.bundle_entries(0, 0, &entries), Ok(0));
+    /// assert_eq!(table.query(1, 0, 7), Ok(Standing::Timed(66_000)));
+    ///
+    /// let late = [entries[0], Entry::new(Kind::Strike, 1_000, 0)];
+    /// assert_eq!(table.bundle_entries(1, 0, &late), Err(Refusal::BadEntry));
+    /// assert_eq!(table.fill(0), Ok(Fill { own: 2, total: 2 }));
+    /// assert_eq!(table.bundle_entries(1, 0, &[]), Err(Refusal::WrongBundle));
+    /// assert_eq!(table.bundle_entries(1, 0, &[entries[0]; 65]), Err(Refusal::WrongBundle));
+    /// # Ok::<(), Refusal>(())
+    /// ```
+    ///
+    /// # Errors
+    ///
+    /// As [`bundle`](Table::bundle); of 14, the count only.
+    pub fn bundle_entries(
+        &mut self,
+        client: u8,
+        revision: u8,
+        entries: &[Entry],
+    ) -> Result<u32, Refusal> {
+        let mut room = [[0; Entry::BYTES]; BUNDLE];
+        self.bundle(client, revision, records(entries, &mut room))
+    }
 }
 
 impl<B: AsRef<[u8]>> Table<B> {
-    /// Writes the updates visible on a box to the sheet, an [`Entry`](crate::Entry) of 12 bytes
+    /// Writes the updates visible on a box to the sheet, a [`Line`](crate::Line) of 12 bytes
     /// each, in the order in which they apply, whatever their numbers. How many is the answer. Bytes
     /// of the sheet behind them stay, and so does the table: a list is no event.
     ///
     /// ```
-    /// use silttongs::{entries, Entry, Kind, Refusal, Table, BYTES, SHEET};
+    /// use silttongs::{lines, Kind, Line, Refusal, Table, BYTES, SHEET};
     ///
     /// let mut table = Table::fresh([0; BYTES])?;
     /// table.fork(0)?;
@@ -212,9 +272,9 @@ impl<B: AsRef<[u8]>> Table<B> {
     ///
     /// let mut sheet = [0; SHEET];
     /// let count = table.list(0, &mut sheet)?;
-    /// let time = Entry { kind: 1, client: 2, bib: 7, v: 60_000, number: 1 };
-    /// let penalty = Entry { kind: 3, client: 3, bib: 7, v: 5_000, number: 0 };
-    /// assert!(entries(&sheet, count).eq([time, penalty]));
+    /// let time = Line { kind: 1, client: 2, bib: 7, v: 60_000, number: 1 };
+    /// let penalty = Line { kind: 3, client: 3, bib: 7, v: 5_000, number: 0 };
+    /// assert!(lines(&sheet, count).eq([time, penalty]));
     ///
     /// assert_eq!(table.list(0, &mut sheet[..23]), Err(Refusal::SheetShort));
     /// assert_eq!(Table::from_bytes(table.bytes()).list(0, &mut sheet), Ok(2));
@@ -257,6 +317,36 @@ impl<B: AsRef<[u8]>> Table<B> {
     /// Codes 1, 3 and 4.
     pub fn fill(&self, revision: u8) -> Result<Fill, Refusal> {
         exports::fill(self.0.as_ref(), revision)
+    }
+
+    /// What a [`join`](Table::join) will bring: how a bib will stand at the joiner, and how many
+    /// updates it will gain. The table stays: a preview is no event.
+    ///
+    /// ```
+    /// use silttongs::{Kind, Preview, Refusal, Standing, Table, BYTES};
+    ///
+    /// let mut table = Table::fresh([0; BYTES])?;
+    /// table.fork(0)?;
+    /// table.update(3, 1, Kind::Penalty, 7, 5_000)?;
+    /// table.yield_(3)?;
+    /// table.update(2, 0, Kind::Time, 7, 60_000)?;
+    /// table.yield_(2)?;
+    ///
+    /// let preview = Preview { standing: Standing::Timed(65_000), gain: 1 };
+    /// assert_eq!(table.preview(0, 1, 7), Ok(preview));
+    /// assert_eq!(table.preview(1, 0, 7), Err(Refusal::NotJoinable));
+    /// assert_eq!(table.preview(0, 1, 1_000), Err(Refusal::BadEntry));
+    ///
+    /// assert_eq!(table.join(0, 1), Ok(1));
+    /// assert_eq!(table.query(2, 0, 7), Ok(Standing::Timed(65_000)));
+    /// # Ok::<(), Refusal>(())
+    /// ```
+    ///
+    /// # Errors
+    ///
+    /// Codes 1, 3, 4, 7 and 11 as for the join, then 5 for the bib.
+    pub fn preview(&self, joiner: u8, joinee: u8, bib: u16) -> Result<Preview, Refusal> {
+        exports::preview(self.0.as_ref(), joiner, joinee, bib)
     }
 
     /// The bytes, to be kept or copied.

@@ -7,10 +7,10 @@ mod common;
 
 use std::collections::BTreeMap;
 
-use calls::{Call, State};
+use calls::{Call, Line, State};
 use cells::{cells, is_table, Cell};
 use common::{difference, first_difference, library, plainly, sheet, Given};
-use days::{random_day, seeds, Profile, Rng};
+use days::{fault_of_bundles, random_day, seeds, Profile, Rng, Shown};
 use silttongs::{Refusal, Table, BYTES, SHEET};
 
 /// How many damaged buffers are tried.
@@ -31,8 +31,8 @@ fn the_cells_with_a_range() {
 }
 
 /// What a refusal gives: no state, no number, and the sheet as it was.
-fn refused(call: Call, code: u8) -> Given {
-    Given { code, state: State::Neither, value: 0, total: 0, sheet: sheet(call) }
+fn refused(call: &Call, code: u8) -> Given {
+    Given { code, state: State::Neither, value: 0, total: 0, gain: 0, sheet: sheet(call) }
 }
 
 /// Each cell at the ends of its range and one further.
@@ -49,9 +49,9 @@ fn each_cell_at_its_limits() {
             cell.set(&mut t, value);
             let code = if cell.range.contains(&value) { 0 } else { 1 };
             // A fill may find revision 0 never sent or joined.
-            let fill = library(&mut t, Call::Fill { revision: 0 });
+            let fill = library(&mut t, &Call::Fill { revision: 0 });
             assert_eq!(fill.code == 1, code == 1, "{value} in {cell:?}");
-            let given = library(&mut t, Call::Yield { client: 0 });
+            let given = library(&mut t, &Call::Yield { client: 0 });
             assert_eq!((given.code, given.value), (code, 0), "{value} in {cell:?}");
         }
     }
@@ -67,7 +67,7 @@ fn the_other_bytes_have_every_value_in_range() {
     }
     for at in (0..BYTES).filter(|&at| !ranged[at]) {
         t[at] ^= 0xff;
-        assert_eq!(library(&mut t, Call::Yield { client: 0 }).code, 0, "byte {at}");
+        assert_eq!(library(&mut t, &Call::Yield { client: 0 }).code, 0, "byte {at}");
     }
 }
 
@@ -81,12 +81,16 @@ fn wrong_lengths() {
         Call::Join { joiner: 0, joinee: 1 },
         Call::List { revision: 0, room: 24 },
         Call::Fill { revision: 0 },
+        Call::Bundle { client: 0, revision: 0, records: [1; 24].to_vec() },
+        // 1 comes before 14.
+        Call::Bundle { client: 0, revision: 0, records: Vec::new() },
+        Call::Preview { joiner: 0, joinee: 1, bib: 7 },
     ];
     for length in [0, 1, 12, 40_959, 40_960, BYTES - 1, BYTES + 1, 2 * BYTES] {
         let mut t = fresh();
         t.resize(length, 0);
         let before = t.clone();
-        for call in calls {
+        for call in &calls {
             assert_eq!(library(&mut t, call), refused(call, 1), "{length} bytes, `{call}`");
             assert!(t == before, "{length} bytes, `{call}`: changed");
         }
@@ -114,30 +118,31 @@ fn random_calls_on_damaged_buffers() {
         let mut rng = Rng::new(seed);
         let mut t = damaged(&cells, &mut rng);
         for step in 0..CALLS {
-            let mut made = |call| {
+            let mut made = |call: &Call| {
                 judged(&cells, &mut t, call)
                     .unwrap_or_else(|fault| panic!("seed {seed}, call {step}, `{call}`: {fault}"))
             };
             let call = any_call(&mut rng);
-            let Given { code, value, sheet, .. } = made(call);
+            let Given { code, value, sheet, .. } = made(&call);
             *met.entry(code).or_default() += 1;
             // A taken list is taken with just the room that it needs, and not with a byte less.
             if let (Call::List { revision, .. }, 1..) = (call, value) {
                 let needed = 12 * value as usize;
                 for (room, code) in [(needed, 0), (needed - 1, 12)] {
                     let list = Call::List { revision, room };
-                    assert_eq!(made(list).code, code, "seed {seed}, call {step}, `{list}`");
+                    assert_eq!(made(&list).code, code, "seed {seed}, call {step}, `{list}`");
                 }
                 // The bib of its last entry is queried, by the first client that may.
                 let bib = u16::from_le_bytes([sheet[needed - 10], sheet[needed - 9]]);
-                let mut queries = (0..16).map(|client| made(Call::Query { client, revision, bib }));
+                let mut queries =
+                    (0..16).map(|client| made(&Call::Query { client, revision, bib }));
                 if let Some(found) = queries.find(|given| given.code == 0) {
                     *states.entry(found.state).or_default() += 1;
                 }
             }
         }
     }
-    for code in 0..=12 {
+    for code in (0..=12).chain([14]) {
         let times = met.get(&code).copied().unwrap_or(0);
         assert!(times >= 10, "code {code} was met {times} times");
     }
@@ -146,7 +151,7 @@ fn random_calls_on_damaged_buffers() {
 }
 
 /// Makes the call, or says what is wrong with it.
-fn judged(cells: &[Cell], t: &mut Vec<u8>, call: Call) -> Result<Given, String> {
+fn judged(cells: &[Cell], t: &mut Vec<u8>, call: &Call) -> Result<Given, String> {
     let mut again = t.clone();
     let mut plain = t.clone();
     let before = t.clone();
@@ -155,13 +160,22 @@ fn judged(cells: &[Cell], t: &mut Vec<u8>, call: Call) -> Result<Given, String> 
         return Err("a second run differs".to_string());
     }
     let code = given.code;
-    if (code == 1) == is_table(cells, &before) {
+    let table = is_table(cells, &before);
+    // Of a bundle, an entry may leave a cell out of its range, and what comes next finds no table.
+    if table && matches!(call, Call::Bundle { .. }) {
+        let bundle = std::slice::from_ref(call);
+        let fault = fault_of_bundles(before.clone(), bundle, |t, call| on_library(t, call));
+        if let Some(fault) = fault {
+            return Err(fault);
+        }
+    } else if (code == 1) == table {
         return Err(format!("code {code}, against docs/CELLS.md"));
     }
     if code != 0 && (given != refused(call, code) || *t != before) {
         return Err(format!("refused with code {code}, but with an answer or bytes changed"));
     }
-    if matches!(call, Call::List { .. } | Call::Fill { .. }) && *t != before {
+    let reads = matches!(call, Call::List { .. } | Call::Fill { .. } | Call::Preview { .. });
+    if reads && *t != before {
         return Err("a call that only reads changed the table".to_string());
     }
     if let Some(fault) = difference(&given, &plainly(&mut plain, call)) {
@@ -171,6 +185,11 @@ fn judged(cells: &[Cell], t: &mut Vec<u8>, call: Call) -> Result<Given, String> 
         Some(at) => Err(format!("byte {at} is {}, plain has {}", t[at], plain[at])),
         None => Ok(given),
     }
+}
+
+fn on_library(t: &mut [u8], call: &Call) -> Shown {
+    let Given { code, state, value, gain, .. } = library(t, call);
+    Shown { code, state, value, gain }
 }
 
 fn random_bytes(rng: &mut Rng) -> Vec<u8> {
@@ -186,7 +205,7 @@ fn damaged(cells: &[Cell], rng: &mut Rng) -> Vec<u8> {
         _ => {
             let mut t = fresh();
             for call in random_day(&Profile::MIXED, rng.bits()) {
-                library(&mut t, call);
+                library(&mut t, &call);
             }
             t
         }
@@ -219,7 +238,7 @@ fn any_call(rng: &mut Rng) -> Call {
     let (client, revision, other, kind) = (below(16), below(64), below(64), 1 + below(4));
     let (client, revision, kind) = (client as u8, revision as u8, kind as u8);
     let bib = rng.below(1_010) as u16;
-    match rng.below(9) {
+    match rng.below(12) {
         0 => Call::Query { client, revision, bib },
         1 => Call::Yield { client },
         2 => Call::Fork { revision },
@@ -227,6 +246,25 @@ fn any_call(rng: &mut Rng) -> Call {
         4 => Call::List { revision, room: SHEET },
         5 => Call::List { revision, room: rng.below(200) },
         6 => Call::Fill { revision },
+        7 => Call::Preview { joiner: revision, joinee: other as u8, bib },
+        8 => Call::Bundle { client, revision, records: any_records(rng) },
         _ => Call::Update { client, revision, kind, bib, v: rng.bits() as u32 },
     }
+}
+
+/// The records of a bundle, most of them good; in some cases a wrong one.
+fn any_records(rng: &mut Rng) -> Vec<u8> {
+    let (few, any) = (1 + rng.below(4), 1 + rng.below(66));
+    let count = rng.pick(&[few, few, 64, any]);
+    let record = |_| {
+        let [kind, client, bib, rest] = [0; 4].map(|_: u8| rng.bits());
+        let bib = if bib % 100 == 0 { 1_000 } else { (bib % 1_000) as u16 };
+        let kind = 1 + (kind % 4) as u8;
+        Line { kind, client: client as u8, bib, v: rest as u32, number: (rest >> 32) as u32 }
+    };
+    let mut records: Vec<u8> = (0..count).map(record).flat_map(Line::to_bytes).collect();
+    if rng.percent(10) {
+        records.truncate(rng.below(records.len() + 1));
+    }
+    records
 }

@@ -1,15 +1,18 @@
-//! Random days: for every call the static library gives the code, state, value, total and sheet of
-//! the literal replay, and leaves the bytes that the plain implementation leaves.
+//! Random days: for every call the static library gives the code, state, value, total, gain and sheet
+//! of the literal replay, and leaves the bytes that the plain implementation leaves.
 
 mod common;
 
-use calls::Call;
-use common::{as_given, difference, first_difference, library};
-use days::{chain_of_joins, fault_of_fills, late_days, must_pass, random_day, seeds, Profile};
-use silttongs::{Table, BYTES};
+use calls::{Call, Line};
+use common::{as_given, difference, first_difference, library, Given};
+use days::{
+    chain_of_joins, fault_of_bundles, fault_of_fills, fault_of_previews, late_days, must_pass,
+    random_day, seeds, Profile, Shown,
+};
+use silttongs::{Entry, Table, BYTES};
 
 /// How many days of each kind are replayed.
-const KINDS: [(Profile, u64); 8] = [
+const KINDS: [(Profile, u64); 10] = [
     (Profile::MIXED, 400),
     (Profile::NESTED, 400),
     (Profile::STALE, 300),
@@ -18,6 +21,8 @@ const KINDS: [(Profile, u64); 8] = [
     (Profile::FORKS, 150),
     (Profile::STRANGE, 300),
     (Profile::FULL, 10),
+    (Profile::BUNDLES, 200),
+    (Profile::NEARLY_FULL, 60),
 ];
 
 #[test]
@@ -53,6 +58,49 @@ fn small_days_with_every_listing_and_fill_after_every_step() {
     }
 }
 
+/// A preview of each pair of boxes after every step, of a bib that is entered and of one too high.
+#[test]
+fn small_days_with_every_preview_after_every_step() {
+    for seed in seeds(100) {
+        must_pass("small", seed, &random_day(&Profile::SMALL, seed), fault_with_previews);
+    }
+}
+
+/// 02, U4 and U6, by the library alone: a bundle is its updates and a yield, or changes nothing; a
+/// preview is the join on a copy and a query there.
+#[test]
+fn bundles_and_previews_are_what_other_calls_come_to() {
+    let on_library = |t: &mut Vec<u8>, call: &Call| {
+        let Given { code, state, value, gain, .. } = library(t, call);
+        Shown { code, state, value, gain }
+    };
+    let bundles = |calls: &[Call]| fault_of_bundles(fresh(), calls, on_library);
+    let previews = |calls: &[Call]| fault_of_previews(fresh(), calls, on_library);
+    for (profile, count) in KINDS {
+        for seed in seeds(count.div_ceil(8)) {
+            must_pass(profile.name, seed, &random_day(&profile, seed), bundles);
+            must_pass(profile.name, seed, &random_day(&profile, seed), previews);
+        }
+    }
+    for (number, day) in late_days().enumerate() {
+        must_pass("late updates", number as u64, &day, previews);
+    }
+}
+
+/// Random days on the library, each bundle of whole records sent in both forms.
+#[test]
+fn both_forms_on_random_days() {
+    let kinds = [(Profile::BUNDLES, 100), (Profile::NEARLY_FULL, 30), (Profile::STRANGE, 100)];
+    for (profile, count) in kinds {
+        for seed in seeds(count) {
+            must_pass(profile.name, seed, &random_day(&profile, seed), |calls| {
+                let mut t = fresh();
+                calls.iter().find_map(|call| fault_of_entries(&mut t, call))
+            });
+        }
+    }
+}
+
 /// 02, U1: after every step, the own updates of all boxes out come to the updates accepted.
 #[test]
 fn fills_come_to_the_updates_accepted() {
@@ -72,14 +120,19 @@ fn fills_come_to_the_updates_accepted() {
 /// The first call on which they differ, in words.
 fn fault(calls: &[Call]) -> Option<String> {
     let mut day = Day::fresh();
-    calls.iter().find_map(|&call| day.fault(call))
+    calls.iter().find_map(|call| day.fault(call))
 }
 
 fn fault_with_reads(calls: &[Call]) -> Option<String> {
     let mut day = Day::fresh();
-    calls.iter().find_map(|&call| {
+    calls.iter().find_map(|call| {
         day.fault(call).or_else(|| day.fault_of_a_fill()).or_else(|| day.fault_of_a_listing())
     })
+}
+
+fn fault_with_previews(calls: &[Call]) -> Option<String> {
+    let mut day = Day::fresh();
+    calls.iter().find_map(|call| day.fault(call).or_else(|| day.fault_of_a_preview()))
 }
 
 fn fault_of_a_sum(calls: &[Call]) -> Option<String> {
@@ -88,6 +141,29 @@ fn fault_of_a_sum(calls: &[Call]) -> Option<String> {
         let given = library(&mut day.table, call);
         (given.code == 0).then_some((given.value, given.total))
     })
+}
+
+fn fault_of_entries(t: &mut Vec<u8>, call: &Call) -> Option<String> {
+    let mut other = Table::from_bytes(t.clone());
+    let given = library(t, call);
+    let Call::Bundle { client, revision, ref records } = *call else { return None };
+    let (whole, rest) = records.as_chunks();
+    if !rest.is_empty() {
+        return None;
+    }
+    let entry = |&record| {
+        let Line { kind, bib, v, .. } = Line::from_bytes(record);
+        Entry { kind, bib, v }
+    };
+    let entries: Vec<Entry> = whole.iter().map(entry).collect();
+    let answer = other.bundle_entries(client, revision, &entries);
+    let by_entries = answer.map_or_else(|refusal| (refusal.code(), 0), |value| (0, value));
+    let same = by_entries == (given.code, given.value) && other.bytes() == t;
+    (!same).then(|| format!("`{call}`: as entries {by_entries:?}, as records {given:?}"))
+}
+
+fn fresh() -> Vec<u8> {
+    Table::fresh(vec![0xa5; BYTES]).expect("the length is right").into_bytes()
 }
 
 /// A day on all three.
@@ -99,21 +175,20 @@ struct Day {
 
 impl Day {
     fn fresh() -> Self {
-        let table = Table::fresh(vec![0xa5; BYTES]).expect("the length is right").into_bytes();
-        Day { table, literal: literal::Day::fresh(), plain: plain::Day::fresh() }
+        Day { table: fresh(), literal: literal::Day::fresh(), plain: plain::Day::fresh() }
     }
 
-    /// Makes the call. The plain implementation is not asked to list or to fill: its bytes are then
-    /// the table's before the call.
-    fn fault(&mut self, call: Call) -> Option<String> {
-        if !matches!(call, Call::List { .. } | Call::Fill { .. }) {
+    /// Makes the call. The plain implementation is not asked to list, to fill or to preview: its bytes
+    /// are then the table's before the call.
+    fn fault(&mut self, call: &Call) -> Option<String> {
+        if !matches!(call, Call::List { .. } | Call::Fill { .. } | Call::Preview { .. }) {
             self.plain.call(call);
         }
         let fault = self.fault_of_answer(call).or_else(|| self.fault_of_bytes());
         fault.map(|fault| format!("`{call}`: {fault}"))
     }
 
-    fn fault_of_answer(&mut self, call: Call) -> Option<String> {
+    fn fault_of_answer(&mut self, call: &Call) -> Option<String> {
         let expected = as_given(call, &self.literal.call(call));
         difference(&library(&mut self.table, call), &expected)
     }
@@ -127,7 +202,18 @@ impl Day {
     /// Fills of every revision, and of numbers that were not given out.
     fn fault_of_a_fill(&mut self) -> Option<String> {
         let given = self.literal.revisions().len() as u8;
-        (0..=given).chain([64, 255]).find_map(|revision| self.fault(Call::Fill { revision }))
+        (0..=given).chain([64, 255]).find_map(|revision| self.fault(&Call::Fill { revision }))
+    }
+
+    /// Previews of every two revisions, and of the number after the last.
+    fn fault_of_a_preview(&mut self) -> Option<String> {
+        let given = self.literal.revisions().len() as u8;
+        let pairs = (0..=given).flat_map(|joiner| (0..=given).map(move |joinee| (joiner, joinee)));
+        let all = pairs.flat_map(|pair| [0, 1_000].map(|bib| (pair, bib)));
+        let mut previews = all.map(|((joiner, joinee), bib)| Call::Preview { joiner, joinee, bib });
+        previews
+            .find_map(|call| self.fault_of_answer(&call).map(|fault| format!("`{call}`: {fault}")))
+            .or_else(|| self.fault_of_bytes().map(|fault| format!("after previews: {fault}")))
     }
 
     /// Lists every revision, and the number after the last: with a byte more than it needs, with
@@ -140,7 +226,7 @@ impl Day {
                     if number < given { 12 * self.literal.visible(number).len() } else { 0 };
                 [needed + 1, needed, needed.saturating_sub(1)].into_iter().find_map(|room| {
                     let call = Call::List { revision: number as u8, room };
-                    self.fault_of_answer(call).map(|fault| format!("`{call}`: {fault}"))
+                    self.fault_of_answer(&call).map(|fault| format!("`{call}`: {fault}"))
                 })
             })
             .or_else(|| self.fault_of_bytes().map(|fault| format!("after listings: {fault}")))

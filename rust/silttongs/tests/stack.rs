@@ -2,22 +2,27 @@
 
 use std::thread;
 
-use silttongs::{Kind, Refusal, Standing, Table, BYTES, SHEET};
+use silttongs::{Entry, Kind, Refusal, Standing, Table, BUNDLE, BYTES, SHEET};
 
-/// The longest own list, and so the deepest recursion, on box 1: a query walks it, and a fork and a list too.
+/// The longest own list, and so the deepest recursion, on box 1: a query walks it, and a fork, a list
+/// and a preview too.
 #[test]
 fn the_deepest_calls_fit_in_48_kib() {
     let run = || {
         let mut table = Table::fresh(vec![0; BYTES])?;
         table.fork(0)?;
-        for v in 1..=4_096 {
-            let kind = if v == 1 { Kind::Time } else { Kind::Penalty };
-            table.update(0, 1, kind, 7, v)?;
+        table.update(0, 1, Kind::Time, 7, 1)?;
+        for v in 2..=4_032 {
+            table.update(0, 1, Kind::Penalty, 7, v)?;
         }
+        let entries: [Entry; BUNDLE] =
+            std::array::from_fn(|i| Entry::new(Kind::Penalty, 7, 4_033 + i as u32));
+        table.bundle_entries(0, 1, &entries)?;
         let standing = table.query(0, 1, 7)?;
         table.yield_(0)?;
         table.list(1, &mut vec![0; SHEET])?;
         table.fill(1)?;
+        assert_eq!(table.preview(0, 1, 7)?.standing, standing);
         table.fork(1)?;
         table.join(0, 1)?;
         Ok::<Standing, Refusal>(standing)

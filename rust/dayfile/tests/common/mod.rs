@@ -41,7 +41,7 @@ pub(crate) fn printed_by_literal(bytes: &[u8]) -> String {
     let mut text = format!("steps {}\n", records.len());
     for (index, record) in records.iter().enumerate() {
         let answer = match record.call() {
-            Some(call) => day.call(call),
+            Some(call) => day.call(&call),
             None => Answer::refused(Code::StrangeStep),
         };
         let code = answer.code.number();

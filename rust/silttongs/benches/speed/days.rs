@@ -1,11 +1,21 @@
 //! The days that are timed.
 
-use calls::Call;
+use calls::{Call, Line};
 
 /// The n-th update of a day.
 pub(crate) fn update(client: u8, revision: u8, n: usize) -> Call {
     let (kind, bib) = (1 + (n % 4) as u8, (n * 7 % 1_000) as u16);
     Call::Update { client, revision, kind, bib, v: n as u32 }
+}
+
+/// A bundle of 64 updates, the n-th of a day and those after it.
+pub(crate) fn bundle(client: u8, revision: u8, n: usize) -> Call {
+    let record = |n: usize| {
+        let (kind, bib) = (1 + (n % 4) as u8, (n * 7 % 1_000) as u16);
+        Line { kind, client, bib, v: n as u32, number: n as u32 }
+    };
+    let records = (n..n + 64).map(record).flat_map(Line::to_bytes).collect();
+    Call::Bundle { client, revision, records }
 }
 
 /// So many boxes, each sent off by the one before it, and so many updates, spread evenly: the last

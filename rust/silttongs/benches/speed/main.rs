@@ -12,7 +12,7 @@ use std::hint::black_box;
 use std::time::Instant;
 
 use calls::Call;
-use days::{chain, update, whole};
+use days::{bundle, chain, update, whole};
 use sides::{made, Side, Work};
 use silttongs::SHEET;
 
@@ -95,11 +95,13 @@ fn single_calls() -> Vec<Case> {
     let list = |revision| [Call::List { revision, room: SHEET }];
     let strange = [Call::Yield { client: 16 }];
     let pair = [update(0, 7, 7), Call::Yield { client: 0 }];
+    let preview = |joiner, joinee| [Call::Preview { joiner, joinee, bib: 7 }];
     vec![
         Case::of_calls("range check alone: a yield with code 2", &middle, &strange),
         Case::of_calls("yield", &middle, &[Call::Yield { client: 0 }]),
         Case::of_calls("fill", &middle, &[Call::Fill { revision: 7 }]),
         Case::of_calls("update + yield, 2,048 updates, 8 boxes", &middle, &pair),
+        Case::of_calls("bundle of 64, 2,048 updates, 8 boxes", &middle, &[bundle(0, 7, 7)]),
         Case::of_calls("query, 4,096 visible updates, 1 box", &one_box, &query(0)),
         Case::of_calls("query, 4,096 visible updates, 8 boxes", &full, &query(7)),
         Case::of_calls("list of 4,096 updates, 1 box", &one_box, &list(0)),
@@ -115,6 +117,7 @@ fn single_calls() -> Vec<Case> {
             &full,
             &[Call::Join { joiner: 6, joinee: 7 }],
         ),
+        Case::of_calls("preview of that join", &full, &preview(6, 7)),
         Case::new("fresh", made(&middle), Work::Fresh),
         Case::of_calls("day of 4,096 updates, 63 forks and joins", &[], &whole(false)),
         Case::of_calls("the same with 256 queries", &[], &whole(true)),

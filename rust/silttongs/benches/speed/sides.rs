@@ -2,11 +2,12 @@
 
 use std::hint::black_box;
 
-use calls::Call;
+use calls::{Call, Code};
 use silttongs::{Refusal, Standing, Table, BYTES};
 
-/// Code and value; none for a struck bib; of a fill, both its numbers in one.
-type Given = (u8, Option<u32>);
+/// Code and value; none for a struck bib. The two numbers of a fill, and value and gain of a preview,
+/// are one.
+type Given = (u8, Option<u64>);
 
 /// What is timed.
 #[derive(Clone, Debug)]
@@ -32,7 +33,7 @@ impl Side {
                 black_box(self.fresh(t));
             }
             Work::Calls(calls) => {
-                for &call in calls {
+                for call in calls {
                     black_box(self.call(t, sheet, black_box(call)));
                 }
             }
@@ -41,57 +42,77 @@ impl Side {
 
     fn fresh(self, t: &mut [u8]) -> Given {
         match self {
-            Side::Plain => by_plain(plain::fresh(t).map(Some)),
-            Side::Library => by_library(Table::fresh(t).map(|_| Some(0))),
+            Side::Plain => by_plain(plain::fresh(t).map(one)),
+            Side::Library => by_library(Table::fresh(t).map(|_| one(0_u32))),
         }
     }
 
     /// Makes one call.
-    pub(crate) fn call(self, t: &mut [u8], sheet: &mut [u8], call: Call) -> Given {
+    pub(crate) fn call(self, t: &mut [u8], sheet: &mut [u8], call: &Call) -> Given {
         match self {
-            Side::Plain => by_plain(match call {
-                Call::Update { client, revision, kind, bib, v } => {
-                    plain::update(t, client, revision, kind, bib, v).map(Some)
-                }
-                Call::Query { client, revision, bib } => plain::query(t, client, revision, bib)
-                    .map(|standing| (!standing.struck).then_some(standing.value)),
-                Call::Yield { client } => plain::yield_(t, client).map(Some),
-                Call::Fork { revision } => plain::fork(t, revision).map(Some),
-                Call::Join { joiner, joinee } => plain::join(t, joiner, joinee).map(Some),
-                Call::List { revision, room } => {
-                    plain::list(t, revision, &mut sheet[..room]).map(Some)
-                }
-                Call::Fill { revision } => plain::fill(t, revision).map(|f| both(f.own, f.total)),
-            }),
-            Side::Library => {
-                let mut t = Table::from_bytes(t);
-                by_library(match call {
-                    Call::Update { client, revision, kind, bib, v } => {
-                        t.update(client, revision, kind, bib, v).map(Some)
-                    }
-                    Call::Query { client, revision, bib } => t
-                        .query(client, revision, bib)
-                        .map(|standing| (standing != Standing::Struck).then(|| standing.value())),
-                    Call::Yield { client } => t.yield_(client).map(|()| Some(0)),
-                    Call::Fork { revision } => t.fork(revision).map(|number| Some(number.into())),
-                    Call::Join { joiner, joinee } => t.join(joiner, joinee).map(Some),
-                    Call::List { revision, room } => t.list(revision, &mut sheet[..room]).map(Some),
-                    Call::Fill { revision } => t.fill(revision).map(|f| both(f.own, f.total)),
-                })
-            }
+            Side::Plain => by_plain(call_plain(t, sheet, call)),
+            Side::Library => by_library(call_library(t, sheet, call)),
         }
     }
 }
 
-fn both(own: u16, total: u16) -> Option<u32> {
-    Some(u32::from(total) << 16 | u32::from(own))
+fn call_plain(t: &mut [u8], sheet: &mut [u8], call: &Call) -> Result<Option<u64>, Code> {
+    let stands = |standing: plain::Standing| (!standing.struck).then_some(standing.value.into());
+    match *call {
+        Call::Update { client, revision, kind, bib, v } => {
+            plain::update(t, client, revision, kind, bib, v).map(one)
+        }
+        Call::Query { client, revision, bib } => plain::query(t, client, revision, bib).map(stands),
+        Call::Yield { client } => plain::yield_(t, client).map(one),
+        Call::Fork { revision } => plain::fork(t, revision).map(one),
+        Call::Join { joiner, joinee } => plain::join(t, joiner, joinee).map(one),
+        Call::List { revision, room } => plain::list(t, revision, &mut sheet[..room]).map(one),
+        Call::Fill { revision } => plain::fill(t, revision).map(|f| both(one(f.own), f.total)),
+        Call::Bundle { client, revision, ref records } => {
+            plain::bundle(t, client, revision, records).map(one)
+        }
+        Call::Preview { joiner, joinee, bib } => {
+            plain::preview(t, joiner, joinee, bib).map(|p| both(stands(p.standing), p.gain))
+        }
+    }
 }
 
-fn by_plain(answer: Result<Option<u32>, calls::Code>) -> Given {
+fn call_library(t: &mut [u8], sheet: &mut [u8], call: &Call) -> Result<Option<u64>, Refusal> {
+    let stands =
+        |standing: Standing| (standing != Standing::Struck).then_some(standing.value().into());
+    let mut t = Table::from_bytes(t);
+    match *call {
+        Call::Update { client, revision, kind, bib, v } => {
+            t.update(client, revision, kind, bib, v).map(one)
+        }
+        Call::Query { client, revision, bib } => t.query(client, revision, bib).map(stands),
+        Call::Yield { client } => t.yield_(client).map(|()| one(0_u32)),
+        Call::Fork { revision } => t.fork(revision).map(one),
+        Call::Join { joiner, joinee } => t.join(joiner, joinee).map(one),
+        Call::List { revision, room } => t.list(revision, &mut sheet[..room]).map(one),
+        Call::Fill { revision } => t.fill(revision).map(|f| both(one(f.own), f.total)),
+        Call::Bundle { client, revision, ref records } => {
+            t.bundle(client, revision, records).map(one)
+        }
+        Call::Preview { joiner, joinee, bib } => {
+            t.preview(joiner, joinee, bib).map(|p| both(stands(p.standing), p.gain))
+        }
+    }
+}
+
+fn one(value: impl Into<u64>) -> Option<u64> {
+    Some(value.into())
+}
+
+fn both(lower: Option<u64>, upper: impl Into<u64>) -> Option<u64> {
+    lower.map(|lower| upper.into() << 32 | lower)
+}
+
+fn by_plain(answer: Result<Option<u64>, Code>) -> Given {
     answer.map_or_else(|code| (code.number(), Some(0)), |value| (0, value))
 }
 
-fn by_library(answer: Result<Option<u32>, Refusal>) -> Given {
+fn by_library(answer: Result<Option<u64>, Refusal>) -> Given {
     answer.map_or_else(|refusal| (refusal.code(), Some(0)), |value| (0, value))
 }
 
@@ -99,7 +120,7 @@ fn by_library(answer: Result<Option<u32>, Refusal>) -> Given {
 pub(crate) fn made(calls: &[Call]) -> Box<[u8]> {
     let mut t = vec![0; BYTES].into_boxed_slice();
     Side::Library.fresh(&mut t);
-    for &call in calls {
+    for call in calls {
         assert_eq!(Side::Library.call(&mut t, &mut [], call).0, 0, "`{call}`");
     }
     t

@@ -1,6 +1,9 @@
 //! 01, "Edges of a race day", of the literal replay and of the plain implementation: codes and
 //! values, call by call. The readings of docs/DECISIONS.md and 02's amendments stand beside them.
 
+mod bundles;
+mod previews;
+
 use calls::{Answer, Call, Code, State};
 
 const TIME: u8 = 1;
@@ -39,17 +42,18 @@ fn fill(revision: u8) -> Call {
 /// The answers of both implementations, which are the same.
 fn answers(calls: &[Call]) -> Vec<Answer> {
     let (mut literal, mut plain) = (literal::Day::fresh(), plain::Day::fresh());
-    let by_literal: Vec<Answer> = calls.iter().map(|&call| literal.call(call)).collect();
-    let by_plain: Vec<Answer> = calls.iter().map(|&call| plain.call(call)).collect();
+    let by_literal: Vec<Answer> = calls.iter().map(|call| literal.call(call)).collect();
+    let by_plain: Vec<Answer> = calls.iter().map(|call| plain.call(call)).collect();
     assert_eq!(by_literal, by_plain);
     by_literal
 }
 
 /// Makes the calls of one day, and compares each answer's code and value.
 fn day(name: &str, steps: &[(Call, u8, u32)]) {
-    let calls: Vec<Call> = steps.iter().map(|step| step.0).collect();
-    for (at, (answer, &(call, code, value))) in answers(&calls).iter().zip(steps).enumerate() {
-        assert_eq!((answer.code.number(), answer.value), (code, value), "{name}, {at}: {call}");
+    let calls: Vec<Call> = steps.iter().map(|step| step.0.clone()).collect();
+    for (at, (answer, (call, code, value))) in answers(&calls).iter().zip(steps).enumerate() {
+        let given = (answer.code.number(), answer.value);
+        assert_eq!(given, (*code, *value), "{name}, {at}: {call}");
     }
 }
 
@@ -322,7 +326,7 @@ fn a_refused_query_of_a_struck_bib_answers_neither() {
         (query(0, 0, 1007), Code::BadEntry),
     ];
     let mut calls = vec![fork(0), update(0, 0, STRIKE, 7, 0)];
-    calls.extend(refused.map(|(call, _)| call));
+    calls.extend(refused.iter().map(|(call, _)| call.clone()));
     calls.extend([query(0, 0, 7), yields(0), query(0, 1, 7), join(0, 1), query(0, 1, 7)]);
     let answers = answers(&calls);
     for (answer, (call, code)) in answers[2..].iter().zip(refused) {
@@ -342,7 +346,7 @@ fn a_refused_query_of_a_struck_bib_answers_neither() {
 /// Makes the calls of one day, then fills: of each revision the code, its own updates and the total.
 fn fills(name: &str, calls: &[Call], expected: &[(u8, u8, u32, u32)]) {
     let fills = expected.iter().map(|&(revision, ..)| fill(revision));
-    let all: Vec<Call> = calls.iter().copied().chain(fills).collect();
+    let all: Vec<Call> = calls.iter().cloned().chain(fills).collect();
     let answers = answers(&all);
     for (answer, &(revision, code, own, total)) in answers[calls.len()..].iter().zip(expected) {
         let given = (answer.code.number(), answer.value, answer.total);

@@ -1,0 +1,163 @@
+//! 02, U6, on random days: each preview is the join on a copy and a query there, and changes
+//! nothing. And wrong previews are found.
+
+use calls::{Answer, Call, Code, State};
+use days::{
+    chain_of_joins, fault_of_previews, late_days, must_pass, random_day, seeds, shown, Profile,
+};
+use literal::{Day, Standing};
+
+/// How many days of each kind are replayed.
+const KINDS: [(Profile, u64); 8] = [
+    (Profile::SMALL, 500),
+    (Profile::MIXED, 200),
+    (Profile::NESTED, 200),
+    (Profile::STALE, 200),
+    (Profile::STRIKES, 200),
+    (Profile::FORKS, 100),
+    (Profile::STRANGE, 200),
+    (Profile::BUNDLES, 100),
+];
+
+fn by_plain(calls: &[Call]) -> Option<String> {
+    fault_of_previews(plain::Day::fresh(), calls, |day, call| shown(&day.call(call)))
+}
+
+#[test]
+fn previews_are_the_join_and_a_query_on_a_copy() {
+    for (profile, count) in KINDS {
+        for seed in seeds(count) {
+            must_pass(profile.name, seed, &random_day(&profile, seed), by_plain);
+        }
+    }
+    for seed in seeds(50) {
+        must_pass("chain of joins", seed, &chain_of_joins(seed), by_plain);
+    }
+    for (number, day) in late_days().enumerate() {
+        must_pass("late updates", number as u64, &day, by_plain);
+    }
+}
+
+/// Previews find bibs in every state, changed by the join or not, and joins follow many of them.
+#[test]
+fn previews_of_every_kind_are_made() {
+    let (mut states, mut changed, mut empty, mut joined) = ([0; 3], 0, 0, 0);
+    for (profile, count) in KINDS {
+        for seed in 0..count / 2 {
+            let calls = random_day(&profile, seed);
+            let mut day = Day::fresh();
+            for (at, call) in calls.iter().enumerate() {
+                let answer = day.call(call);
+                let Call::Preview { joiner, joinee, bib } = *call else { continue };
+                if answer.code != Code::Accepted {
+                    continue;
+                }
+                states[answer.state as usize] += 1;
+                let before = stands(&day, day.visible(usize::from(joiner)), bib);
+                changed += usize::from(before != (answer.state, answer.value));
+                empty += usize::from(answer.gain == 0);
+                joined += usize::from(calls.get(at + 1) == Some(&Call::Join { joiner, joinee }));
+            }
+        }
+    }
+    assert!(states.iter().all(|&times| times >= 100), "{states:?}");
+    let met = [changed, empty, joined];
+    assert!(met.iter().all(|&times| times >= 150), "{met:?}");
+}
+
+/// How a bib stands after these updates, by number, in this order.
+fn stands(day: &Day, numbers: Vec<usize>, bib: u16) -> (State, u32) {
+    let updates = numbers.into_iter().map(|number| day.updates()[number]);
+    let of_bib = updates.filter(|update| update.bib == bib);
+    let standing = of_bib.fold(Standing::FRESH, |standing, update| update.applied_to(standing));
+    (standing.state(), standing.value())
+}
+
+/// What a wrong preview answers and does; the last argument is what is right.
+type Wrong = fn(&mut Day, [usize; 2], u16, Answer) -> Answer;
+
+const WRONG: [(&str, Wrong); 11] = [
+    ("the joinee's updates first", |day, [joiner, joinee], bib, right| {
+        told(day, bib, right, |day| {
+            let [mut before, own] = [day.visible(joiner), day.own(joinee)];
+            let behind = before.split_off(before.len() - day.own(joiner).len());
+            [before, own, behind].concat()
+        })
+    }),
+    ("what the joinee inherited again", |day, [joiner, joinee], bib, right| {
+        told(day, bib, right, |day| [day.visible(joiner), day.visible(joinee)].concat())
+    }),
+    ("the joiner as it stands", |day, [joiner, _], bib, right| {
+        told(day, bib, right, |day| day.visible(joiner))
+    }),
+    ("the joinee as it stands", |day, [_, joinee], bib, right| {
+        told(day, bib, right, |day| day.visible(joinee))
+    }),
+    ("in the order of the numbers", |day, [joiner, joinee], bib, right| {
+        told(day, bib, right, |day| {
+            let mut both = [day.visible(joiner), day.own(joinee)].concat();
+            both.sort_unstable();
+            both
+        })
+    }),
+    ("the bib before the refusals of a join", |_, _, bib, right| match bib {
+        1_000.. => Answer::refused(Code::BadEntry),
+        _ => right,
+    }),
+    ("no gain if the bib is neither", |_, _, _, right| match right.state {
+        State::Neither => Answer { gain: 0, ..right },
+        _ => right,
+    }),
+    ("the gain is what the joinee sees", |day, [_, joinee], _, right| match right.code {
+        Code::Accepted => Answer { gain: day.visible(joinee).len() as u32, ..right },
+        _ => right,
+    }),
+    ("the join is made", |day, [joiner, joinee], _, right| {
+        let [joiner, joinee] = [joiner as u8, joinee as u8];
+        day.call(&Call::Join { joiner, joinee });
+        right
+    }),
+    ("a refusal tells the state", |day, [joiner, _], bib, right| match right.code {
+        Code::NotJoinable => {
+            let (state, value) = stands(day, day.visible(joiner), bib);
+            Answer { state, value, ..right }
+        }
+        _ => right,
+    }),
+    ("revisions in use are told too", |day, [joiner, joinee], bib, right| {
+        if right.code != Code::InUse {
+            return right;
+        }
+        let mut copy = day.clone();
+        (0..16).for_each(|client| _ = copy.call(&Call::Yield { client }));
+        copy.call(&Call::Preview { joiner: joiner as u8, joinee: joinee as u8, bib })
+    }),
+];
+
+/// What is right, but of an accepted preview the standing after these updates.
+fn told(day: &Day, bib: u16, right: Answer, numbers: impl Fn(&Day) -> Vec<usize>) -> Answer {
+    if right.code != Code::Accepted {
+        return right;
+    }
+    let (state, value) = stands(day, numbers(day), bib);
+    Answer { state, value, ..right }
+}
+
+#[test]
+fn wrong_previews_are_found() {
+    let kinds = [Profile::NESTED, Profile::STRIKES, Profile::STRANGE];
+    for (name, wrong) in WRONG {
+        let by_wrong = |calls: &[Call]| {
+            fault_of_previews(Day::fresh(), calls, |day, call| match *call {
+                Call::Preview { joiner, joinee, bib } => {
+                    let right = day.call(call);
+                    shown(&wrong(day, [joiner, joinee].map(usize::from), bib, right))
+                }
+                _ => shown(&day.call(call)),
+            })
+        };
+        let days = kinds.iter().flat_map(|kind| (0..30).map(|seed| random_day(kind, seed)));
+        let found = days.filter(|day| by_wrong(day).is_some()).count();
+        assert!(found >= 5, "{name}: found on {found} days of 90");
+    }
+}

@@ -1,0 +1,59 @@
+//! The call bundle: up to 64 entries at once, all or none.
+
+use calls::Code;
+
+use crate::checks::refuse;
+use crate::entry::Entry;
+use crate::numbers::{Bib, Client};
+use crate::order::UPDATES;
+use crate::range::checked;
+use crate::update::Kind;
+
+/// A bundle has so many records at most.
+const MOST: usize = 64;
+/// Bytes of a record, laid out as an entry of a listing.
+const RECORD: usize = 12;
+
+/// Several entries by a client on a revision, and its yield; the first entry's number. All are
+/// checked before the first is written.
+pub fn bundle(t: &mut [u8], client: u8, revision: u8, records: &[u8]) -> Result<u32, Code> {
+    let mut t = checked(t)?;
+    let records = checked_records(records)?;
+    let client = Client::checked(client)?;
+    let revision = t.check_given(revision)?;
+    t.check_out(revision)?;
+    for (place, record) in records.iter().enumerate() {
+        checked_entry(record, client)?;
+        // The first entry opens the transaction or finds it open; so the others find it.
+        if place == 0 {
+            t.check_may_enter(client, revision)?;
+        }
+        t.check_log_after(place)?;
+        // On cells that no day made, the count may leave its range: what comes next finds no table.
+        refuse(usize::from(t.count(revision)) + place >= UPDATES, Code::NoTable)?;
+    }
+
+    let first = t.updates();
+    t.enter(client, revision);
+    for record in records {
+        t.append(revision, checked_entry(record, client)?);
+    }
+    t.close(client);
+    Ok(u32::from(first))
+}
+
+/// Code 14.
+fn checked_records(bytes: &[u8]) -> Result<&[[u8; RECORD]], Code> {
+    let (records, rest) = bytes.as_chunks();
+    let whole = rest.is_empty() && (1..=MOST).contains(&records.len());
+    refuse(!whole, Code::WrongBundle)?;
+    Ok(records)
+}
+
+/// Code 5. The client and the number in the record are not looked at.
+fn checked_entry(record: &[u8; RECORD], client: Client) -> Result<Entry, Code> {
+    let &[kind, _, b0, b1, v0, v1, v2, v3, ..] = record;
+    let bib = Bib::checked(u16::from_le_bytes([b0, b1]))?;
+    let kind = Kind::checked(kind)?;
+    Ok(Entry::new(kind, client, bib, u32::from_le_bytes([v0, v1, v2, v3])))
+}
