@@ -2,4 +2,3 @@
 pub mod Checks
 pub mod Stored
 pub mod Calls
-pub mod Bundles

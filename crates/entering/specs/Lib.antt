@@ -1,3 +1,2 @@
 -- What the checks of an update find.
 pub mod Checks
-pub mod Bundles

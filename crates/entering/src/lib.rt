@@ -1,4 +1,3 @@
 // What a client enters: updates, and the end of its transaction.
-pub mod bundle; // bundle.rt: the call bundle
 pub mod update; // update.rt: the call update
 pub mod yields; // yields.rt: the call yield

@@ -37,7 +37,7 @@ pub enum UpdateCheck {
 }
 
 // Checks 2 to 9.
-pub(crate) fn check_update(d: &[u8], client: u8, revision: u8, kind: u8, bib: u16) -> UpdateCheck
+pub fn check_update(d: &[u8], client: u8, revision: u8, kind: u8, bib: u16) -> UpdateCheck
     requires { ⌜ length (now d) ≡ Lower.bytes ⌝ }
     ensures { λ a. ⌜ (a ≡ updateCheck (now (d .entry)) client revision kind bib) × updateIn (now (d .entry)) bib a ⌝ }
 {
@@ -82,7 +82,7 @@ fn store(t: &mut [u8], n: usize, kind: Kind, client: u8, bib: u16, v: u32)
 }
 
 // Both, for the update that the checks allow.
-pub(crate) fn put(t: &mut [u8], c: Client, r: Revision, kind: Kind, bib: u16, v: u32) -> u32
+pub fn put(t: &mut [u8], c: Client, r: Revision, kind: Kind, bib: u16, v: u32) -> u32
     requires { ⌜ (length (now t) ≡ bytes) × (inRange (low (now t)) ≡ true) × (c .0 < clients) × (r .0 < revisions) × (cellsOf (now t) .updates < updates) × (bib < bibs) ⌝ }
     ensures { λ u. ⌜ (u ≡ cellsOf (now (t .entry)) .updates) × (now (t .exit) ≡ updateBytes (low (now (t .entry))) (c .0) (r .0) ++ wrote (high (now (t .entry))) (cellsOf (now (t .entry)) .updates) (entry kind (c .0) bib v)) ⌝ }
 {

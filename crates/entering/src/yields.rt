@@ -16,7 +16,7 @@ use table::answer::Answer;
 use table::sound::TableCheck;
 use table::sound::check_table;
 
-pub(crate) fn close(t: &mut [u8], c: Client)
+pub fn close(t: &mut [u8], c: Client)
     requires { ⌜ (length (now t) ≡ bytes) × (c .0 < clients) ⌝ }
     ensures { λ _. ⌜ now (t .exit) ≡ closeBytes (low (now (t .entry))) (c .0) ++ high (now (t .entry)) ⌝ }
 {

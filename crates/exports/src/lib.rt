@@ -65,7 +65,7 @@ pub extern "C" fn silttongs_update(
 pub extern "C" fn silttongs_bundle(t: &mut [u8], client: u8, revision: u8, records: &[u8]) -> u64
     ensures { λ r. ⌜ handed r (now (t .exit)) ≡ exported (bundleOut (now (t .entry)) client revision (now (records .entry))) ⌝ }
 {
-    let a = entering::bundle::bundle(t, client, revision, records);
+    let a = sending::bundle::bundle(t, client, revision, records);
     pack(a.code, a.value)
 }
 

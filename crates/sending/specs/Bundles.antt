@@ -16,8 +16,8 @@ use Rattle.entries.specs.Entries.{wrote}
 use Rattle.table.specs.Halves.{low, high, cellsOf, isTable}
 use Rattle.table.specs.Calls.{badBib}
 use Rattle.table.specs.Found.{onKind}
-use Rattle.entering.specs.declared.bundle.FitCheck.{FitCheck}
-use Rattle.entering.specs.declared.bundle.FitCheck.the-variants.{Fits, Refused}
+use Rattle.sending.specs.declared.bundle.FitCheck.{FitCheck}
+use Rattle.sending.specs.declared.bundle.FitCheck.the-variants.{Fits, Refused}
 
 -- 2, 3, 4, 6, 7, 8 do not apply: they do not change while one client enters updates on one revision
 pub record Going (t : List ℕ) (c n : ℕ) : Type 0 where

@@ -1,13 +1,13 @@
--- `entering::bundle::bundle_sound` meets its contract: the first update's checks, then the rest. Assumes nothing.
+-- `sending::bundle::bundle_sound` meets its contract: the first update's checks, then the rest. Assumes nothing.
 use mathlib.Core.Path.{_∙_, ap}
 use borrow.Author.Needs.{needs}
 use Rattle.bundles.specs.Records.{entriesFrom}
 use Rattle.table.specs.Halves.{low}
 use Rattle.table.proofs.Halves.{low-length}
 use Rattle.entering.specs.Checks.{updateCheck}
-use Rattle.entering.proofs.Bundles.{bundle-going, bundle-refused, bundle-sent}
-use Rattle.entering.proofs.bundle.bundle_sound.Statement.{statement}
-use Rattle.entering.proofs.bundle.bundle_sound.Tie as tie
+use Rattle.sending.proofs.Bundles.{bundle-going, bundle-refused, bundle-sent}
+use Rattle.sending.proofs.bundle.bundle_sound.Statement.{statement}
+use Rattle.sending.proofs.bundle.bundle_sound.Tie as tie
 
 send-requires : tie.Need-send-requires
 unfolding low

@@ -1,12 +1,12 @@
--- `entering::bundle::enter` meets its contract: the kind is known, and the update is put in. Assumes nothing.
+-- `sending::bundle::enter` meets its contract: the kind is known, and the update is put in. Assumes nothing.
 use mathlib.Core.Path.{sym, _∙_}
 use native.Mathlib.Omega.{arith}
 use borrow.Author.Needs.{needs}
 use Rattle.table.specs.Found.{onKind}
-use Rattle.entering.specs.Bundles.{entered}
-use Rattle.entering.proofs.Bundles.{client-in, in-range, long, revision-in}
-use Rattle.entering.proofs.bundle.enter.Statement.{statement}
-use Rattle.entering.proofs.bundle.enter.Tie as tie
+use Rattle.sending.specs.Bundles.{entered}
+use Rattle.sending.proofs.Bundles.{client-in, in-range, long, revision-in}
+use Rattle.sending.proofs.bundle.enter.Statement.{statement}
+use Rattle.sending.proofs.bundle.enter.Tie as tie
 
 returns : tie.Need-returns
 unfolding entered onKind

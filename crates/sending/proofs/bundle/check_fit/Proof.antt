@@ -1,11 +1,11 @@
--- `entering::bundle::check_fit` meets its contract: 1, 5 and 9 in their order. Assumes nothing.
+-- `sending::bundle::check_fit` meets its contract: 1, 5 and 9 in their order. Assumes nothing.
 use mathlib.Core.Path.{sym, _∙_}
 use borrow.Author.Tests.{lt-ltb, le-ltb}
 use borrow.Author.Needs.{needs}
 use Rattle.table.specs.Found.{onKind}
-use Rattle.entering.specs.Bundles.{fitCheck}
-use Rattle.entering.proofs.bundle.check_fit.Statement.{statement}
-use Rattle.entering.proofs.bundle.check_fit.Tie as tie
+use Rattle.sending.specs.Bundles.{fitCheck}
+use Rattle.sending.proofs.bundle.check_fit.Statement.{statement}
+use Rattle.sending.proofs.bundle.check_fit.Tie as tie
 
 returns : tie.Need-returns
 unfolding fitCheck

@@ -1,11 +1,11 @@
--- `entering::bundle::bundle` meets its contract: 1, then 14, then the entries. Assumes nothing.
+-- `sending::bundle::bundle` meets its contract: 1, then 14, then the entries. Assumes nothing.
 use mathlib.Core.Path.{_∙_, sym}
 use borrow.Author.Needs.{needs}
 use Rattle.bundles.proofs.First.{counted}
 use Rattle.table.proofs.Buffer.{is-table, no-table}
-use Rattle.entering.proofs.Bundles.{no-bundle, right-bundle, wrong-bundle}
-use Rattle.entering.proofs.bundle.bundle.Statement.{statement}
-use Rattle.entering.proofs.bundle.bundle.Tie as tie
+use Rattle.sending.proofs.Bundles.{no-bundle, right-bundle, wrong-bundle}
+use Rattle.sending.proofs.bundle.bundle.Statement.{statement}
+use Rattle.sending.proofs.bundle.bundle.Tie as tie
 
 returns : tie.Need-returns
 returns c = no-bundle _ (no-table _ (sym (c .before .before .check-table .ensures) ∙ c .enum-told2 .given .1)) _ _ _

@@ -1,10 +1,10 @@
--- `entering::bundle::check_entry` meets its contract: the bib, then the kind. Assumes nothing.
+-- `sending::bundle::check_entry` meets its contract: the bib, then the kind. Assumes nothing.
 use mathlib.Core.Path.{sym, _∙_}
 use borrow.Author.Needs.{needs}
 use Rattle.table.proofs.Checks.{bib-known, bib-strange}
-use Rattle.entering.specs.Bundles.{entryCheck}
-use Rattle.entering.proofs.bundle.check_entry.Statement.{statement}
-use Rattle.entering.proofs.bundle.check_entry.Tie as tie
+use Rattle.sending.specs.Bundles.{entryCheck}
+use Rattle.sending.proofs.bundle.check_entry.Statement.{statement}
+use Rattle.sending.proofs.bundle.check_entry.Tie as tie
 
 returns : tie.Need-returns
 unfolding entryCheck

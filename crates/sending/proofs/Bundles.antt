@@ -42,15 +42,15 @@ use Rattle.table.specs.Found.{onEvent, onKind}
 use Rattle.table.specs.Checks.{placeCheck, turnCheck}
 use Rattle.table.proofs.Calls.{client-is, event-cond, given-is}
 use Rattle.table.proofs.Halves.{high-of, low-of}
-use Rattle.entering.specs.Bundles.{Going, entered, enteredAll, entryCheck, fitCheck, onFit, ownCheck, sentCheck}
-use Rattle.entering.specs.declared.bundle.FitCheck.{FitCheck}
-use Rattle.entering.specs.declared.bundle.FitCheck.the-variants.{Fits, Refused}
+use Rattle.sending.specs.Bundles.{Going, entered, enteredAll, entryCheck, fitCheck, onFit, ownCheck, sentCheck}
+use Rattle.sending.specs.declared.bundle.FitCheck.{FitCheck}
+use Rattle.sending.specs.declared.bundle.FitCheck.the-variants.{Fits, Refused}
 use Rattle.entering.specs.Checks.{updateCheck}
 use Rattle.entering.specs.declared.update.UpdateCheck.{UpdateCheck}
 use Rattle.entering.specs.declared.update.UpdateCheck.the-variants as update
 use Rattle.entering.proofs.Calls as Calls
 use Rattle.entering.proofs.Calls.{no-update, no-yield}
 use Rattle.entering.proofs.Stored.{length-high}
 
 -- a table: its length, and its lower half
 whole : (t : List ℕ) → isTable t ≡ true → (length t ≡ bytes) × (inRange (low t) ≡ true)

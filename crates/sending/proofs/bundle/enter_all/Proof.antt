@@ -1,16 +1,16 @@
--- `entering::bundle::enter_all` meets its contract: the entries before `i` are in, and the others fit. Assumes nothing.
+-- `sending::bundle::enter_all` meets its contract: the entries before `i` are in, and the others fit. Assumes nothing.
 use Prim.Native.Nat.{_+_, _-_, _≤_}
 use mathlib.Core.Path.{_≡_, sym, _∙_, ap, subst}
 use native.Mathlib.Omega.{arith}
 use borrow.Author.Needs.{needs}
 use Rattle.bundles.specs.Records.{entriesFrom}
 use Rattle.table.specs.Halves.{cellsOf}
-use Rattle.entering.specs.Bundles.{Going, entered, enteredAll, sentCheck}
-use Rattle.entering.specs.declared.bundle.FitCheck.the-variants as fit
+use Rattle.sending.specs.Bundles.{Going, entered, enteredAll, sentCheck}
+use Rattle.sending.specs.declared.bundle.FitCheck.the-variants as fit
 use Rattle.bundles.proofs.First.{entries-all}
-use Rattle.entering.proofs.Bundles.{bib-below, entered-next, entered-none, fits-on, long}
-use Rattle.entering.proofs.bundle.enter_all.Statement.{statement}
-use Rattle.entering.proofs.bundle.enter_all.Tie as tie
+use Rattle.sending.proofs.Bundles.{bib-below, entered-next, entered-none, fits-on, long}
+use Rattle.sending.proofs.bundle.enter_all.Statement.{statement}
+use Rattle.sending.proofs.bundle.enter_all.Tie as tie
 
 abbrev Inv-loop : tie.InvT-loop
 Inv-loop t₀ c r b n i₀ t i =

@@ -1,13 +1,13 @@
--- `entering::bundle::check_sent` meets its contract: no entry before `i` is refused. Assumes nothing.
+-- `sending::bundle::check_sent` meets its contract: no entry before `i` is refused. Assumes nothing.
 use Prim.Native.Nat.{_+_, _-_, _≤_}
 use mathlib.Core.Path.{_≡_, sym, _∙_, ap}
 use native.Mathlib.Omega.{arith}
 use borrow.Author.Needs.{needs}
 use Rattle.bundles.specs.Records.{entriesFrom}
-use Rattle.entering.specs.Bundles.{fitCheck, sentCheck}
-use Rattle.entering.proofs.Bundles.{check-ends, check-goes-on, check-last, check-start}
-use Rattle.entering.proofs.bundle.check_sent.Statement.{statement}
-use Rattle.entering.proofs.bundle.check_sent.Tie as tie
+use Rattle.sending.specs.Bundles.{fitCheck, sentCheck}
+use Rattle.sending.proofs.Bundles.{check-ends, check-goes-on, check-last, check-start}
+use Rattle.sending.proofs.bundle.check_sent.Statement.{statement}
+use Rattle.sending.proofs.bundle.check_sent.Tie as tie
 
 abbrev Inv-loop : tie.InvT-loop
 Inv-loop b n taken own i₀ i = (i ≤ n) × (sentCheck (entriesFrom b 0 n) taken own ≡ sentCheck (entriesFrom b i (n - i)) (taken + i) (own + i))

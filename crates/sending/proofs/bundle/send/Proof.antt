@@ -1,4 +1,4 @@
--- `entering::bundle::send` meets its contract: all checks, then the updates and the yield. Assumes nothing.
+-- `sending::bundle::send` meets its contract: all checks, then the updates and the yield. Assumes nothing.
 use Prim.Native.Nat.{_≤_}
 use mathlib.Core.Path.{sym, subst, _∙_, ap}
 use mathlib.Core.List.{_++_}
@@ -8,9 +8,9 @@ use Rattle.cells.specs.Sizes.{updates}
 use Rattle.cells.specs.Steps.{closeBytes}
 use Rattle.table.specs.Halves.{high, low}
 use Rattle.table.proofs.Halves.{low-length}
-use Rattle.entering.proofs.Bundles.{client-in, few-own, few-taken, revision-in, same-check, settle-fits, settle-refused}
-use Rattle.entering.proofs.bundle.send.Statement.{statement}
-use Rattle.entering.proofs.bundle.send.Tie as tie
+use Rattle.sending.proofs.Bundles.{client-in, few-own, few-taken, revision-in, same-check, settle-fits, settle-refused}
+use Rattle.sending.proofs.bundle.send.Statement.{statement}
+use Rattle.sending.proofs.bundle.send.Tie as tie
 
 updates-requires : tie.Need-updates-requires
 updates-requires c κs = search needs

@@ -1,8 +1,8 @@
--- `entering::bundle::check_own` meets its contract: the test decides. Assumes nothing.
+-- `sending::bundle::check_own` meets its contract: the test decides. Assumes nothing.
 use borrow.Author.Tests.{lt-ltb, le-ltb}
-use Rattle.entering.specs.Bundles.{ownCheck}
-use Rattle.entering.proofs.bundle.check_own.Statement.{statement}
-use Rattle.entering.proofs.bundle.check_own.Tie as tie
+use Rattle.sending.specs.Bundles.{ownCheck}
+use Rattle.sending.proofs.bundle.check_own.Statement.{statement}
+use Rattle.sending.proofs.bundle.check_own.Tie as tie
 
 returns : tie.Need-returns
 unfolding ownCheck

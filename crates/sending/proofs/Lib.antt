@@ -1,0 +1,2 @@
+-- Laws of updates sent one by one.
+pub mod Bundles

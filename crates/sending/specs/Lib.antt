@@ -1,0 +1,2 @@
+-- What is known of a bundle before anything is written.
+pub mod Bundles
