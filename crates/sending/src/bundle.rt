@@ -108,8 +108,8 @@ fn enter_all(t: &mut [u8], c: Client, r: Revision, b: &[u8], n: usize)
 {
     let mut i: usize = 0;
     while i < n {
-        let e = entry_at(b, i);
-        enter(t, c, r, e);
+        let sent = entry_at(b, i);
+        enter(t, c, r, sent);
         i += 1;
     }
 }
