@@ -3,3 +3,4 @@ pub mod Checks
 pub mod Stored
 pub mod Calls
 pub mod Bundles
+pub mod Packed
