@@ -4,3 +4,4 @@ pub mod Stored
 pub mod Calls
 pub mod Bundles
 pub mod Packed
+pub mod Lend

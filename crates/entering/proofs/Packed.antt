@@ -1,21 +1,22 @@
--- A list of entries put as records: the call says the same of both.
-use Prim.Native.Nat.{ℕ, _*_, _<_, _≤_}
-use mathlib.Core.Bool.{true, false, cond, _||_, or-true}
-use mathlib.Core.Path.{_≡_, refl, sym, _∙_, ap}
+-- A list of entries put as records: the call says the same of both. And what a count of entries says.
+use Prim.Native.Nat.{ℕ, _<_, _≤_}
+use mathlib.Core.Bool.{true, false, not, or-true}
+use mathlib.Core.Path.{_≡_, refl, _∙_, ap}
 use mathlib.Core.List.{List, []}
 use native.Mathlib.Omega.{arith}
 use lib.Dec.{eqb, ltb}
 use lib.ListN.{length, take}
-use borrow.Author.Tests.{le-ltb, ltb-true, ltb-false}
+use borrow.Author.Tests.{le-ltb, lt-ltb, ltb-false}
 use Rattle.lists.proofs.Cases.{cases}
 use Rattle.bundles.specs.declared.entry.Entry.{Entry}
-use Rattle.bundles.specs.declared.check.BundleCheck.the-variants.{Wrong}
-use Rattle.bundles.specs.Records.{bundleCheck, isWrong, recordsOf}
+use Rattle.bundles.specs.Records.{isWrong, recordsOf}
 use Rattle.bundles.specs.Packed.{among, packedOf, recordsIn}
 use Rattle.bundles.proofs.Filled.{packed-records}
 use Rattle.bundles.proofs.First.{uncounted}
 use Rattle.bundles.proofs.Held.{check-records}
+use Rattle.table.specs.Answers.{check, refused}
 use Rattle.table.specs.Calls.{bundleOut}
+use Rattle.table.specs.Halves.{isTable}
 
 -- what is passed on has room
 pub among-most : (n : ℕ) → among n ≤ 64
@@ -49,3 +50,11 @@ packed-is t c n es =
     cases (ltb 64 (length es))
     (λ h. ap (bundleOut t c n) (none-passed es h) ∙ wrong-same t c n [] (recordsOf es) none-wrong (many-wrong es h))
     (λ h. ap (bundleOut t c n) (all-passed es h))
+
+-- a count of no more than 64, and one above 64
+pub not-many : (count : ℕ) (es : List Entry) → count ≤ 64 → take (among count) es ≡ take count es
+not-many count es h = rw (le-ltb 64 count h)
+
+pub too-many : (t : List ℕ) (c n count : ℕ) (es : List Entry) → 64 < count → bundleOut t c n (recordsOf (take (among count) es)) ≡ check (not (isTable t)) 1 t (refused t 14)
+unfolding bundleOut recordsOf
+too-many t c n count es h = rw (lt-ltb 64 count h, none-wrong)

@@ -1,5 +1,5 @@
 -- `entering::sent::bundle_packed` meets its contract: the records' bytes are lent to the call. Assumes nothing.
-use Prim.Native.Nat.{_*_, _≤_}
+use Prim.Native.Nat.{_*_}
 use mathlib.Core.Path.{_≡_, sym, _∙_, ap}
 use native.Mathlib.Omega.{arith}
 use lib.ListN.{length, take}
@@ -23,8 +23,7 @@ slice-aggregate-bundle c =
     let p = at-end .before .before .before .args .p in
     let room : 768 ≡ length (p .bytes) = slice-aggregate-all (c .before .before) in
     let most = among-most (p .count) in
-    let end : 12 * at-end .among .result ≤ length (p .bytes) = omega (arith, at-end .among .ensures) in
-    sym (length-take-le (12 * at-end .among .result) (p .bytes) end)
+    sym (length-take-le _ (p .bytes) (omega (arith, at-end .among .ensures)))
 
 returns : tie.Need-returns
 unfolding recordsIn
