@@ -25,3 +25,11 @@ filled es = recordsOf es ++ replicate (768 - 12 * length es) 0
 -- of more than 64 entries the count alone decides: the bundle is wrong
 unfoldable pub packedOf : List Entry → Packed
 packedOf es = record { bytes = filled (take 64 es); count = length es }
+
+-- how many of so many entries are passed on. Above 64 none are: a bundle of none is wrong as one of more than 64 is, 14
+abbrev pub among : ℕ → ℕ
+among n = cond (ltb 64 n) 0 n
+
+-- the bytes that are passed on: the records of all entries
+unfoldable pub recordsIn : Packed → List ℕ
+recordsIn p = take (12 * among (p .count)) (p .bytes)

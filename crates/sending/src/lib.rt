@@ -1,2 +1,3 @@
 // Several updates of a client sent together, with the end of its transaction.
 pub mod bundle; // bundle.rt: the call bundle
+pub mod sent; // sent.rt: the call bundle on a lent list of entries

@@ -1,0 +1,60 @@
+-- A list of entries put as records: the call says the same of both. And what a count of entries says.
+use Prim.Native.Nat.{ℕ, _<_, _≤_}
+use mathlib.Core.Bool.{true, false, not, or-true}
+use mathlib.Core.Path.{_≡_, refl, _∙_, ap}
+use mathlib.Core.List.{List, []}
+use native.Mathlib.Omega.{arith}
+use lib.Dec.{eqb, ltb}
+use lib.ListN.{length, take}
+use borrow.Author.Tests.{le-ltb, lt-ltb, ltb-false}
+use Rattle.lists.proofs.Cases.{cases}
+use Rattle.bundles.specs.declared.entry.Entry.{Entry}
+use Rattle.bundles.specs.Records.{isWrong, recordsOf}
+use Rattle.bundles.specs.Packed.{among, packedOf, recordsIn}
+use Rattle.bundles.proofs.Filled.{packed-records}
+use Rattle.bundles.proofs.First.{uncounted}
+use Rattle.bundles.proofs.Held.{check-records}
+use Rattle.table.specs.Answers.{check, refused}
+use Rattle.table.specs.Calls.{bundleOut}
+use Rattle.table.specs.Halves.{isTable}
+
+-- what is passed on has room
+pub among-most : (n : ℕ) → among n ≤ 64
+among-most n =
+    cases (ltb 64 n)
+    (λ h. rw h (omega arith))
+    (λ h. rw h (let k = ltb-false 64 n h in omega arith))
+
+-- 14 of two bundles that are wrong, after 1
+wrong-same : (t : List ℕ) (c n : ℕ) (a b : List ℕ) → isWrong a ≡ true → isWrong b ≡ true → bundleOut t c n a ≡ bundleOut t c n b
+unfolding bundleOut
+wrong-same t c n a b h k = rw (h, k)
+
+none-wrong : isWrong [] ≡ true
+unfolding isWrong
+none-wrong = refl
+
+many-wrong : (es : List Entry) → ltb 64 (length es) ≡ true → isWrong (recordsOf es) ≡ true
+many-wrong es h = uncounted (recordsOf es) (check-records es ∙ rw (h, or-true (eqb (length es) 0)))
+
+none-passed : (es : List Entry) → ltb 64 (length es) ≡ true → recordsIn (packedOf es) ≡ []
+unfolding recordsIn packedOf
+none-passed es h = rw h
+
+all-passed : (es : List Entry) → ltb 64 (length es) ≡ false → recordsIn (packedOf es) ≡ recordsOf es
+unfolding recordsIn packedOf
+all-passed es h = rw h (packed-records es (ltb-false 64 (length es) h))
+
+pub packed-is : (t : List ℕ) (c n : ℕ) (es : List Entry) → bundleOut t c n (recordsIn (packedOf es)) ≡ bundleOut t c n (recordsOf es)
+packed-is t c n es =
+    cases (ltb 64 (length es))
+    (λ h. ap (bundleOut t c n) (none-passed es h) ∙ wrong-same t c n [] (recordsOf es) none-wrong (many-wrong es h))
+    (λ h. ap (bundleOut t c n) (all-passed es h))
+
+-- a count of no more than 64, and one above 64
+pub not-many : (count : ℕ) (es : List Entry) → count ≤ 64 → take (among count) es ≡ take count es
+not-many count es h = rw (le-ltb 64 count h)
+
+pub too-many : (t : List ℕ) (c n count : ℕ) (es : List Entry) → 64 < count → bundleOut t c n (recordsOf (take (among count) es)) ≡ check (not (isTable t)) 1 t (refused t 14)
+unfolding bundleOut recordsOf
+too-many t c n count es h = rw (lt-ltb 64 count h, none-wrong)
