@@ -142,6 +142,7 @@ bundleOut t c n records =
     check (not (isTable t)) 1 t (
     check (isWrong records) 14 t (
     settled t (sentOut t c n (entriesIn records))))
+
 -- 02, U6: refusals are "with state neither and gain 0"
 abbrev pub noProspect : ℕ → Prospect
 noProspect code = record { code = code; state = Neither; value = 0; gain = 0 }
