@@ -132,9 +132,12 @@ part-wrote d i a k q h l ea ek =
 pub part-lent : (d : List ℕ) (i a k : ℕ) (f : List ℕ → List ℕ) (q : List ℕ) → length d ≡ bytes → i < parts → offset i ≡ a → size i ≡ k → q ≡ f (midOf a k d) → putMid a k d q ≡ wrote d i (f (split d i))
 part-lent d i a k f q h l ea ek e = part-wrote d i a k q h l ea ek ∙ ap (wrote d i) (e ∙ ap f (part-read d i a k ea ek))
 
--- byte j of part i, read in the whole
+-- byte j of k bytes from a on, and of part i, read in the whole
+pub mid-byte : (d : List ℕ) (a k j : ℕ) → j < k → getD d (a + j) 0 ≡ getD (midOf a k d) j 0
+mid-byte d a k j h = sym (getD-drop a d j 0) ∙ sym (getD-take k (drop a d) j 0 h)
+
 pub part-byte : (d : List ℕ) (i a k j : ℕ) → offset i ≡ a → size i ≡ k → j < k → getD d (a + j) 0 ≡ getD (split d i) j 0
-part-byte d i a k j ea ek h = sym (getD-drop a d j 0) ∙ sym (getD-take k (drop a d) j 0 h) ∙ ap (λ z. getD z j 0) (part-read d i a k ea ek)
+part-byte d i a k j ea ek h = mid-byte d a k j h ∙ ap (λ z. getD z j 0) (part-read d i a k ea ek)
 
 -- bytes that are these parts
 pub record Holds (d : List ℕ) (p : Parts) : Type 0 where

@@ -12,7 +12,7 @@ use Rattle.cells.specs.Parts.{Parts, split, statePart, usedPart, lastPar
 use Rattle.cells.specs.Words.{byte, word}
 use Rattle.cells.specs.Cells.{Cells}
 use Rattle.cells.specs.Decode.{decode, cells}
-use Rattle.cells.specs.Range.{bytesBelow, wordsBelow, countersIn, signature, signed, partsIn, inRange}
+use Rattle.cells.specs.Range.{bytesBelow, wordsBelow, countersIn, signature, signed, recordsIn, placesIn, partsIn, inRange}
 use Rattle.cells.proofs.Tables.{every-all, every-at}
 
 -- the ranges that the steps rely on
@@ -59,28 +59,28 @@ pub record Kept (p : Parts) : Type 0 where
 
 pub parts-kept : (p : Parts) → partsIn p ≡ true → Kept p
 parts-kept p e =
-    let a = and-true (bytesBelow revisions 3 (p statePart)) _ e in
+    let both = and-true (recordsIn p) (placesIn p) e in
+    let a = and-true (bytesBelow revisions 3 (p statePart)) _ (both .0) in
     let b = and-true (bytesBelow revisions 2 (p usedPart)) _ (a .1) in
     let c = and-true (wordsBelow revisions 4096 (p lastPart)) _ (b .1) in
     let d = and-true (wordsBelow revisions 4096 (p firstPart)) _ (c .1) in
-    let f = and-true (wordsBelow revisions 4097 (p countPart)) _ (d .1) in
-    let g = and-true (wordsBelow revisions 4097 (p basePart)) _ (f .1) in
-    let h = and-true (bytesBelow revisions 64 (p layoutPart)) _ (g .1) in
-    let i = and-true (bytesBelow revisions 64 (p queuePart)) _ (h .1) in
-    let j = and-true (bytesBelow clients 65 (p openedPart)) _ (i .1) in
-    let m = and-true (countersIn (p countersPart)) (signed (p signaturePart)) (j .1) in
+    let f = and-true (wordsBelow revisions 4097 (p countPart)) (wordsBelow revisions 4097 (p basePart)) (d .1) in
+    let g = and-true (bytesBelow revisions 64 (p layoutPart)) _ (both .1) in
+    let h = and-true (bytesBelow revisions 64 (p queuePart)) _ (g .1) in
+    let i = and-true (bytesBelow clients 65 (p openedPart)) _ (h .1) in
+    let j = and-true (countersIn (p countersPart)) (signed (p signaturePart)) (i .1) in
     record {
       state = byte-below revisions 3 (p statePart) (a .0);
       used = byte-below revisions 2 (p usedPart) (b .0);
       last = word-below revisions 4096 (p lastPart) (c .0);
       first = word-below revisions 4096 (p firstPart) (d .0);
       count = word-below revisions 4097 (p countPart) (f .0);
-      base = word-below revisions 4097 (p basePart) (g .0);
-      layout = byte-below revisions 64 (p layoutPart) (h .0);
-      queue = byte-below revisions 64 (p queuePart) (i .0);
-      opened = byte-below clients 65 (p openedPart) (j .0);
-      counters = counters-in (p countersPart) (m .0);
-      signature = λ n l. eqb-true _ _ (every-at (λ i. eqb (byte (p signaturePart) i) (byte signature i)) 8 n (m .1) l);
+      base = word-below revisions 4097 (p basePart) (f .1);
+      layout = byte-below revisions 64 (p layoutPart) (g .0);
+      queue = byte-below revisions 64 (p queuePart) (h .0);
+      opened = byte-below clients 65 (p openedPart) (i .0);
+      counters = counters-in (p countersPart) (j .0);
+      signature = λ n l. eqb-true _ _ (every-at (λ i. eqb (byte (p signaturePart) i) (byte signature i)) 8 n (j .1) l);
     }
 
 pub parts-ranges : (p : Parts) → partsIn p ≡ true → Ranges (decode p)

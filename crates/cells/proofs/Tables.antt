@@ -1,6 +1,6 @@
 -- Tables of a function's values: their entries, and what a loop that fills one from the front has done at i. Tests over numbers.
 use Prim.Native.Nat.{ℕ, zero, suc, _+_, _<_}
-use mathlib.Core.Bool.{Bool, true, false, _&&_}
+use mathlib.Core.Bool.{Bool, true, false}
 use mathlib.Core.Path.{_≡_, refl, sym, ap, _∙_}
 use mathlib.Core.Logic.{_⊎_, inl, inr}
 use mathlib.Core.List.{List, [], _∷_, _++_, append-assoc, append-nil}
@@ -103,26 +103,10 @@ every-at f (suc n) i e h =
     let both = and-true (every f n) (f n) e in
     either (last-or i n h) (λ l. every-at f n i (both .0) l) (λ q. rw q (both .1))
 
-pub every-more : (f : ℕ → Bool) (i : ℕ) → every f i ≡ true → f i ≡ true → every f (i + 1) ≡ true
-unfolding every
-every-more f i e g = rw (add-one, e, g)
-
 pub every-all : (f : ℕ → Bool) (n : ℕ) → ((i : ℕ) → i < n → f i ≡ true) → every f n ≡ true
 unfolding every
 every-all f zero h = refl
 every-all f (suc n) h = rw (every-all f n (λ i l. h i (omega arith)), h n (omega arith))
-
-and-false : (b : Bool) → (b && false) ≡ false
-and-false true = refl
-and-false false = refl
-
-pub every-not : (f : ℕ → Bool) (n i : ℕ) → i < n → f i ≡ false → every f n ≡ false
-unfolding every
-every-not f zero i h e = absurd (not-suc-le-zero h)
-every-not f (suc n) i h e =
-    either (last-or i n h)
-    (λ l. rw (every-not f n i l e))
-    (λ q. rw (ap f (sym q) ∙ e) (and-false (every f n)))
 
 pub some-more : (f : ℕ → Bool) (i : ℕ) → some f i ≡ false → f i ≡ false → some f (i + 1) ≡ false
 unfolding some

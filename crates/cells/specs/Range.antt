@@ -27,18 +27,22 @@ signed t = every (λ i. eqb (byte t i) (byte signature i)) 8
 abbrev pub countersIn : List ℕ → Bool
 countersIn t = ltb (word t 0) 4097 && (ltb 0 (byte t 2) && (ltb (byte t 2) 65 && (ltb 0 (byte t 3) && ltb (byte t 3) 65)))
 
-abbrev pub partsIn : Parts → Bool
-partsIn p =
+-- the cells of each revision's record
+abbrev pub recordsIn : Parts → Bool
+recordsIn p =
     bytesBelow revisions 3 (p statePart)
     && (bytesBelow revisions 2 (p usedPart)
     && (wordsBelow revisions 4096 (p lastPart)
-    && (wordsBelow revisions 4096 (p firstPart)
-    && (wordsBelow revisions 4097 (p countPart)
-    && (wordsBelow revisions 4097 (p basePart)
-    && (bytesBelow revisions 64 (p layoutPart)
-    && (bytesBelow revisions 64 (p queuePart)
-    && (bytesBelow clients 65 (p openedPart)
-    && (countersIn (p countersPart) && signed (p signaturePart))))))))))
+    && (wordsBelow revisions 4096 (p firstPart) && (wordsBelow revisions 4097 (p countPart) && wordsBelow revisions 4097 (p basePart)))))
+
+-- the layout, the queue, open transactions, counters and signature
+abbrev pub placesIn : Parts → Bool
+placesIn p =
+    bytesBelow revisions 64 (p layoutPart)
+    && (bytesBelow revisions 64 (p queuePart) && (bytesBelow clients 65 (p openedPart) && (countersIn (p countersPart) && signed (p signaturePart))))
+
+abbrev pub partsIn : Parts → Bool
+partsIn p = recordsIn p && placesIn p
 
 unfoldable pub inRange : List ℕ → Bool
 inRange d = partsIn (split d)

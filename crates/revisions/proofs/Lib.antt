@@ -1,6 +1,5 @@
--- Laws that belong to no one function: each step is its writes in a row; the range check is its pieces.
+-- Laws that belong to no one function: each step is its writes in a row.
 pub mod Numbers
 pub mod Flags
 pub mod Writes
 pub mod Rows
-pub mod InRange

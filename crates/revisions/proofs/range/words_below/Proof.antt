@@ -1,17 +1,20 @@
 -- `revisions::range::words_below` meets its contract: the flag says whether the words before `i` are below the limit. Assumes nothing.
 use Prim.Native.Nat.{_*_, _+_, _-_, _≤_}
-use mathlib.Core.Path.{_≡_, _∙_, ap, refl}
+use mathlib.Core.Path.{_≡_, ap, refl}
 use native.Mathlib.Omega.{arith}
 use lib.Dec.{ltb}
 use borrow.Author.Needs.{needs}
+use borrow.Rule.Slice.PartMut.{midOf}
+use Rattle.cells.specs.Range.{wordsBelow}
 use Rattle.cells.specs.Tables.{every}
-use Rattle.cells.specs.Words.{byte}
+use Rattle.cells.specs.Words.{word}
+use Rattle.cells.proofs.Parts.{mid-byte}
 use Rattle.revisions.proofs.Flags.{every-next}
 use Rattle.revisions.proofs.range.words_below.Statement.{statement}
 use Rattle.revisions.proofs.range.words_below.Tie as tie
 
 abbrev Inv-loop : tie.InvT-loop
-Inv-loop d at n limit ok₀ i₀ ok i = (i ≤ n) × (ok ≡ every (λ j. ltb (byte d (at + 2 * j) + 256 * byte d (at + (2 * j + 1))) limit) i)
+Inv-loop d at n limit ok₀ i₀ ok i = (i ≤ n) × (ok ≡ wordsBelow i limit (midOf at (2 * n) d))
 
 abbrev μ-loop : tie.MeasureT-loop
 μ-loop d at n limit ok₀ i₀ ok i = n - i
@@ -21,15 +24,16 @@ unfolding every
 loop-holds c = (search needs, refl)
 
 loop-again : tie.Need-loop-again Inv-loop μ-loop
+unfolding word
 loop-again c =
-    let at-byte-at2 = c .before in
-    let at-byte-at = at-byte-at2 .before in
-    let at-loop = at-byte-at .before .before in
-    let start = at-loop .before .before in
+    let at-loop = c .before .before .before in
     let l = at-loop .loop in
-    let low = at-byte-at .byte-at .ensures .0 in
-    let high = at-byte-at2 .byte-at2 .ensures .0 in
-    (omega arith, every-next (λ j. ltb (byte (start .args .d .now) (start .args .at + 2 * j) + 256 * byte (start .args .d .now) (start .args .at + (2 * j + 1))) (start .args .limit)) (l .i) (c .also .ensures) (l .inv .1) (ap (λ v. ltb (v + 256 * (at-byte-at2 .byte-at2 .result)) (start .args .limit)) low ∙ ap (λ v. ltb (byte (start .args .d .now) (start .args .at + 2 * (l .i)) + 256 * v) (start .args .limit)) high))
+    let a = at-loop .before .before .args in
+    let t = midOf (a .at) (2 * a .n) (a .d .now) in
+    let low = mid-byte (a .d .now) (a .at) (2 * a .n) (2 * l .i) (omega arith) in
+    let high = mid-byte (a .d .now) (a .at) (2 * a .n) (2 * l .i + 1) (omega arith) in
+    let v : c .before .byte-at .result + 256 * c .byte-at2 .result ≡ word t (l .i) = cc (low, high) in
+    (omega arith, every-next (λ j. ltb (word t j) (a .limit)) (l .i) (l .inv .1) (ap (λ v. ltb v (a .limit)) v))
 
 returns : tie.Need-returns Inv-loop μ-loop
 returns c =
@@ -51,7 +55,6 @@ words-below-spec = tie.close (tie.spec
     (λ c κs. search needs)
     (λ c. search needs)
     (λ c. search needs)
-    (λ c κs. search needs)
     (λ c. search needs)
     (λ c. search needs)
     loop-again
