@@ -11,25 +11,13 @@ use table::answer::Answer;
 use table::sound;
 use table::sound::LengthCheck;
 
-// No entries.
-fn clear(p: &mut [u8])
-    requires { ⌜ length (now p) ≡ Upper.bytes ⌝ }
-    ensures { λ _. ⌜ now (p .exit) ≡ replicate Upper.bytes 0 ⌝ }
-{
-    let mut i: usize = 0;
-    while i < 24576 {
-        p[i] = 0;
-        i += 1;
-    }
-}
-
-// Both halves.
+// The revisions of a new day, and no entries.
 fn start(t: &mut [u8])
     requires { ⌜ length (now t) ≡ bytes ⌝ }
     ensures { λ _. ⌜ now (t .exit) ≡ freshBytes ++ replicate Upper.bytes 0 ⌝ }
 {
     revisions::fresh::fresh(&mut t[0..40960]);
-    clear(&mut t[40960..65536]);
+    fields::fresh::clear(&mut t[40960..65536]);
 }
 
 pub fn fresh(t: &mut [u8]) -> Answer

@@ -83,7 +83,7 @@ unfolding inRow split offset
 split-row d zero = refl
 split-row d (suc n) = rw (split-row d n) (sym (take-add (offset n) (size n) d))
 
-all-bytes : offset parts ≡ bytes
+pub all-bytes : offset parts ≡ bytes
 unfolding offset size
 all-bytes = refl
 

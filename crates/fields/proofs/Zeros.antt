@@ -1,15 +1,16 @@
 -- Bytes that are all 0, as parts; marks that are all set.
-use Prim.Native.Nat.{ℕ, zero, suc, _/_, _%_, _≤_}
+use Prim.Native.Nat.{ℕ, zero, suc, _/_, _%_}
 use mathlib.Core.Bool.{true}
 use mathlib.Core.Path.{_≡_, refl, sym, ap, _∙_}
-use mathlib.Core.List.{List, [], _++_, append-nil}
+use mathlib.Core.List.{List, []}
 use native.Mathlib.Omega.{arith}
-use lib.ListN.{length, replicate, drop, drop-of-length-le, getD-replicate, replicate-append-replicate}
+use lib.ListN.{replicate, getD-replicate, replicate-append-replicate}
 use Rattle.cells.specs.Sizes.{bytes}
 use Rattle.cells.specs.Parts.{parts, size, offset, inRow, glue}
 use Rattle.cells.specs.Tables.{every}
 use Rattle.cells.specs.Marks.{bit, pack, markOf}
 use Rattle.cells.proofs.Marks.{pack-same}
+use Rattle.cells.proofs.Parts.{all-bytes}
 use Rattle.cells.proofs.Tables.{every-at}
 
 zeros-in-row : (n : ℕ) → inRow (λ i. replicate (size i) 0) n ≡ replicate (offset n) 0
@@ -17,14 +18,9 @@ unfolding inRow offset
 zeros-in-row zero = refl
 zeros-in-row (suc n) = rw (zeros-in-row n) (replicate-append-replicate (offset n) (size n) 0)
 
--- n bytes filled with 0, and n is all of them
-pub zeros-done : (n : ℕ) (d d₀ : List ℕ) → n ≡ offset parts → length d₀ ≤ n → d ≡ replicate n 0 ++ drop n d₀ → d ≡ glue (λ i. replicate (size i) 0)
+pub zeros : (n : ℕ) → n ≡ bytes → replicate n 0 ≡ glue (λ i. replicate (size i) 0)
 unfolding glue
-zeros-done n d d₀ e h q = q ∙ rw (drop-of-length-le d₀ h, append-nil) (ap (λ k. replicate k 0) e ∙ sym (zeros-in-row parts))
-
-pub all-parts : bytes ≡ offset parts
-unfolding offset size
-all-parts = refl
+zeros n e = ap (λ k. replicate k 0) (e ∙ sym all-bytes) ∙ sym (zeros-in-row parts)
 
 -- every mark of n rows
 all-ones : every (bit 255) 8 ≡ true

@@ -3,7 +3,7 @@ ghost use mathlib.Core.Path.{_≡_};
 ghost use mathlib.Core.Bool.{true};
 ghost use lib.ListN.{length, replicate};
 ghost use Rattle.cells.specs.Sizes.{bytes, clients, closed};
-ghost use Rattle.cells.specs.Parts.{glue, size, wrote, caughtPart, openedPart, signaturePart};
+ghost use Rattle.cells.specs.Parts.{wrote, caughtPart, openedPart, signaturePart};
 ghost use Rattle.cells.specs.Marks.{pack};
 ghost use Rattle.cells.specs.Range.{signature};
 use crate::table::CAUGHT;
@@ -13,13 +13,12 @@ use crate::table::SIGNATURE;
 use crate::table::STATE;
 use crate::table::Table;
 
-pub fn clear(d: &mut [u8])
-    requires { ⌜ length (now d) ≡ bytes ⌝ }
-    ensures { λ _. ⌜ now (d .exit) ≡ glue (λ i. replicate (size i) 0) ⌝ }
+pub fn clear(t: &mut [u8])
+    ensures { λ _. ⌜ now (t .exit) ≡ replicate (length (now (t .entry))) 0 ⌝ }
 {
     let mut i: usize = 0;
-    while i < 40960 {
-        d[i] = 0;
+    while i < t.len() {
+        t[i] = 0;
         i += 1;
     }
 }

@@ -2,8 +2,8 @@
 use mathlib.Core.Path.{_∙_, ap}
 use mathlib.Core.List.{_++_}
 use native.Mathlib.Omega.{arith}
+use lib.ListN.{replicate}
 use borrow.Author.Needs.{needs}
-use Rattle.cells.specs.Steps.{freshBytes}
 use Rattle.branching.proofs.Cleared.{both-lent}
 use Rattle.branching.proofs.fresh.start.Statement.{statement}
 use Rattle.branching.proofs.fresh.start.Tie as tie
@@ -15,7 +15,7 @@ returns c =
     let start = at-fresh .before .before .before in
     let f = at-fresh .fresh in
     let g = at-clear .clear in
-    both-lent 40960 24576 (start .args .t .now) (f .last .0) (g .last .0) (omega arith) (f .kept .0) ∙ ap (λ x. x ++ g .last .0) (f .ensures) ∙ ap (λ x. freshBytes ++ x) (g .ensures)
+    both-lent 40960 24576 (start .args .t .now) (f .last .0) (g .last .0) (omega arith) (f .kept .0) (g .ensures) ∙ ap (λ x. x ++ replicate 24576 0) (f .ensures)
 
 pub start-spec : {M : Type 1} → statement M
 start-spec = tie.close (tie.spec

@@ -1,5 +1,7 @@
 -- `revisions::fresh::fresh` meets its contract: the writes in a row. Assumes nothing.
+use mathlib.Core.Path.{_∙_}
 use borrow.Author.Needs.{needs}
+use Rattle.fields.proofs.Zeros.{zeros}
 use Rattle.revisions.proofs.Writes.{fresh-done}
 use Rattle.revisions.proofs.fresh.fresh.Statement.{statement}
 use Rattle.revisions.proofs.fresh.fresh.Tie as tie
@@ -14,7 +16,7 @@ returns c =
     let at-main = at-state .before in
     let at-caught = at-main .before .before .before .before in
     let at-clear = at-caught .before .before .before .before in
-    fresh-done _ _ _ _ _ _ _ (at-clear .clear .ensures) (at-caught .caught .ensures) (rw (at-main .main .ensures) at (at-state .state .ensures)) (at-opened .opened .ensures) (at-out .out .ensures) (at-given .given .ensures) (at-sign .sign .ensures)
+    fresh-done _ _ _ _ _ _ _ (at-clear .clear .ensures ∙ zeros _ (at-clear .before .before .before .pre)) (at-caught .caught .ensures) (rw (at-main .main .ensures) at (at-state .state .ensures)) (at-opened .opened .ensures) (at-out .out .ensures) (at-given .given .ensures) (at-sign .sign .ensures)
 
 pub fresh-spec : {M : Type 1} → statement M
 fresh-spec = tie.close (tie.spec
