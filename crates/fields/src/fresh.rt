@@ -31,23 +31,12 @@ pub fn caught(d: &mut [u8])
     marks::rows::store16(&mut d[CAUGHT..STATE], Table::fresh_caught());
 }
 
-fn copy16(t: &mut [u8], from: [u8; 16])
-    requires { ⌜ length (now t) ≡ 16 ⌝ }
-    ensures { λ _. ⌜ now (t .exit) ≡ from ⌝ }
+fn copy(t: &mut [u8], from: &[u8])
+    requires { ⌜ length (now t) ≡ length (now from) ⌝ }
+    ensures { λ _. ⌜ now (t .exit) ≡ now (from .entry) ⌝ }
 {
     let mut i: usize = 0;
-    while i < 16 {
-        t[i] = from[i];
-        i += 1;
-    }
-}
-
-fn copy8(t: &mut [u8], from: [u8; 8])
-    requires { ⌜ length (now t) ≡ 8 ⌝ }
-    ensures { λ _. ⌜ now (t .exit) ≡ from ⌝ }
-{
-    let mut i: usize = 0;
-    while i < 8 {
+    while i < from.len() {
         t[i] = from[i];
         i += 1;
     }
@@ -58,12 +47,14 @@ pub fn opened(d: &mut [u8])
     requires { ⌜ length (now d) ≡ bytes ⌝ }
     ensures { λ _. ⌜ now (d .exit) ≡ wrote (now (d .entry)) openedPart (replicate clients closed) ⌝ }
 {
-    copy16(&mut d[OPENED..COUNTERS], Table::fresh_opened());
+    let none = Table::fresh_opened();
+    copy(&mut d[OPENED..COUNTERS], &none);
 }
 
 pub fn sign(d: &mut [u8])
     requires { ⌜ length (now d) ≡ bytes ⌝ }
     ensures { λ _. ⌜ now (d .exit) ≡ wrote (now (d .entry)) signaturePart signature ⌝ }
 {
-    copy8(&mut d[SIGNATURE..Table::BYTES], Table::signature());
+    let signature = Table::signature();
+    copy(&mut d[SIGNATURE..Table::BYTES], &signature);
 }

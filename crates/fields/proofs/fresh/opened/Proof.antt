@@ -10,18 +10,18 @@ use Rattle.fields.proofs.fresh.opened.Tie as tie
 returns : tie.Need-returns
 unfolding offset size
 returns c =
-    let at-copy16 = c .before .before in
-    let at-fresh-opened = at-copy16 .before in
-    let start = at-fresh-opened .before .before .before in
-    let d = start .args .d .now in
-    part-wrote d openedPart 39808 16 _ (omega arith) (omega arith) refl refl ∙ ap (wrote d openedPart) (at-copy16 .copy16 .ensures ∙ at-fresh-opened .fresh-opened .ensures)
+    let at-copy = c .before .before in
+    let at-fresh-opened = at-copy .before .before .before in
+    let d = at-fresh-opened .before .before .args .d .now in
+    part-wrote d openedPart 39808 16 _ (omega arith) (omega arith) refl refl ∙ ap (wrote d openedPart) (at-copy .copy .ensures ∙ at-fresh-opened .fresh-opened .ensures)
 
 pub opened-spec : {M : Type 1} → statement M
 opened-spec = tie.close (tie.spec
-    (λ c. search needs)
-    (λ c. search needs)
-    (λ c. search needs)
     (λ c κs. search needs)
+    (λ c. search needs)
+    (λ c. search needs)
+    (λ c. search needs)
+    (λ c. search needs)
     (λ c κs. search needs)
     (λ c. search needs)
     returns)

@@ -10,18 +10,18 @@ use Rattle.fields.proofs.fresh.sign.Tie as tie
 returns : tie.Need-returns
 unfolding offset size
 returns c =
-    let at-copy8 = c .before .before in
-    let at-signature = at-copy8 .before in
-    let start = at-signature .before .before .before in
-    let d = start .args .d .now in
-    part-wrote d signaturePart 40952 8 _ (omega arith) (omega arith) refl refl ∙ ap (wrote d signaturePart) (at-copy8 .copy8 .ensures ∙ at-signature .signature .ensures)
+    let at-copy = c .before .before in
+    let at-signature = at-copy .before .before .before in
+    let d = at-signature .before .before .args .d .now in
+    part-wrote d signaturePart 40952 8 _ (omega arith) (omega arith) refl refl ∙ ap (wrote d signaturePart) (at-copy .copy .ensures ∙ at-signature .signature .ensures)
 
 pub sign-spec : {M : Type 1} → statement M
 sign-spec = tie.close (tie.spec
-    (λ c. search needs)
-    (λ c. search needs)
-    (λ c. search needs)
     (λ c κs. search needs)
+    (λ c. search needs)
+    (λ c. search needs)
+    (λ c. search needs)
+    (λ c. search needs)
     (λ c κs. search needs)
     (λ c. search needs)
     returns)
