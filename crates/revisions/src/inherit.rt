@@ -29,7 +29,7 @@ fn forked_row(d: &[u8], p: Revision) -> [u8; Table::ROW]
     requires { ⌜ (length (now d) ≡ bytes) × (inRange (now d) ≡ true) × (0 < p .0) × (p .0 < revisions) ⌝ }
     ensures { λ row. ⌜ row ≡ rowBytes 512 (forkRow (cells (now (d .entry))) (p .0)) ⌝ }
 {
-    let mut own = [0u16; Table::UPDATES];
+    let mut own = links::room();
     let n = links::own_list(d, p, &mut own);
     let mut marks = row::load(d, p);
     let mut i: usize = 0;

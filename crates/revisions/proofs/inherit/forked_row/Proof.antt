@@ -43,8 +43,7 @@ returns c =
     let at-loop = c .before in
     let at-load = at-loop .before in
     let at-own-list = at-load .before .before in
-    let start = at-own-list .before .before .before in
-    let s = start .args in
+    let s = at-own-list .before .before .before .before .args in
     let k = cells (s .d .now) in
     let l = at-loop .loop in
     let o = at-own-list .own-list .last .1 .1 .0 in
@@ -57,6 +56,7 @@ pub forked-row-spec : {M : Type 1} → statement M
 forked-row-spec = tie.close (tie.spec
     Inv-loop
     μ-loop
+    (λ c κs. search needs)
     (λ c. search needs)
     (λ c κs. search needs)
     (λ c κs. search needs)
