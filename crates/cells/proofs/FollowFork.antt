@@ -1,6 +1,6 @@
 -- A fork on the parts is the fork on the cells.
 use Prim.Native.Nat.{ℕ, zero, suc, _<_}
-use mathlib.Core.Bool.{Bool, true, false, cond, _&&_}
+use mathlib.Core.Bool.{Bool, false, cond, _&&_, and-self-left}
 use mathlib.Core.Path.{_≡_, refl, sym, _∙_, fun-ext}
 use mathlib.Core.List.{List}
 use native.Mathlib.Omega.{arith}
@@ -35,10 +35,6 @@ row-put t (suc r) f l h n (suc x) u =
     mark-row 512 63 t r f (omega arith) (omega arith) x u
     ∙ rw (same-suc x r) (cases (eqb x r) (λ e. rw e) (λ e. rw e))
 
-and-twice : (a b : Bool) → (a && (a && b)) ≡ (a && b)
-and-twice true b = refl
-and-twice false b = refl
-
 module _ (p : Parts) (h : Sized p) (q c : ℕ) (ql : q < revisions) (cl : c < revisions) (pos : c ≡ 0 → ⊥) where
   abbrev k : Cells
   k = decode p
@@ -48,7 +44,7 @@ module _ (p : Parts) (h : Sized p) (q c : ℕ) (ql : q < revisions) (cl : c < re
   fork-row x u =
       cases (eqb q main)
       (λ e. rw e)
-      (λ e. rw e (row-put (p rowsPart) c (forkRow k q) (h .of rowsPart) cl pos x u ∙ cases (eqb x c) (λ w. rw w (and-twice (ltb u updates) _)) (λ w. rw w)))
+      (λ e. rw e (row-put (p rowsPart) c (forkRow k q) (h .of rowsPart) cl pos x u ∙ cases (eqb x c) (λ w. rw w (and-self-left (ltb u updates) _)) (λ w. rw w)))
 
   fork-used : (x : ℕ) → decode (forkParts p q c) .used x ≡ forkCells k q c .used x
   unfolding size

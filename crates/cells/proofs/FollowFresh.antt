@@ -1,6 +1,6 @@
 -- The fresh parts are the fresh cells.
 use Prim.Native.Nat.{ℕ, zero, suc, _+_, _*_, _/_, _%_}
-use mathlib.Core.Bool.{Bool, true, false, cond, _&&_}
+use mathlib.Core.Bool.{true, false, cond, _&&_, and-true}
 use mathlib.Core.Path.{_≡_, refl, _∙_, ap, fun-ext}
 use mathlib.Core.List.{List}
 use native.Mathlib.Nat.{zero-div}
@@ -42,12 +42,8 @@ zero-link : (n m u : ℕ) → linkIn (zeros n) (zeros m) u ≡ 0
 unfolding half
 zero-link n m u = rw (zero-byte n u, zero-byte m (u / 2)) (cases (eqb (u % 2) 0) (λ e. rw e) (λ e. rw e))
 
-and-yes : (b : Bool) → (b && true) ≡ b
-and-yes true = refl
-and-yes false = refl
-
 fresh-caught : (x y : ℕ) → decode freshParts .caught x y ≡ freshCells .caught x y
-fresh-caught x y = packed clients (λ c r. true) x y ∙ and-yes (ltb x clients && ltb y revisions)
+fresh-caught x y = packed clients (λ c r. true) x y ∙ and-true (ltb x clients && ltb y revisions)
 
 fresh-opened : (c : ℕ) → decode freshParts .opened c ≡ freshCells .opened c
 fresh-opened c =

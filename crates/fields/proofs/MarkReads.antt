@@ -1,7 +1,7 @@
 -- A mark read in the whole.
 use Prim.Native.Nat.{ℕ, zero, suc, _+_, _*_, _-_, _/_, _%_, _<_}
-use mathlib.Core.Bool.{Bool, true, false, _&&_}
-use mathlib.Core.Path.{_≡_, refl, ap, _∙_}
+use mathlib.Core.Bool.{Bool, true, false, and-false}
+use mathlib.Core.Path.{_≡_, refl, sym, ap, _∙_}
 use mathlib.Core.List.{List}
 use native.Mathlib.Numerals.{sub-one}
 use native.Mathlib.Omega.{arith}
@@ -27,14 +27,10 @@ module _ (d : List ℕ) where
   unfolding cells offset size
   caught-at x y h g = rw (lt-ltb x clients h, lt-ltb y revisions g, part-byte d caughtPart 38912 128 (8 * x + y / 8) refl refl (omega arith))
 
-  none : (b : Bool) → false ≡ (b && false)
-  none true = refl
-  none false = refl
-
   -- the main revision has no row, and a row that is not in use has no mark
   pub main-unmarked : (r u : ℕ) → r ≡ 0 → false ≡ marked (cells d) r u
   unfolding cells
-  main-unmarked r u e = rw e (none (cells d .used 0))
+  main-unmarked r u e = rw e (sym (and-false (cells d .used 0)))
 
   pub unused-unmarked : (r u : ℕ) → cells d .used r ≡ false → false ≡ marked (cells d) r u
   unused-unmarked r u e = rw e

@@ -1,12 +1,12 @@
 -- Membership as a test, and the elements that pass a test.
 use Prim.Native.Nat.{ℕ}
-use mathlib.Core.Bool.{Bool, _||_, cond, false, false≢true, true}
+use mathlib.Core.Bool.{Bool, _||_, cond, false, false≢true, or-assoc, true}
 use mathlib.Core.Path.{_∙_, _≡_, ap, refl, sym}
 use mathlib.Core.List.{List, List·Memᴰ·head, List·Memᴰ·tail, List·Nodup, Memᴰ·cast, Sublistᴰ·cons, Sublistᴰ·cons-cons, Sublistᴰ·slnil, []}
 use mathlib.Core.List.{_++_, _∷_, nodup-cons}
 use lib.Dec.{eqb}
 use borrow.Author.Tests.{eq-eqb, eqb-true, ne-eqb}
-use Rattle.lists.proofs.Cases.{cases, either, or-assoc, or-cases, or-left, or-right}
+use Rattle.lists.proofs.Cases.{cases, either, or-cases, or-left, or-right}
 use Rattle.lists.proofs.Sublists.{⊑-⊆}
 use Rattle.lists.specs.Lists.{_∈_, _⊑_, flatBack, keep, member}
 

@@ -1,6 +1,6 @@
 -- Bytes by their bits: a byte is the byte of its own bits; the bits of an or and of an exclusive or; one bit alone.
 use Prim.Native.Nat.{ℕ, zero, suc, _+_, _*_, _/_, _%_, _^_, _<_}
-use mathlib.Core.Bool.{Bool, true, not, cond, _||_, _&&_}
+use mathlib.Core.Bool.{Bool, true, not, cond, _||_, _&&_, or-false}
 use mathlib.Core.Path.{_≡_, refl, sym, _∙_, ap}
 use native.Mathlib.Omega.{arith}
 use lib.Bits.{bitOr, bitXor, or-lt, or-mod, or-shr, xor-lt, xor-mod, xor-shr}
@@ -8,7 +8,7 @@ use lib.Dec.{eqb}
 use lib.Pow.{pow-lt}
 use borrow.Author.Tests.{eqb-true}
 use Rattle.lists.specs.Lists.{changed}
-use Rattle.lists.proofs.Cases.{cases, or-nil, or-right}
+use Rattle.lists.proofs.Cases.{cases, or-right}
 use Rattle.cells.specs.Tables.{every}
 use Rattle.cells.specs.Marks.{bit, byteOf}
 use Rattle.cells.proofs.Tables.{every-at}
@@ -78,7 +78,7 @@ set-byte b k h g =
     let w : 1 * 2 ^ k % 256 ≡ 2 ^ k = omega arith in
     ap (bitOr b) w
     ∙ byte-is (bitOr b (2 ^ k)) (changed (bit b) k true) (or-lt 8 b (2 ^ k) h l)
-    (λ j m. bit-or b (2 ^ k) j ∙ ap (λ x. bit b j || x) (bit-one k j g m) ∙ cases (eqb j k) (λ e. rw e (or-right (bit b j) true refl)) (λ e. rw e (or-nil (bit b j))))
+    (λ j m. bit-or b (2 ^ k) j ∙ ap (λ x. bit b j || x) (bit-one k j g m) ∙ cases (eqb j k) (λ e. rw e (or-right (bit b j) true refl)) (λ e. rw e (or-false (bit b j))))
 
 -- bytes g in a row: their marks, each byte's where it lies
 at-place : (g : ℕ → ℕ) (k j : ℕ) → j < 8 → bit (g ((8 * k + j) / 8)) ((8 * k + j) % 8) ≡ bit (g k) j

@@ -1,6 +1,6 @@
 -- Rows by value: one mark set, marks that agree inside the rows stay so through each change, and rows stored in turn.
 use Prim.Native.Nat.{ℕ, _+_, _*_, _/_, _%_, _<_, _≤_}
-use mathlib.Core.Bool.{Bool, true, false, cond, not, _||_, _&&_, and-false, and-true}
+use mathlib.Core.Bool.{Bool, true, false, cond, not, _||_, _&&_, and-false, and-true, or-false}
 use mathlib.Core.Path.{_≡_, refl, sym, _∙_, ap}
 use mathlib.Core.List.{List, [], _++_, append-assoc}
 use native.Mathlib.Omega.{arith}
@@ -9,7 +9,7 @@ use lib.ListN.{length, length-append, set, take, drop, getD, replicate, length-r
 use lib.Seq.{take-at, length-take-le}
 use borrow.Author.Tests.{eq-eqb, eqb-true, eqb-false, ne-eqb}
 use Rattle.lists.specs.Lists.{changed}
-use Rattle.lists.proofs.Cases.{cases, or-nil, or-right}
+use Rattle.lists.proofs.Cases.{cases, or-right}
 use Rattle.cells.specs.Tables.{tab}
 use Rattle.cells.specs.Words.{byte}
 use Rattle.cells.specs.Marks.{bit, byteOf, markAt, markIn, rowBytes, putRow, pack, rows, markOf}
@@ -51,7 +51,7 @@ only-row w r v h e =
 
 -- the marks of w as told
 pub marks-on : (row w : List ℕ) (on : Bool) → on ≡ true → rowBytes 8 (λ y. markAt row y || markAt w y) ≡ rowBytes 8 (λ y. cond (markAt w y) on (markAt row y))
-marks-on row w on q = rowBytes-same 8 _ (λ y. cond (markAt w y) on (markAt row y)) (λ y h. cases (markAt w y) (λ e. rw (e, q) (or-right (markAt row y) true refl)) (λ e. rw e (or-nil (markAt row y))))
+marks-on row w on q = rowBytes-same 8 _ (λ y. cond (markAt w y) on (markAt row y)) (λ y h. cases (markAt w y) (λ e. rw (e, q) (or-right (markAt row y) true refl)) (λ e. rw e (or-false (markAt row y))))
 
 pub marks-off : (row w : List ℕ) (on : Bool) → on ≡ false → rowBytes 8 (λ y. markAt row y && not (markAt w y)) ≡ rowBytes 8 (λ y. cond (markAt w y) on (markAt row y))
 marks-off row w on q = rowBytes-same 8 _ (λ y. cond (markAt w y) on (markAt row y)) (λ y h. cases (markAt w y) (λ e. rw (e, q) (and-false (markAt row y))) (λ e. rw e (and-true (markAt row y))))

@@ -1,6 +1,6 @@
 -- Entries put behind others in a buffer, and what was gathered along the links.
 use Prim.Native.Nat.{ℕ, zero, suc, _+_, _-_, _<_, _≤_, min}
-use mathlib.Core.Bool.{Bool, true, false, cond, _&&_, _||_}
+use mathlib.Core.Bool.{Bool, false, cond, _||_, and-false}
 use mathlib.Core.Path.{_≡_, refl, sym, ap, subst, _∙_}
 use mathlib.Core.List.{List, [], _∷_, _++_, append-assoc, append-nil}
 use native.Mathlib.Numerals.{add-one, sub-one}
@@ -95,14 +95,10 @@ picks-next b f l i h =
     ap (λ j. picks b f (take i l) ++ offered b f j (getD l i 0)) (sym e) ∙ sym (picks-more b f (take i l) (getD l i 0)) ∙ ap (picks b f) (sym (ap (λ j. take j l) (add-one i) ∙ take-suc l i 0 h))
 
 -- what is not below 4,096 is not marked
-none : (b : Bool) → false ≡ (b && false)
-none true = refl
-none false = refl
-
 pub past-marks : (d : List ℕ) (r u : ℕ) → updates ≤ u → false ≡ marked (cells d) r u
 unfolding cells
-past-marks d zero u h = none (cells d .used 0)
-past-marks d (suc r) u h = rw (le-ltb u updates h) (cases (ltb r 63) (λ e. rw e (none (cells d .used (suc r)))) (λ e. rw e (none (cells d .used (suc r)))))
+past-marks d zero u h = sym (and-false (cells d .used 0))
+past-marks d (suc r) u h = rw (le-ltb u updates h) (cases (ltb r 63) (λ e. rw e (sym (and-false (cells d .used (suc r))))) (λ e. rw e (sym (and-false (cells d .used (suc r))))))
 
 -- along the links
 pub gather-none : (link : ℕ → ℕ) (u n : ℕ) (out : List ℕ) → n ≡ 0 → out ≡ chain link u n ++ drop n out

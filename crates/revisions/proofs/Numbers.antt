@@ -3,16 +3,14 @@ use Prim.Native.Nat.{ℕ, _<_, _≤_}
 use mathlib.Core.Path.{_≡_, sym, _∙_, ap}
 use mathlib.Core.List.{List}
 use native.Mathlib.Omega.{arith}
-use lib.Dec.{ltb}
-use borrow.Author.Tests.{ltb-true, ltb-false, lt-ltb, le-ltb, eq-eqb, ne-eqb}
-use Rattle.lists.proofs.Cases.{cases}
+use borrow.Author.Tests.{lt-ltb, le-ltb, eq-eqb, ne-eqb}
 use Rattle.cells.specs.Sizes.{clients, revisions}
 use Rattle.cells.specs.Decode.{cells}
 use Rattle.fields.specs.Numbers.{revisionCheck}
 use Rattle.fields.specs.declared.table.Client.{Client}
 use Rattle.fields.specs.declared.table.Revision.{Revision}
 use Rattle.fields.specs.declared.table.RevisionCheck.the-variants as revision
-use Rattle.fields.proofs.InRange.{known-revision, strange-revision}
+use Rattle.fields.proofs.InRange.{below, known-revision, not-below, strange-revision}
 use Rattle.revisions.specs.Checks.{clientCheck, givenCheck, leftCheck}
 use Rattle.revisions.specs.declared.checks.GivenCheck.the-variants as given
 use Rattle.revisions.specs.declared.checks.LeftCheck.the-variants as left
@@ -26,17 +24,11 @@ same n c e = let q : record { 0 = n } ≡ c = cc e in cc
 
 pub known-client : (n : ℕ) (c : Client) → clientCheck n ≡ Known c → (c .0 ≡ n) × (n < clients)
 unfolding clientCheck
-known-client n c e =
-    cases (ltb n clients)
-    (λ q. (same n c (sym (rw q) ∙ e), ltb-true n clients q))
-    (λ q. absurd (different c (sym e ∙ rw q)))
+known-client n c e = let k = below n clients (Known (record { 0 = n })) Strange e (λ q. different c (sym q)) in (same n c (k .0), k .1)
 
 pub strange-client : (n : ℕ) → clientCheck n ≡ Strange → clients ≤ n
 unfolding clientCheck
-strange-client n e =
-    cases (ltb n clients)
-    (λ q. absurd (different (record { 0 = n }) (sym (rw q) ∙ e)))
-    (λ q. ltb-false n clients q)
+strange-client n e = not-below n clients (Known (record { 0 = n })) Strange e (different (record { 0 = n }))
 
 same-revision : (n : ℕ) (r : Revision) → r .0 ≡ n → record { 0 = n } ≡ r
 same-revision n r e = ap (λ (k : ℕ). record { 0 = k }) (sym e)

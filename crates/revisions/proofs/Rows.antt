@@ -1,6 +1,6 @@
 -- The row of a forked revision: one own update after the other is marked.
 use Prim.Native.Nat.{ℕ, zero, suc, _+_, _*_, _/_, _%_, _<_, _≤_}
-use mathlib.Core.Bool.{Bool, true, _&&_, _||_}
+use mathlib.Core.Bool.{Bool, true, _&&_, _||_, or-assoc, or-false}
 use mathlib.Core.Path.{_≡_, refl, sym, ap, _∙_}
 use mathlib.Core.List.{List, [], _∷_}
 use native.Mathlib.Numerals.{add-one}
@@ -10,7 +10,7 @@ use lib.ListN.{length, set, getD, take}
 use lib.Seq.{take-suc}
 use borrow.Author.Tests.{ne-eqb, lt-ltb}
 use Rattle.lists.specs.Lists.{changed, member}
-use Rattle.lists.proofs.Cases.{cases, or-nil, or-assoc, or-right}
+use Rattle.lists.proofs.Cases.{cases, or-right}
 use Rattle.lists.proofs.Keep.{member-++}
 use Rattle.cells.specs.Sizes.{updates}
 use Rattle.cells.specs.Words.{byte}
@@ -32,12 +32,12 @@ module _ (f : ℕ → Bool) (l : List ℕ) (w : ℕ) where
   withFirst i u = f u || member u (take i l)
 
   none : (u : ℕ) → f u ≡ withFirst 0 u
-  none u = sym (or-nil (f u))
+  none u = sym (or-false (f u))
 
   next : (i u : ℕ) → i < length l → withFirst (i + 1) u ≡ ((f u || member u (take i l)) || eqb u (getD l i 0))
   next i u h =
       ap (λ z. f u || member u z) (ap (λ j. take j l) (add-one i) ∙ take-suc l i 0 h)
-      ∙ ap (λ b. f u || b) (member-++ u (take i l) (getD l i 0 ∷ []) ∙ ap (λ b. member u (take i l) || b) (or-nil (eqb u (getD l i 0))))
+      ∙ ap (λ b. f u || b) (member-++ u (take i l) (getD l i 0 ∷ []) ∙ ap (λ b. member u (take i l) || b) (or-false (eqb u (getD l i 0))))
       ∙ sym (or-assoc (f u) (member u (take i l)) (eqb u (getD l i 0)))
 
   pub row-more : (i : ℕ) (z : List ℕ) (x v : ℕ) → i < length l → x ≡ getD l i 0 → x < 8 * w → z ≡ rowBytes w (withFirst i) → v ≡ byteOf (changed (bit (byte z (x / 8))) (x % 8) true) → set z (x / 8) v ≡ rowBytes w (withFirst (i + 1))
@@ -47,12 +47,12 @@ module _ (f : ℕ → Bool) (l : List ℕ) (w : ℕ) where
       ∙ rowBytes-same w (changed (withFirst i) x true) (withFirst (i + 1))
       (λ u m. cases (eqb u x)
       (λ y. rw y (sym (next i u h ∙ or-right (withFirst i u) (eqb u (getD l i 0)) (rw q at y))))
-      (λ y. rw y (sym (next i u h ∙ ap (λ b. withFirst i u || b) (rw q at y) ∙ or-nil (withFirst i u)))))
+      (λ y. rw y (sym (next i u h ∙ ap (λ b. withFirst i u || b) (rw q at y) ∙ or-false (withFirst i u)))))
 
   -- what is not below 8 * w has no mark
   pub row-skip : (i : ℕ) (z : List ℕ) → i < length l → 8 * w ≤ getD l i 0 → z ≡ rowBytes w (withFirst i) → z ≡ rowBytes w (withFirst (i + 1))
   row-skip i z h g e =
-      e ∙ rowBytes-same w (withFirst i) (withFirst (i + 1)) (λ u m. sym (next i u h ∙ ap (λ b. withFirst i u || b) (ne-eqb u (getD l i 0) (omega arith)) ∙ or-nil (withFirst i u)))
+      e ∙ rowBytes-same w (withFirst i) (withFirst (i + 1)) (λ u m. sym (next i u h ∙ ap (λ b. withFirst i u || b) (ne-eqb u (getD l i 0) (omega arith)) ∙ or-false (withFirst i u)))
 
 -- the row before the loop, and after it
 pub row-start : (w : ℕ) (f : ℕ → Bool) (l z : List ℕ) → z ≡ rowBytes w f → z ≡ rowBytes w (withFirst (markAt z) l w 0)

@@ -1,6 +1,6 @@
 -- A fork: the cells follow.
 use Prim.Native.Nat.{_≤_, _<_, suc, ℕ}
-use mathlib.Core.Bool.{Bool, _&&_, _||_, cond, false, true}
+use mathlib.Core.Bool.{Bool, _&&_, _||_, cond, false, or-assoc, or-false, true}
 use mathlib.Core.Path.{_∙_, _≡_, ap, refl, subst, sym}
 use mathlib.Core.List.{List, _++_, _∷_}
 use native.Mathlib.Omega.{arith}
@@ -9,7 +9,7 @@ use lib.ListN.{length, take}
 use lib.Seq.{length-take-le, take-all}
 use borrow.Author.Tests.{eq-eqb, eqb-false, eqb-true, le-ltb, lt-ltb, ltb-false, ltb-true, ne-eqb}
 use Rattle.lists.specs.Lists.{_∈_, insert, member}
-use Rattle.lists.proofs.Cases.{cases, either, or-assoc, or-cases, or-nil, or-right}
+use Rattle.lists.proofs.Cases.{cases, either, or-cases, or-right}
 use Rattle.lists.proofs.Keep.{member-++, member-in}
 use Rattle.lists.proofs.Places.{insert-back, insert-old}
 use Rattle.machine.specs.Machine.{Machine, forkOn}
@@ -79,7 +79,7 @@ module _ (k : Cells) (m : Machine) (h : Represents k m) (L : Laid m) (p : ℕ) (
   from-main : p ≡ main → (v : ℕ) → member v (m .inherited p ++ m .own p) ≡ (member v (take (k .count main) (m .own main)) || false)
   from-main e v =
       let n = count-is k m h main (h .main-out) in
-      rw (e, h .main-inherits, take-all (k .count main) (m .own main) (omega arith), or-nil)
+      rw (e, h .main-inherits, take-all (k .count main) (m .own main) (omega arith), or-false)
 
   from-other : (v : ℕ) → member v (m .inherited p ++ m .own p) ≡ (member v (take (k .base p) (m .own main)) || forkRow k p v)
   from-other v =

@@ -1,6 +1,6 @@
 -- What the terminals see after each step; and the marks that say which client has caught up with which revision.
 use Prim.Native.Nat.{ℕ, suc, _<_}
-use mathlib.Core.Bool.{Bool, true, false, cond, not, _||_}
+use mathlib.Core.Bool.{Bool, true, false, cond, not, _||_, Bool·not-not, or-false}
 use mathlib.Core.Path.{_≡_, refl, _∙_, ap}
 use mathlib.Core.Option.{Option, none, some}
 use mathlib.Core.List.{_∷_}
@@ -9,7 +9,7 @@ use lib.ListN.{length}
 use lib.Dec.{eqb}
 use borrow.Author.Tests.{eqb-true, ne-eqb}
 use Rattle.lists.specs.Lists.{changed}
-use Rattle.lists.proofs.Cases.{cases, or-nil}
+use Rattle.lists.proofs.Cases.{cases}
 use Rattle.lists.proofs.Changed.{changed-other, changed-same}
 use Rattle.diagram.specs.Diagram.{Diagram, Vertex, event, fork, join, leads, start}
 use Rattle.diagram.specs.Day.{Day}
@@ -29,10 +29,6 @@ forkSeen y z x = leads (y .diagram) (y .forkOf z) (y .terminal x)
 abbrev pub caught : Day → ℕ → ℕ → Bool
 caught y c r = not (missing (y .diagram) (y .lastEvent c) (y .terminal r))
 
-not-not : (b : Bool) → not (not b) ≡ b
-not-not true = refl
-not-not false = refl
-
 -- the mark follows what the terminals see
 follow : (d e : Diagram) (o : Option ℕ) (x z : ℕ) → ((l : ℕ) → o ≡ some l → leads e l z ≡ leads d l x) → not (missing e o z) ≡ not (missing d o x)
 follow d e none x z f = refl
@@ -40,7 +36,7 @@ follow d e (some l) x z f = rw (f l refl)
 
 follow-two : (d e : Diagram) (o : Option ℕ) (x w z : ℕ) → ((l : ℕ) → o ≡ some l → leads e l z ≡ (leads d l x || leads d l w)) → not (missing e o z) ≡ (not (missing d o x) || not (missing d o w))
 follow-two d e none x w z f = refl
-follow-two d e (some l) x w z f = rw (f l refl, not-not (leads d l x), not-not (leads d l w)) (not-not _)
+follow-two d e (some l) x w z f = rw (f l refl, Bool·not-not (leads d l x), Bool·not-not (leads d l w)) (Bool·not-not _)
 
 module _ (y : Day) (F : Fine y) where
   abbrev d : Diagram
@@ -66,7 +62,7 @@ module _ (y : Day) (F : Fine y) where
     enter-sees : (l x : ℕ) → l < length d → leads (v ∷ d) l (changed (y .terminal) r (length d) x) ≡ leads d l (y .terminal x)
     enter-sees l x h =
         cases (eqb x r)
-        (λ e. rw (e, leads-to-newest v d l h, eqb-true x r e) (or-nil _))
+        (λ e. rw (e, leads-to-newest v d l h, eqb-true x r e) (or-false _))
         (λ e. rw e (leads-old v d l (y .terminal x) (low x)))
 
     pub enter-start : (z x : ℕ) → startSeen (enter y c r u) z x ≡ startSeen y z x
@@ -83,7 +79,7 @@ module _ (y : Day) (F : Fine y) where
         (λ e. rw e (leads-old v d (length d) (y .terminal x) (low x) ∙ leads-from-newer d (length d) (y .terminal x) (omega arith)))
 
     pub caught-own : (x : ℕ) → caught (enter y c r u) c x ≡ eqb x r
-    caught-own x = rw (changed-same (y .lastEvent) c (some (length d))) (not-not _ ∙ own-sees x)
+    caught-own x = rw (changed-same (y .lastEvent) c (some (length d))) (Bool·not-not _ ∙ own-sees x)
 
     pub caught-other : (o x : ℕ) → (o ≡ c → ⊥) → caught (enter y c r u) o x ≡ caught y o x
     caught-other o x n = rw (changed-other (y .lastEvent) c (some (length d)) o n) (follow d (v ∷ d) (y .lastEvent o) (y .terminal x) (enter y c r u .terminal x) (λ l e. enter-sees l x (last-low o l e)))
@@ -107,10 +103,10 @@ module _ (y : Day) (F : Fine y) where
         (λ e. rw (ne-eqb x n k, e) (leads-old sv (fv ∷ d) l (y .terminal x) (omega (arith, low x)) ∙ leads-old fv d l (y .terminal x) (low x)))
 
     fork-sees : (l x : ℕ) → l < length d → (x ≡ n → ⊥) → leads (forkAt y r .diagram) l (forkAt y r .terminal x) ≡ leads d l (y .terminal x)
-    fork-sees l x h k = at-old l x k ∙ cases (eqb x r) (λ e. rw (e, leads-to-newest fv d l h, eqb-true x r e) (or-nil _)) (λ e. rw e)
+    fork-sees l x h k = at-old l x k ∙ cases (eqb x r) (λ e. rw (e, leads-to-newest fv d l h, eqb-true x r e) (or-false _)) (λ e. rw e)
 
     fork-new : (l : ℕ) → l < length d → leads (forkAt y r .diagram) l (forkAt y r .terminal n) ≡ leads d l (y .terminal r)
-    fork-new l h = rw (changed-same (changed (y .terminal) r (length d)) n (suc (length d)), leads-to-newest sv (fv ∷ d) l (omega arith), leads-to-newest fv d l h, or-nil (leads d l (y .terminal r))) (or-nil _)
+    fork-new l h = rw (changed-same (changed (y .terminal) r (length d)) n (suc (length d)), leads-to-newest sv (fv ∷ d) l (omega arith), leads-to-newest fv d l h, or-false (leads d l (y .terminal r))) (or-false _)
 
     pub fork-start : (z x : ℕ) → (z ≡ n → ⊥) → (x ≡ n → ⊥) → startSeen (forkAt y r) z x ≡ startSeen y z x
     fork-start z x j k = ap (λ l. leads (forkAt y r .diagram) l (forkAt y r .terminal x)) (changed-other (y .startOf) n _ z j) ∙ fork-sees (y .startOf z) x (start-low z) k
@@ -153,7 +149,7 @@ module _ (y : Day) (F : Fine y) where
     join-sees l x k = rw (changed-other (y .terminal) a (length d) x k) (leads-old jv d l (y .terminal x) (low x))
 
     join-joiner : (l : ℕ) → l < length d → leads (jv ∷ d) l (changed (y .terminal) a (length d) a) ≡ (leads d l (y .terminal a) || leads d l (y .terminal b))
-    join-joiner l h = rw (changed-same (y .terminal) a (length d), leads-to-newest jv d l h, or-nil (leads d l (y .terminal b)))
+    join-joiner l h = rw (changed-same (y .terminal) a (length d), leads-to-newest jv d l h, or-false (leads d l (y .terminal b)))
 
     pub join-start : (z x : ℕ) → (x ≡ a → ⊥) → startSeen (joinInto y a b) z x ≡ startSeen y z x
     join-start z x k = join-sees (y .startOf z) x k
