@@ -7,7 +7,7 @@ use native.Mathlib.Omega.{arith}
 use lib.Dec.{eqb}
 use lib.ListN.{length, length-append, set, take, drop, getD, replicate, length-replicate, getD-replicate}
 use lib.Seq.{take-at, length-take-le}
-use borrow.Author.Tests.{eq-eqb, eqb-true, eqb-false, ne-eqb}
+use borrow.Author.Tests.{eq-eqb, eqb-true, eqb-false, ne-eqb, lt-ltb}
 use Rattle.lists.specs.Lists.{changed}
 use Rattle.lists.proofs.Cases.{cases, or-right}
 use Rattle.cells.specs.Tables.{tab}
@@ -115,6 +115,10 @@ module _ (t : List ℕ) (s z : List (List ℕ)) (p c : ℕ) (pl : p < 64) (cl : 
 
   pub join-caught-stored : s ≡ rows 16 (markIn 8 16 t) → z ≡ rows 16 (joinCaught (markOf s) p c) → pack 16 (markOf z) ≡ pack 16 (joinCaught (markIn 8 16 t) p c)
   join-caught-stored e g = stored 16 _ _ z (as-rows 16 _ z g) (join-caught-same (markOf s) (markIn 8 16 t) p c pl cl (as-rows 16 _ s e))
+
+-- row x of n rows, loaded
+pub row-loaded : (n : ℕ) (t : List ℕ) (x : ℕ) → x < n → rowBytes 8 (λ y. bit (byte t (8 * x + y / 8)) (y % 8)) ≡ rowBytes 8 (markIn 8 n t x)
+row-loaded n t x h = rowBytes-same 8 _ (markIn 8 n t x) (λ y g. rw (lt-ltb x n h, lt-ltb y 64 g))
 
 -- rows stored one after the other: x of them are
 pub pack-none : (f : ℕ → ℕ → Bool) → [] ≡ pack 0 f

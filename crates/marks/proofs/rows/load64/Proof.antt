@@ -1,15 +1,13 @@
 -- `marks::rows::load64` meets its contract: the rows up to `x` are stored. Assumes nothing.
-use Prim.Native.Nat.{_%_, _*_, _+_, _-_, _/_, _<_, _≤_, ℕ}
+use Prim.Native.Nat.{_-_, _≤_}
 use mathlib.Core.Path.{_∙_, _≡_}
 use native.Mathlib.Omega.{arith}
 use lib.ListN.{length, take}
 use borrow.Author.Needs.{needs}
-use borrow.Author.Tests.{lt-ltb}
-use Rattle.cells.specs.Marks.{bit, markIn, rowBytes, rows}
+use Rattle.cells.specs.Marks.{markIn, rowBytes, rows}
 use Rattle.cells.specs.Tables.{tab}
-use Rattle.cells.specs.Words.{byte}
-use Rattle.cells.proofs.Marks.{rowBytes-same}
 use Rattle.cells.proofs.Tables.{tab-done, tab-more, tab-none}
+use Rattle.marks.proofs.Laws.{row-loaded}
 use Rattle.marks.proofs.rows.load64.Statement.{statement}
 use Rattle.marks.proofs.rows.load64.Tie as tie
 
@@ -26,8 +24,7 @@ loop-again : tie.Need-loop-again Inv-loop μ-loop
 loop-again c =
     let t = c .before .before .before .before .args .t .now in
     let l = c .before .before .loop in
-    let marks : (y : ℕ) → y < 64 → bit (byte t (8 * l .x + y / 8)) (y % 8) ≡ markIn 8 64 t (l .x) y = λ y h. rw (lt-ltb (l .x) 64 (omega arith), lt-ltb y 64 h) in
-    (omega arith, search needs, tab-more _ (l .s) (l .x) _ (omega arith) (l .inv .2) (c .load-row .ensures ∙ rowBytes-same 8 _ _ marks))
+    (omega arith, search needs, tab-more _ (l .s) (l .x) _ (omega arith) (l .inv .2) (c .load-row .ensures ∙ row-loaded 64 t (l .x) (omega arith)))
 
 returns : tie.Need-returns Inv-loop μ-loop
 unfolding rows
