@@ -1,17 +1,16 @@
 -- The bytes that an update leaves, of any table in range: their cells, their length, and whether they are in range again.
 use Prim.Native.Nat.{ℕ, suc, _<_, _≤_}
-use mathlib.Core.Bool.{Bool, true, false, cond}
-use mathlib.Core.Path.{_≡_, refl, sym, _∙_, ap, subst}
+use mathlib.Core.Bool.{true, false}
+use mathlib.Core.Path.{_≡_, sym, _∙_, ap, subst}
 use mathlib.Core.List.{List}
 use native.Mathlib.Omega.{arith}
 use lib.Dec.{eqb, ltb}
 use lib.ListN.{length}
-use borrow.Author.Tests.{eq-eqb, ltb-true, ltb-false}
+use borrow.Author.Tests.{ltb-true, ltb-false}
 use Rattle.lists.proofs.Cases.{cases, cond-all}
 use Rattle.lists.proofs.Changed.{changed-at, changed-same}
 use Rattle.cells.specs.Sizes.{bytes, clients, revisions, updates}
 use Rattle.cells.specs.Parts.{Parts, Sized, glue, split}
-use Rattle.cells.specs.Cells.{Cells}
 use Rattle.cells.specs.Decode.{cells, decode}
 use Rattle.cells.specs.Range.{inRange, partsIn}
 use Rattle.cells.specs.CellSteps.{updateCells}

@@ -6,23 +6,18 @@ use mathlib.Core.Path.{_≡_}
 use mathlib.Core.List.{List}
 use lib.Dec.{eqb}
 use lib.ListN.{length}
-use Rattle.updates.specs.Effect.{stateOf, valueIn}
-use Rattle.updates.specs.declared.standing.Standing.{Standing}
+use Rattle.updates.specs.Kinds.{badBib}
 use Rattle.table.specs.Halves.{bytes}
-use Rattle.table.specs.Calls.{badBib, freshOut, joinOut, noProspect, previewOut, standingAt}
+use Rattle.table.specs.Calls.{foreseen, freshOut, joinOut, noProspect, previewOut, standingAt}
 use Rattle.table.specs.declared.answer.Prospect.{Prospect}
 use Rattle.consistency.specs.Table.{Request, tableAfter}
-
--- how a bib stands on the copy, and what the join there gained
-abbrev pub readThere : Standing → ℕ → Prospect
-readThere s gain = record { code = 0; state = stateOf s; value = valueIn s; gain = gain }
 
 -- the join is made on a copy, and the copy is read at the joiner. A reading is no query: no client's checks are asked there.
 unfoldable pub onCopy : List ℕ → ℕ → ℕ → ℕ → Prospect
 onCopy t n m bib =
     cond (not (eqb (joinOut t n m .code) 0)) (noProspect (joinOut t n m .code)) (
     cond (badBib bib) (noProspect 5) (
-    readThere (standingAt (joinOut t n m .lent) n bib) (joinOut t n m .value)))
+    foreseen (standingAt (joinOut t n m .lent) n bib) (joinOut t n m .value)))
 
 abbrev pub PreviewsFollowJoins : Type 0
 PreviewsFollowJoins =

@@ -30,7 +30,7 @@ pub fn join(t: &mut [u8], joiner: u8, joinee: u8) {
 
 // With the sheet's bytes, if there are few.
 pub fn list(t: &[u8], revision: u8, sheet: &mut [u8]) {
-    say::answer(b"list", reading::list::list(t, revision, sheet));
+    say::answer(b"list", showing::list::list(t, revision, sheet));
     if sheet.len() < 100 {
         say::bytes(sheet);
     }

@@ -6,13 +6,13 @@ use mathlib.Core.List.{List}
 use native.Mathlib.Omega.{arith}
 use lib.Dec.{ltb}
 use borrow.Author.Tests.{ltb-true, not-false}
+use Rattle.updates.specs.Kinds.{badBib}
 use Rattle.cells.specs.Sizes.{updates}
 use Rattle.cells.specs.Decode.{cells}
 use Rattle.cells.specs.Checks.{logFull}
 use Rattle.entries.specs.Sizes.{bibs}
 use Rattle.revisions.specs.Checks.{logCheck}
 use Rattle.revisions.specs.declared.checks.LogCheck.the-variants as log
-use Rattle.table.specs.Calls.{badBib}
 use Rattle.table.proofs.Checks.{held, failed}
 
 -- code 5

@@ -3,12 +3,11 @@ use Prim.{Unit}
 use Prim.Native.Nat.{ℕ, _<_}
 use mathlib.Core.Bool.{cond}
 use mathlib.Core.List.{List}
-use Rattle.updates.specs.Kinds.{kindCheck}
+use Rattle.updates.specs.Kinds.{kindCheck, badBib}
 use Rattle.cells.specs.Sizes.{clients, revisions, updates}
 use Rattle.cells.specs.Decode.{cells}
 use Rattle.cells.specs.Checks.{logFull}
 use Rattle.entries.specs.Sizes.{bibs}
-use Rattle.table.specs.Calls.{badBib}
 use Rattle.table.specs.Found.{onKind, onEvent}
 use Rattle.table.specs.Checks.{placeCheck, turnCheck}
 use Rattle.entering.specs.declared.update.UpdateCheck.{UpdateCheck}

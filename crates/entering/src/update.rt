@@ -36,8 +36,8 @@ pub enum UpdateCheck {
     Refused(u8),
 }
 
-// Checks 2 to 9.
-pub fn check_update(d: &[u8], client: u8, revision: u8, kind: u8, bib: u16) -> UpdateCheck
+// Checks 2 to 9, on the lower half.
+fn check_lower(d: &[u8], client: u8, revision: u8, kind: u8, bib: u16) -> UpdateCheck
     requires { ⌜ length (now d) ≡ Lower.bytes ⌝ }
     ensures { λ a. ⌜ (a ≡ updateCheck (now (d .entry)) client revision kind bib) × updateIn (now (d .entry)) bib a ⌝ }
 {
@@ -63,6 +63,14 @@ pub fn check_update(d: &[u8], client: u8, revision: u8, kind: u8, bib: u16) -> U
             }
         }
     }
+}
+
+// The same of a whole table.
+pub fn check_update(t: &[u8], client: u8, revision: u8, kind: u8, bib: u16) -> UpdateCheck
+    requires { ⌜ length (now t) ≡ bytes ⌝ }
+    ensures { λ a. ⌜ (a ≡ updateCheck (low (now (t .entry))) client revision kind bib) × updateIn (low (now (t .entry))) bib a ⌝ }
+{
+    check_lower(&t[0..40960], client, revision, kind, bib)
 }
 
 // The update is r's last event; its number is the answer.
@@ -96,7 +104,7 @@ fn update_sound(t: &mut [u8], client: u8, revision: u8, kind: u8, bib: u16, v: u
     requires { ⌜ (isTable (now t) ≡ true) × (length (now t) ≡ bytes) × (inRange (low (now t)) ≡ true) ⌝ }
     ensures { λ a. ⌜ left a (now (t .exit)) ≡ updateOut (now (t .entry)) client revision kind bib v ⌝ }
 {
-    let found = check_update(&t[0..40960], client, revision, kind, bib);
+    let found = check_update(t, client, revision, kind, bib);
     match found {
         UpdateCheck::Refused(code) => Answer { code, value: 0 },
         UpdateCheck::Allowed(c, r, k) => {

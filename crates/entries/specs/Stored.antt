@@ -1,9 +1,10 @@
 -- An entry as six bytes: bib's low 8 bits; client, kind and bib's high 2 bits in one byte; v, the low byte first.
+use mathlib.Core.Bool.{cond}
 use Prim.Native.Nat.{ℕ, _+_, _*_, _-_, _/_, _%_}
 use mathlib.Core.List.{List, [], _∷_}
 use lib.Dec.{eqb}
 use lib.ListN.{getD}
-use Rattle.updates.specs.Kinds.{pick, kindNumber}
+use Rattle.updates.specs.Kinds.{kindNumber}
 use Rattle.updates.specs.declared.kind.Kind.{Kind}
 use Rattle.updates.specs.declared.kind.Kind.the-variants.{Time, Earliest, Penalty, Strike}
 use Rattle.entries.specs.declared.entry.Entry.{Entry}
@@ -20,7 +21,7 @@ stored e = e .bib % 256 ∷ mixed e ∷ e .v % 256 ∷ e .v / 256 % 256 ∷ e .v
 
 -- the kind whose number is one more than n, for n below 4
 unfoldable pub kindAfter : ℕ → Kind
-kindAfter n = pick (eqb n 0) Time (pick (eqb n 1) Earliest (pick (eqb n 2) Penalty Strike))
+kindAfter n = cond (eqb n 0) Time (cond (eqb n 1) Earliest (cond (eqb n 2) Penalty Strike))
 
 abbrev pub byte : List ℕ → ℕ → ℕ
 byte p i = getD p i 0

@@ -1,2 +1,2 @@
 -- A law of the packed answers.
-pub mod Handed
+pub mod Returned

@@ -25,17 +25,17 @@ packedState code state value = stateNumber state * 1099511627776 + packed code v
 abbrev pub packedGain : ℕ → State → ℕ → ℕ → ℕ
 packedGain code state value gain = gain * 281474976710656 + packedState code state value
 
-pub record Handed : Type 0 where
+pub record Returned : Type 0 where
   pub result : ℕ
   pub lent : List ℕ
 
 -- a result, and the bytes at exit
-abbrev pub handed : ℕ → List ℕ → Handed
-handed result lent = record { result = result; lent = lent }
+abbrev pub returned : ℕ → List ℕ → Returned
+returned result lent = record { result = result; lent = lent }
 
 -- an answer of 01 as its export hands it back
-unfoldable pub exported : Out → Handed
-exported o = handed (packedState (o .code) (o .state) (o .value)) (o .lent)
+unfoldable pub exported : Out → Returned
+exported o = returned (packedState (o .code) (o .state) (o .value)) (o .lent)
 
 -- a fill's two numbers, 16 bits each: the table's above the revision's own
 unfoldable pub exportedLevel : Level → ℕ

@@ -3,7 +3,7 @@
 ghost use mathlib.Core.Path.{_≡_};
 ghost use Prim.Native.Nat.{_≤_};
 ghost use Rattle.table.specs.Calls.{bundleOut, fillOut, forkOut, freshOut, joinOut, listOut, previewOut, queryOut, updateOut, yieldOut};
-ghost use Rattle.exports.specs.Packed.{exported, exportedLevel, exportedProspect, handed, packed, packedGain, packedState, stateNumber};
+ghost use Rattle.exports.specs.Packed.{exported, exportedLevel, exportedProspect, returned, packed, packedGain, packedState, stateNumber};
 use updates::standing::State;
 
 // The code in the upper 32 bits, the value in the lower.
@@ -40,7 +40,7 @@ fn pack_gain(code: u8, state: State, value: u32, gain: u16) -> u64
 
 #[no_mangle]
 pub extern "C" fn silttongs_fresh(t: &mut [u8]) -> u64
-    ensures { λ r. ⌜ handed r (now (t .exit)) ≡ exported (freshOut (now (t .entry))) ⌝ }
+    ensures { λ r. ⌜ returned r (now (t .exit)) ≡ exported (freshOut (now (t .entry))) ⌝ }
 {
     let a = branching::fresh::fresh(t);
     pack(a.code, a.value)
@@ -55,7 +55,7 @@ pub extern "C" fn silttongs_update(
     bib: u16,
     v: u32,
 ) -> u64
-    ensures { λ r. ⌜ handed r (now (t .exit)) ≡ exported (updateOut (now (t .entry)) client revision kind bib v) ⌝ }
+    ensures { λ r. ⌜ returned r (now (t .exit)) ≡ exported (updateOut (now (t .entry)) client revision kind bib v) ⌝ }
 {
     let a = entering::update::update(t, client, revision, kind, bib, v);
     pack(a.code, a.value)
@@ -63,7 +63,7 @@ pub extern "C" fn silttongs_update(
 
 #[no_mangle]
 pub extern "C" fn silttongs_bundle(t: &mut [u8], client: u8, revision: u8, records: &[u8]) -> u64
-    ensures { λ r. ⌜ handed r (now (t .exit)) ≡ exported (bundleOut (now (t .entry)) client revision (now (records .entry))) ⌝ }
+    ensures { λ r. ⌜ returned r (now (t .exit)) ≡ exported (bundleOut (now (t .entry)) client revision (now (records .entry))) ⌝ }
 {
     let a = sending::bundle::bundle(t, client, revision, records);
     pack(a.code, a.value)
@@ -71,7 +71,7 @@ pub extern "C" fn silttongs_bundle(t: &mut [u8], client: u8, revision: u8, recor
 
 #[no_mangle]
 pub extern "C" fn silttongs_query(t: &mut [u8], client: u8, revision: u8, bib: u16) -> u64
-    ensures { λ r. ⌜ handed r (now (t .exit)) ≡ exported (queryOut (now (t .entry)) client revision bib) ⌝ }
+    ensures { λ r. ⌜ returned r (now (t .exit)) ≡ exported (queryOut (now (t .entry)) client revision bib) ⌝ }
 {
     let a = reading::query::query(t, client, revision, bib);
     let state = a.state;
@@ -80,7 +80,7 @@ pub extern "C" fn silttongs_query(t: &mut [u8], client: u8, revision: u8, bib: u
 
 #[no_mangle]
 pub extern "C" fn silttongs_yield(t: &mut [u8], client: u8) -> u64
-    ensures { λ r. ⌜ handed r (now (t .exit)) ≡ exported (yieldOut (now (t .entry)) client) ⌝ }
+    ensures { λ r. ⌜ returned r (now (t .exit)) ≡ exported (yieldOut (now (t .entry)) client) ⌝ }
 {
     let a = entering::yields::yields(t, client);
     pack(a.code, a.value)
@@ -88,7 +88,7 @@ pub extern "C" fn silttongs_yield(t: &mut [u8], client: u8) -> u64
 
 #[no_mangle]
 pub extern "C" fn silttongs_fork(t: &mut [u8], revision: u8) -> u64
-    ensures { λ r. ⌜ handed r (now (t .exit)) ≡ exported (forkOut (now (t .entry)) revision) ⌝ }
+    ensures { λ r. ⌜ returned r (now (t .exit)) ≡ exported (forkOut (now (t .entry)) revision) ⌝ }
 {
     let a = branching::fork::fork(t, revision);
     pack(a.code, a.value)
@@ -96,7 +96,7 @@ pub extern "C" fn silttongs_fork(t: &mut [u8], revision: u8) -> u64
 
 #[no_mangle]
 pub extern "C" fn silttongs_join(t: &mut [u8], joiner: u8, joinee: u8) -> u64
-    ensures { λ r. ⌜ handed r (now (t .exit)) ≡ exported (joinOut (now (t .entry)) joiner joinee) ⌝ }
+    ensures { λ r. ⌜ returned r (now (t .exit)) ≡ exported (joinOut (now (t .entry)) joiner joinee) ⌝ }
 {
     let a = branching::join::join(t, joiner, joinee);
     pack(a.code, a.value)
@@ -104,9 +104,9 @@ pub extern "C" fn silttongs_join(t: &mut [u8], joiner: u8, joinee: u8) -> u64
 
 #[no_mangle]
 pub extern "C" fn silttongs_list(t: &[u8], revision: u8, sheet: &mut [u8]) -> u64
-    ensures { λ r. ⌜ handed r (now (sheet .exit)) ≡ exported (listOut (now (t .entry)) revision (now (sheet .entry))) ⌝ }
+    ensures { λ r. ⌜ returned r (now (sheet .exit)) ≡ exported (listOut (now (t .entry)) revision (now (sheet .entry))) ⌝ }
 {
-    let a = reading::list::list(t, revision, sheet);
+    let a = showing::list::list(t, revision, sheet);
     pack(a.code, a.value)
 }
 
@@ -114,7 +114,7 @@ pub extern "C" fn silttongs_list(t: &[u8], revision: u8, sheet: &mut [u8]) -> u6
 pub extern "C" fn silttongs_fill(t: &[u8], revision: u8) -> u64
     ensures { λ r. ⌜ r ≡ exportedLevel (fillOut (now (t .entry)) revision) ⌝ }
 {
-    let f = reading::fill::fill(t, revision);
+    let f = showing::fill::fill(t, revision);
     pack(f.code, (f.total as u32) * 65536 + (f.own as u32))
 }
 
@@ -122,7 +122,7 @@ pub extern "C" fn silttongs_fill(t: &[u8], revision: u8) -> u64
 pub extern "C" fn silttongs_preview(t: &[u8], joiner: u8, joinee: u8, bib: u16) -> u64
     ensures { λ r. ⌜ r ≡ exportedProspect (previewOut (now (t .entry)) joiner joinee bib) ⌝ }
 {
-    let p = reading::preview::preview(t, joiner, joinee, bib);
+    let p = previewing::preview::preview(t, joiner, joinee, bib);
     let state = p.state;
     pack_gain(p.code, state, p.value, p.gain)
 }

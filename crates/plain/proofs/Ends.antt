@@ -11,7 +11,7 @@ use Rattle.lists.proofs.Cases.{or-false}
 use Rattle.updates.specs.declared.kind.Kind.{Kind}
 use Rattle.updates.specs.declared.kind.KindCheck.{KindCheck}
 use Rattle.updates.specs.declared.kind.KindCheck.the-variants.{Known, Unknown}
-use Rattle.updates.specs.Kinds.{kindCheck}
+use Rattle.updates.specs.Kinds.{kindCheck, badBib}
 use Rattle.diagram.specs.Effects.{own, view}
 use Rattle.diagram.specs.Day.{meant, nextNumber}
 use Rattle.diagram.specs.Checks.{unknownClient, openElsewhere, busyByOther, busy, stale, logFull, noneLeft, notJoinable}
@@ -20,7 +20,7 @@ use Rattle.diagram.specs.Steps.{accepted}
 use Rattle.diagram.proofs.Days.Accepting.{meant-given, accept-event, accept-yield, accept-fork, accept-join}
 use Rattle.plain.specs.Calls.{Update, Query, Yield, Fork, Join, Show, Fill, Preview}
 use Rattle.plain.specs.Record.{PlainDay, pathResult, noted}
-use Rattle.plain.specs.Answers.{Outcome, refused, taken, answered, shown, told, foreseen, check, given, badBib, named, stepped, called}
+use Rattle.plain.specs.Answers.{Outcome, refused, taken, answered, shown, told, foreseen, check, given, named, stepped, called}
 
 pub data Ends (p : PlainDay) (Yes : Outcome → Type 0) : Outcome → Type 0 where
   no : (k : ℕ) → Ends p Yes (refused p (suc (suc k)))

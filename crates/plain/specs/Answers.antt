@@ -11,7 +11,7 @@ use Rattle.updates.specs.declared.kind.KindCheck.{KindCheck}
 use Rattle.updates.specs.declared.kind.KindCheck.the-variants.{Known, Unknown}
 use Rattle.updates.specs.declared.standing.Standing.{Standing}
 use Rattle.updates.specs.declared.standing.State.the-variants as state
-use Rattle.updates.specs.Kinds.{kindCheck}
+use Rattle.updates.specs.Kinds.{kindCheck, badBib}
 use Rattle.updates.specs.Effect.{stateOf, valueIn}
 use Rattle.bundles.specs.declared.entry.Entry.{Entry}
 use Rattle.bundles.specs.Records.{entriesIn, isWrong}
@@ -54,10 +54,6 @@ check applies code p rest = cond applies (refused p code) rest
 abbrev pub given : Option ℕ → PlainDay → (ℕ → Outcome) → Outcome
 given none p rest = refused p 3
 given (some r) p rest = rest r
-
--- 5: "bib above 999"
-abbrev pub badBib : ℕ → Bool
-badBib bib = not (ltb bib 1000)
 
 -- 5: "update kind not 1 to 4"
 abbrev pub named : KindCheck → PlainDay → (Kind → Outcome) → Outcome

@@ -1,45 +1,18 @@
 -- The standing of a bib, from the entries in the upper half.
-use Prim.Native.Nat.{ℕ, _≤_}
-use mathlib.Core.Bool.{true}
-use mathlib.Core.Path.{_≡_, sym, _∙_, ap}
-use mathlib.Core.List.{List, _++_}
+use Prim.Native.Nat.{ℕ}
+use mathlib.Core.Path.{_≡_, _∙_, ap}
+use mathlib.Core.List.{List}
 use lib.ListN.{length, take}
-use borrow.Rule.Slice.PartMut.{midOf}
-use Rattle.cells.proofs.Chain.{chain-length}
-use Rattle.updates.specs.Applied.{applied, freshStanding}
 use Rattle.updates.specs.declared.standing.Standing.{Standing}
-use Rattle.cells.specs.Cells.{Cells, own}
 use Rattle.cells.specs.Order.{order}
-use Rattle.cells.specs.Range.{inRange}
 use Rattle.entries.specs.Sizes as Upper
 use Rattle.entries.specs.Entries.{entryAt}
-use Rattle.entries.specs.Folded.{ofBib, standingOf}
-use Rattle.entries.proofs.Folded.{applied-both}
-use Rattle.table.specs.Halves.{bytes, low, high, cellsOf}
-use Rattle.table.specs.Calls.{standingAt, standingAfter}
-use Rattle.table.proofs.Halves.{high-whole, fits}
+use Rattle.entries.specs.Folded.{standingOf}
+use Rattle.table.specs.Halves.{bytes, high, cellsOf}
+use Rattle.table.specs.Calls.{standingAt}
+use Rattle.table.proofs.Halves.{high-whole}
 
 -- the standing along what was listed
 pub standing-along : (t l : List ℕ) (r b : ℕ) (s : Standing) → length t ≡ bytes → l ≡ order (cellsOf t) r → s ≡ standingOf (entryAt (take Upper.bytes (high t))) b l → s ≡ standingAt t r b
 unfolding standingAt
 standing-along t l r b s h e ev = ev ∙ ap (λ (u : List ℕ). standingOf (entryAt u) b l) (high-whole t h) ∙ ap (standingOf (entryAt (high t)) b) e
-
--- the lower half lent is in range
-pub low-range : (t : List ℕ) → inRange (low t) ≡ true → inRange (midOf 0 40960 t) ≡ true
-unfolding low
-low-range t e = e
-
--- an own list in the first places
-pub own-fits : (k : Cells) (r n : ℕ) (l rest : List ℕ) → n ≡ k .count r → l ≡ own k r ++ rest → (n ≤ length l) × (take n l ≡ own k r)
-own-fits k r n l rest e h = fits n (own k r) rest l (e ∙ sym (chain-length (k .link) (k .last r) (k .count r))) h
-
--- and on along the own list of the joinee
-pub standing-joined : (t l : List ℕ) (a b bib : ℕ) (s z : Standing) → length t ≡ bytes → s ≡ standingAt t a bib → l ≡ own (cellsOf t) b
-    → z ≡ applied (ofBib (entryAt (take Upper.bytes (high t))) bib l) s → z ≡ standingAfter t a b bib
-unfolding standingAt standingAfter
-standing-joined t l a b bib s z h es el ez =
-    ez
-    ∙ ap (λ (u : List ℕ). applied (ofBib (entryAt u) bib l) s) (high-whole t h)
-    ∙ ap (λ (x : List ℕ). applied (ofBib (entryAt (high t)) bib x) s) el
-    ∙ ap (applied (ofBib (entryAt (high t)) bib (own (cellsOf t) b))) es
-    ∙ sym (applied-both (entryAt (high t)) bib (order (cellsOf t) a) (own (cellsOf t) b) freshStanding)

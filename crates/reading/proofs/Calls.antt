@@ -1,28 +1,22 @@
--- A query, a list and a fill from what their checks find.
+-- A query from what its checks find.
 use Prim.Native.Nat.{ℕ}
-use mathlib.Core.Bool.{true, false, cond}
+use mathlib.Core.Bool.{true, false}
 use mathlib.Core.Path.{_≡_, sym, _∙_}
 use mathlib.Core.List.{List, _++_}
 use Rattle.updates.specs.Effect.{stateOf, valueIn}
 use Rattle.updates.specs.declared.standing.Standing.{Standing}
-use Rattle.cells.specs.Decode.{cells}
 use Rattle.cells.specs.Steps.{queryBytes}
-use Rattle.cells.specs.Checks.{joined}
 use Rattle.fields.specs.declared.table.Client.{Client}
 use Rattle.fields.specs.declared.table.Revision.{Revision}
-use Rattle.revisions.specs.Checks.{givenCheck}
-use Rattle.revisions.specs.declared.checks.GivenCheck.{GivenCheck}
-use Rattle.revisions.specs.declared.checks.GivenCheck.the-variants as given
 use Rattle.table.specs.Halves.{low, high, isTable}
 use Rattle.table.specs.Answers.{refused, answered, leftRead}
-use Rattle.table.specs.Calls.{queryOut, listOut, shownOut, fillOut, fillIn, noFill, told, standingAt}
-use Rattle.table.specs.Found.{onGiven, onQuiet, onEvent}
-use Rattle.table.specs.Checks.{quietCheck, placeCheck, turnCheck}
+use Rattle.table.specs.Calls.{queryOut, standingAt}
+use Rattle.table.specs.Found.{onEvent}
+use Rattle.table.specs.Checks.{placeCheck, turnCheck}
 use Rattle.table.specs.declared.answer.Reading.{Reading}
-use Rattle.table.specs.declared.quiet.QuietCheck.{QuietCheck}
 use Rattle.table.specs.declared.event.EventCheck.{EventCheck}
 use Rattle.table.specs.declared.event.EventCheck.the-variants as event
-use Rattle.table.proofs.Calls.{client-is, given-is, quiet-cond, event-cond}
+use Rattle.table.proofs.Calls.{client-is, given-is, event-cond}
 use Rattle.reading.specs.Checks.{queryCheck}
 
 -- a refusal is handed on
@@ -31,18 +25,9 @@ unfolding onEvent
 event-ends f q k rest e h = h ∙ rw (sym e ∙ h)
 
 -- the call on bytes that are no table
-module _ (t : List ℕ) (h : isTable t ≡ false) where
-  pub no-query : (c n b : ℕ) → refused t 1 ≡ queryOut t c n b
-  unfolding queryOut
-  no-query c n b = rw h
-
-  pub no-fill : (n : ℕ) → noFill 1 ≡ fillOut t n
-  unfolding fillOut
-  no-fill n = rw h
-
-  pub no-list : (n : ℕ) (s : List ℕ) → refused s 1 ≡ listOut t n s
-  unfolding listOut
-  no-list n s = rw h
+pub no-query : (t : List ℕ) → isTable t ≡ false → (c n b : ℕ) → refused t 1 ≡ queryOut t c n b
+unfolding queryOut
+no-query t h c n b = rw h
 
 -- the call on a table, from what its checks find
 module _ (t : List ℕ) (h : isTable t ≡ true) where
@@ -60,29 +45,3 @@ module _ (t : List ℕ) (h : isTable t ≡ true) where
         → s ≡ standingAt t (y .0) b → leftRead a q ≡ queryOut t c n b
     unfolding onEvent
     query-answered x y g ea eq es = rw (ea, eq, es) (query-by c n b (event.Allowed x y) (sym e ∙ g))
-
-  pub list-by : (n : ℕ) (s : List ℕ) (z : QuietCheck) → quietCheck (low t) n ≡ z → onQuiet z (refused s) (λ r. shownOut t (r .0) s) ≡ listOut t n s
-  unfolding quietCheck listOut onQuiet
-  list-by n s z e = rw (← e) (simp (given-is, quiet-cond, h))
-
--- a fill on the lower half, from what its checks find; and of bytes that are a table
-module _ (d : List ℕ) (n : ℕ) where
-  fill-by : (z : GivenCheck) → givenCheck d n ≡ z → onGiven z (noFill 3) (λ r. cond (joined (cells d) (r .0)) (noFill 4) (told (cells d) (r .0))) ≡ fillIn (cells d) n
-  unfolding fillIn
-  fill-by z e = rw (← e) (given-is d n _ _)
-
-  pub fill-never : givenCheck d n ≡ given.Never → noFill 3 ≡ fillIn (cells d) n
-  unfolding onGiven
-  fill-never e = fill-by given.Never e
-
-  pub fill-joined : (r : Revision) → givenCheck d n ≡ given.Given r → joined (cells d) (r .0) ≡ true → noFill 4 ≡ fillIn (cells d) n
-  unfolding onGiven
-  fill-joined r e f = rw f at (fill-by (given.Given r) e)
-
-  pub fill-told : (r : Revision) → givenCheck d n ≡ given.Given r → joined (cells d) (r .0) ≡ false → told (cells d) (r .0) ≡ fillIn (cells d) n
-  unfolding onGiven
-  fill-told r e f = rw f at (fill-by (given.Given r) e)
-
-pub fill-of : (t : List ℕ) (n : ℕ) → isTable t ≡ true → fillIn (cells (low t)) n ≡ fillOut t n
-unfolding fillOut
-fill-of t n h = rw h

@@ -1,5 +1,3 @@
--- Laws of a standing, of the end of a list and of a join foreseen, and the calls from what their checks find.
+-- Laws of a standing, and a query from what its checks find.
 pub mod Along
 pub mod Calls
-pub mod Listed
-pub mod Foreseen

@@ -1,2 +1,2 @@
--- What the checks of a query and of a sheet find.
+-- What the checks of a query find.
 pub mod Checks

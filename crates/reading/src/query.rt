@@ -34,8 +34,8 @@ fn ask(t: &mut [u8], c: Client, r: Revision)
     revisions::record::query(&mut t[0..40960], c, r);
 }
 
-// Checks 2 to 8.
-fn check_query(d: &[u8], client: u8, revision: u8, bib: u16) -> EventCheck
+// Checks 2 to 8, on the lower half.
+fn check_lower(d: &[u8], client: u8, revision: u8, bib: u16) -> EventCheck
     requires { ⌜ length (now d) ≡ Lower.bytes ⌝ }
     ensures { λ a. ⌜ (a ≡ queryCheck (now (d .entry)) client revision bib) × eventIn a ⌝ }
 {
@@ -49,12 +49,20 @@ fn check_query(d: &[u8], client: u8, revision: u8, bib: u16) -> EventCheck
     event::check_turn(d, c, r)
 }
 
+// The same of a whole table.
+fn check_query(t: &[u8], client: u8, revision: u8, bib: u16) -> EventCheck
+    requires { ⌜ length (now t) ≡ bytes ⌝ }
+    ensures { λ a. ⌜ (a ≡ queryCheck (low (now (t .entry))) client revision bib) × eventIn a ⌝ }
+{
+    check_lower(&t[0..40960], client, revision, bib)
+}
+
 // The call on bytes that are a table.
 fn query_sound(t: &mut [u8], client: u8, revision: u8, bib: u16) -> Reading
     requires { ⌜ (isTable (now t) ≡ true) × (length (now t) ≡ bytes) × (inRange (low (now t)) ≡ true) ⌝ }
     ensures { λ a. ⌜ leftRead a (now (t .exit)) ≡ queryOut (now (t .entry)) client revision bib ⌝ }
 {
-    let found = check_query(&t[0..40960], client, revision, bib);
+    let found = check_query(t, client, revision, bib);
     match found {
         EventCheck::Refused(code) => Reading {
             code,

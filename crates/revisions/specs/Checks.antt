@@ -67,5 +67,5 @@ unfoldable pub leftCheck : List ℕ → LeftCheck
 leftCheck d = cond (noneLeft (cells d)) left.Exhausted (left.Next (record { 0 = cells d .given }))
 
 -- 11 "joinee is box 0, is the joiner, its fork isn't seen, or its start is"
-unfoldable pub joinCheck : List ℕ → ℕ → ℕ → JoinCheck
-joinCheck d a b = cond (joinable (cells d) a b) join.Joinable join.Not
+unfoldable pub joinableCheck : List ℕ → ℕ → ℕ → JoinCheck
+joinableCheck d a b = cond (joinable (cells d) a b) join.Joinable join.Not

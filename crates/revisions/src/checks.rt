@@ -3,7 +3,7 @@ ghost use mathlib.Core.Path.{_≡_};
 ghost use Prim.Native.Nat.{_<_};
 ghost use lib.ListN.{length};
 ghost use Rattle.cells.specs.Sizes.{bytes, clients, revisions};
-ghost use Rattle.revisions.specs.Checks.{clientCheck, givenCheck, joinCheck, joinedCheck, leftCheck, logCheck, openCheck, otherUseCheck, rangeCheck, staleCheck, useCheck};
+ghost use Rattle.revisions.specs.Checks.{clientCheck, givenCheck, joinableCheck, joinedCheck, leftCheck, logCheck, openCheck, otherUseCheck, rangeCheck, staleCheck, useCheck};
 use crate::range;
 use crate::transactions;
 use fields::numbers::wide;
@@ -181,9 +181,9 @@ pub fn check_left(d: &[u8]) -> LeftCheck
     LeftCheck::Next(c)
 }
 
-pub fn check_join(d: &[u8], a: Revision, b: Revision) -> JoinCheck
+pub fn check_joinable(d: &[u8], a: Revision, b: Revision) -> JoinCheck
     requires { ⌜ (length (now d) ≡ bytes) × (a .0 < revisions) × (b .0 < revisions) ⌝ }
-    ensures { λ r. ⌜ r ≡ joinCheck (now (d .entry)) (a .0) (b .0) ⌝ }
+    ensures { λ r. ⌜ r ≡ joinableCheck (now (d .entry)) (a .0) (b .0) ⌝ }
 {
     if b.0 == 0 {
         return JoinCheck::Not;

@@ -1,4 +1,6 @@
--- Laws of updates sent one by one, of entries packed as records, and of a slice lent again.
+-- Laws of updates sent one by one, and of a bundle.
+pub mod Going
+pub mod Fit
+pub mod Sent
+pub mod Records
 pub mod Bundles
-pub mod Packed
-pub mod Lend

@@ -1,10 +1,10 @@
 -- What is known of a bundle before anything is written, and what its updates leave: 02, U4.
 use Prim.Native.Nat.{ℕ, suc}
-use mathlib.Core.Bool.{Bool, true, false, cond}
+use mathlib.Core.Bool.{true, false, cond}
 use mathlib.Core.Path.{_≡_}
 use mathlib.Core.List.{List, [], _∷_, _++_}
 use lib.Dec.{ltb}
-use Rattle.updates.specs.Kinds.{kindCheck}
+use Rattle.updates.specs.Kinds.{kindCheck, badBib}
 use Rattle.updates.specs.declared.kind.KindCheck.{KindCheck}
 use Rattle.updates.specs.declared.kind.KindCheck.the-variants as kinds
 use Rattle.bundles.specs.declared.entry.Entry.{Entry}
@@ -14,7 +14,6 @@ use Rattle.cells.specs.Steps.{updateBytes}
 use Rattle.entries.specs.Stored.{entry}
 use Rattle.entries.specs.Entries.{wrote}
 use Rattle.table.specs.Halves.{low, high, cellsOf, isTable}
-use Rattle.table.specs.Calls.{badBib}
 use Rattle.table.specs.Found.{onKind}
 use Rattle.sending.specs.declared.bundle.FitCheck.{FitCheck}
 use Rattle.sending.specs.declared.bundle.FitCheck.the-variants.{Fits, Refused}

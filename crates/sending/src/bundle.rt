@@ -4,8 +4,9 @@ ghost use mathlib.Core.Path.{_≡_};
 ghost use Prim.Native.Nat.{_*_, _<_, _≤_};
 ghost use lib.ListN.{length};
 ghost use Rattle.cells.specs.Range.{inRange};
-ghost use Rattle.cells.specs.Sizes.{clients, revisions, updates};
-ghost use Rattle.bundles.specs.Records.{entriesFrom};
+ghost use Rattle.cells.specs.Sizes.{updates};
+ghost use Rattle.bundles.specs.Records.{entriesFrom, entryAt};
+ghost use Rattle.entering.specs.Checks.{updateCheck};
 ghost use Rattle.table.specs.Halves.{bytes, cellsOf, isTable, low};
 ghost use Rattle.table.specs.Answers.{left};
 ghost use Rattle.table.specs.Calls.{bundleOut, sentOut, settled};
@@ -19,12 +20,12 @@ use entering::update::UpdateCheck;
 use entering::update::check_update;
 use entering::update::put;
 use entering::yields::close;
-use fields::read;
 use fields::table::Client;
 use fields::table::Revision;
 use table::answer::Answer;
 use table::bib;
 use table::bib::BibCheck;
+use table::counts;
 use table::sound;
 use table::sound::TableCheck;
 use updates::kind;
@@ -119,8 +120,8 @@ fn send(t: &mut [u8], c: Client, r: Revision, b: &[u8], n: usize) -> Answer
     requires { ⌜ Going (now t) (c .0) (r .0) × (length (now t) ≡ bytes) × (12 * n ≤ length (now b)) × (n ≤ 64) ⌝ }
     ensures { λ a. ⌜ left a (now (t .exit)) ≡ settled (now (t .entry)) (sentOut (now (t .entry)) (c .0) (r .0) (entriesFrom (now (b .entry)) 0 n)) ⌝ }
 {
-    let taken = read::updates(&t[0..40960]);
-    let own = read::count(&t[0..40960], r);
+    let taken = counts::taken(t);
+    let own = counts::own(t, r);
     let found = check_sent(b, n, taken, own);
     match found {
         FitCheck::Refused(code) => Answer { code, value: 0 },
@@ -135,13 +136,21 @@ fn send(t: &mut [u8], c: Client, r: Revision, b: &[u8], n: usize) -> Answer
     }
 }
 
+// The checks of the first update.
+fn check_first(t: &[u8], client: u8, revision: u8, b: &[u8]) -> UpdateCheck
+    requires { ⌜ (length (now t) ≡ bytes) × (12 ≤ length (now b)) ⌝ }
+    ensures { λ a. ⌜ a ≡ updateCheck (low (now (t .entry))) client revision (entryAt (now (b .entry)) 0 .kind) (entryAt (now (b .entry)) 0 .bib) ⌝ }
+{
+    let e = entry_at(b, 0);
+    check_update(t, client, revision, e.kind, e.bib)
+}
+
 // The call on bytes that are a table, and a bundle of n records. The first update has all its checks; the others go on from it.
 fn bundle_sound(t: &mut [u8], client: u8, revision: u8, b: &[u8], n: usize) -> Answer
     requires { ⌜ (isTable (now t) ≡ true) × (length (now t) ≡ bytes) × (inRange (low (now t)) ≡ true) × (12 * n ≤ length (now b)) × (0 < n) × (n ≤ 64) ⌝ }
     ensures { λ a. ⌜ left a (now (t .exit)) ≡ settled (now (t .entry)) (sentOut (now (t .entry)) client revision (entriesFrom (now (b .entry)) 0 n)) ⌝ }
 {
-    let e = entry_at(b, 0);
-    let found = check_update(&t[0..40960], client, revision, e.kind, e.bib);
+    let found = check_first(t, client, revision, b);
     match found {
         UpdateCheck::Refused(code) => Answer { code, value: 0 },
         UpdateCheck::Allowed(c, r, k) => send(t, c, r, b, n),

@@ -1,3 +1,2 @@
 // Several updates of a client sent together, with the end of its transaction.
 pub mod bundle; // bundle.rt: the call bundle
-pub mod sent; // sent.rt: the call bundle on a lent list of entries

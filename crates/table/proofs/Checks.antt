@@ -6,13 +6,14 @@ use mathlib.Core.List.{List}
 use native.Mathlib.Omega.{arith}
 use lib.Dec.{ltb}
 use borrow.Author.Tests.{ltb-true}
+use Rattle.updates.specs.Kinds.{badBib}
 use Rattle.lists.proofs.Cases.{and-true}
 use Rattle.fields.specs.declared.table.Client.{Client}
 use Rattle.fields.specs.declared.table.Revision.{Revision}
 use Rattle.cells.specs.Sizes.{clients, revisions}
 use Rattle.cells.specs.Decode.{cells}
 use Rattle.cells.specs.Checks.{isClient, givenOut, joined, openElsewhere, busy, busyByOther, stale, joinable}
-use Rattle.revisions.specs.Checks.{clientCheck, givenCheck, joinedCheck, openCheck, useCheck, otherUseCheck, staleCheck, joinCheck}
+use Rattle.revisions.specs.Checks.{clientCheck, givenCheck, joinedCheck, openCheck, useCheck, otherUseCheck, staleCheck, joinableCheck}
 use Rattle.revisions.specs.declared.checks.ClientCheck.the-variants as client
 use Rattle.revisions.specs.declared.checks.GivenCheck.{GivenCheck}
 use Rattle.revisions.specs.declared.checks.GivenCheck.the-variants as given
@@ -21,7 +22,6 @@ use Rattle.revisions.specs.declared.checks.OpenCheck.the-variants as transactio
 use Rattle.revisions.specs.declared.checks.UseCheck.the-variants as revision
 use Rattle.revisions.specs.declared.checks.StaleCheck.the-variants as event
 use Rattle.revisions.specs.declared.checks.JoinCheck.the-variants as join
-use Rattle.table.specs.Calls.{badBib}
 use Rattle.table.specs.Checks.{bibCheck, quietCheck}
 use Rattle.table.specs.Found.{onGiven}
 use Rattle.table.specs.declared.bib.BibCheck.the-variants as bib
@@ -110,12 +110,12 @@ module _ (d : List ℕ) where
   is-stale c n e = held (stale (cells d) c n) _ _ _ (λ d. let z : _≡_ {A = ℕ} 0 1 = cc in omega arith) e .0
 
   -- code 11
-  pub may-join : (n m : ℕ) → joinCheck d n m ≡ join.Joinable → joinable (cells d) n m ≡ true
-  unfolding joinCheck
+  pub may-join : (n m : ℕ) → joinableCheck d n m ≡ join.Joinable → joinable (cells d) n m ≡ true
+  unfolding joinableCheck
   may-join n m e = held (joinable (cells d) n m) _ _ _ (λ d. let z : _≡_ {A = ℕ} 0 1 = cc in omega arith) e .0
 
-  pub may-not : (n m : ℕ) → joinCheck d n m ≡ join.Not → joinable (cells d) n m ≡ false
-  unfolding joinCheck
+  pub may-not : (n m : ℕ) → joinableCheck d n m ≡ join.Not → joinable (cells d) n m ≡ false
+  unfolding joinableCheck
   may-not n m e = failed (joinable (cells d) n m) _ _ _ (λ d. let z : _≡_ {A = ℕ} 0 1 = cc in omega arith) e .0
 
 -- a revision that is quiet was given out

@@ -1,12 +1,12 @@
 -- Each call, check by check in 01's order: 01, "Codes of the desk". A list has its sheet lent; the table is only read.
 use Prim.Native.Nat.{ℕ, _*_}
-use mathlib.Core.Bool.{Bool, not, cond, _||_}
+use mathlib.Core.Bool.{not, cond, _||_}
 use mathlib.Core.List.{List, [], _∷_, _++_}
 use lib.Dec.{eqb, ltb}
 use lib.ListN.{length, replicate}
 use Rattle.bundles.specs.declared.entry.Entry.{Entry}
 use Rattle.bundles.specs.Records.{entriesIn, isWrong}
-use Rattle.updates.specs.Kinds.{kindCheck}
+use Rattle.updates.specs.Kinds.{kindCheck, badBib}
 use Rattle.updates.specs.Effect.{stateOf, valueIn}
 use Rattle.cells.specs.Cells.{Cells, own}
 use Rattle.cells.specs.Order.{order}
@@ -23,10 +23,6 @@ use Rattle.updates.specs.declared.standing.Standing.{Standing}
 use Rattle.table.specs.declared.answer.Level.{Level}
 use Rattle.updates.specs.declared.standing.State.the-variants.{Neither}
 use Rattle.table.specs.declared.answer.Prospect.{Prospect}
-
--- 5: "bib above 999"
-abbrev pub badBib : ℕ → Bool
-badBib bib = not (ltb bib 1000)
 
 -- the standing of a bib after the updates visible at revision n
 unfoldable pub standingAt : List ℕ → ℕ → ℕ → Standing

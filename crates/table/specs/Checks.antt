@@ -5,6 +5,7 @@ use mathlib.Core.Bool.{not, cond}
 use mathlib.Core.List.{List}
 use lib.Dec.{eqb}
 use lib.ListN.{length}
+use Rattle.updates.specs.Kinds.{badBib}
 use Rattle.cells.specs.Sizes.{clients, revisions}
 use Rattle.cells.specs.Decode.{cells}
 use Rattle.cells.specs.Checks.{joined, openElsewhere, busy, busyByOther, stale, joinable}
@@ -12,7 +13,6 @@ use Rattle.fields.specs.declared.table.Client.{Client}
 use Rattle.fields.specs.declared.table.Revision.{Revision}
 use Rattle.revisions.specs.Checks.{clientCheck, givenCheck}
 use Rattle.table.specs.Halves.{bytes, isTable}
-use Rattle.table.specs.Calls.{badBib}
 use Rattle.table.specs.Found.{onClient, onGiven, onPair}
 use Rattle.table.specs.declared.sound.LengthCheck.{LengthCheck}
 use Rattle.table.specs.declared.sound.LengthCheck.the-variants as buffer

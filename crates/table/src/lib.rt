@@ -1,6 +1,7 @@
 // The table of 65,536 bytes: what the calls answer and leave, and the checks that they share. The calls stand above.
 pub mod answer; // answer.rt: what a call answers
 pub mod bib; // bib.rt: the check of a bib
+pub mod counts; // counts.rt: two counts of a whole table
 pub mod event; // event.rt: the checks that update and query share
 pub mod meet; // meet.rt: the checks of a join
 pub mod pair; // pair.rt: what the checks of fork and join find

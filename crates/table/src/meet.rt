@@ -44,7 +44,7 @@ fn check_meet(d: &[u8], a: Revision, b: Revision) -> PairCheck
     let UseCheck::Free = checks::check_use(d, b) else {
         return PairCheck::Refused(7);
     };
-    let JoinCheck::Joinable = checks::check_join(d, a, b) else {
+    let JoinCheck::Joinable = checks::check_joinable(d, a, b) else {
         return PairCheck::Refused(11);
     };
     PairCheck::Allowed(a, b)

@@ -1,12 +1,12 @@
 -- Laws about the definitions by name: they need no definition's text.
 use Prim.Native.Nat.{ℕ}
-use mathlib.Core.Bool.{Bool, true, false}
+use mathlib.Core.Bool.{Bool, true, false, cond}
 use mathlib.Core.Path.{_≡_, refl, _∙_, ap}
 use mathlib.Core.List.{List, [], _∷_, _++_}
 use native.Mathlib.Omega.{arith}
 use lib.Dec.{eqb}
 use borrow.Author.Tests.{eqb-true}
-use Rattle.updates.specs.Kinds.{pick, kindNumber, kindCheck}
+use Rattle.updates.specs.Kinds.{kindNumber, kindCheck}
 use Rattle.updates.specs.Effect.{effect}
 use Rattle.updates.specs.Applied.{Update, applied}
 use Rattle.updates.specs.declared.kind.Kind.{Kind}
@@ -25,7 +25,7 @@ check-number Strike = refl
 
 -- one test of the check: the kind is the one tested for, or a later one
 tested : (n : ℕ) (j k : Kind) (rest : KindCheck) (t : Bool) → eqb n (kindNumber j) ≡ t
-    → (rest ≡ Known k → n ≡ kindNumber k) → pick t (Known j) rest ≡ Known k → n ≡ kindNumber k
+    → (rest ≡ Known k → n ≡ kindNumber k) → cond t (Known j) rest ≡ Known k → n ≡ kindNumber k
 tested n j k rest true test later e =
     let same : j ≡ k = cc in
     eqb-true n (kindNumber j) test ∙ ap kindNumber same

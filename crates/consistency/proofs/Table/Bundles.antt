@@ -1,6 +1,6 @@
 -- A bundle ends on the table as on the plain day: update by update, and then the yield (02, U4).
 use Prim.Native.Nat.{ℕ}
-use mathlib.Core.Path.{_≡_, refl, _∙_, ap}
+use mathlib.Core.Path.{refl, _∙_, ap}
 use mathlib.Core.List.{List, [], _∷_}
 use lib.Dec.{eqb}
 use Rattle.lists.proofs.Cases.{cases}

@@ -14,7 +14,7 @@ use Rattle.updates.specs.declared.kind.Kind.{Kind}
 use Rattle.updates.specs.declared.standing.Standing.{Standing}
 use Rattle.updates.specs.declared.standing.State.the-variants.{Neither}
 use Rattle.updates.specs.Effect.{stateOf, valueIn}
-use Rattle.updates.specs.Kinds.{kindCheck}
+use Rattle.updates.specs.Kinds.{kindCheck, badBib}
 use Rattle.diagram.specs.Day.{Day, meant, nextNumber}
 use Rattle.diagram.specs.Checks as Day
 use Rattle.diagram.specs.Steps as Steps
@@ -81,7 +81,7 @@ module _ (p : PlainDay) (t : List ℕ) (S : Stands p t) where
   room : Day.logFull y ≡ false → cellsOf t .updates < Upper.updates
   room e = ltb-true (cellsOf t .updates) Lower.updates (not-false _ (bytes-are p t S .follow .same-full ∙ e))
 
-  noted-same : (c r : ℕ) (kind : Kind) (bib v : ℕ) → accepted y (Steps.Event c r true) ≡ true → Plain.badBib bib ≡ false → Day.logFull y ≡ false
+  noted-same : (c r : ℕ) (kind : Kind) (bib v : ℕ) → accepted y (Steps.Event c r true) ≡ true → badBib bib ≡ false → Day.logFull y ≡ false
       → Same OnTable (Plain.taken (noted p c r kind bib v) (y .updates)) (Table.taken (stepBytes (low t) (Steps.Event c r true) ++ wrote (high t) (cellsOf t .updates) (entry kind c bib v)) (cellsOf t .updates))
   unfolding after
   noted-same c r kind bib v e e5 e9 = record {
@@ -111,7 +111,7 @@ module _ (p : PlainDay) (t : List ℕ) (S : Stands p t) where
       check-table _ (Day.unknownClient c) 2 _ _ (client c) λ e2.
       check-given n _ _ λ r e3.
       check-table _ (y .joined r) 4 _ _ (number n r e3 .same-joined) λ e4.
-      check-table _ (Plain.badBib bib) 5 _ _ refl λ e5.
+      check-table _ (badBib bib) 5 _ _ refl λ e5.
       by-named p t S OnTable t S (kindCheck k) _ _ λ kind.
       check-table _ (Day.openElsewhere y c r) 6 _ _ (number n r e3 .same-elsewhere c (known y (cellsOf t) (bytes-are p t S .follow) c e2)) λ e6.
       check-table _ (Day.busyByOther y c r) 7 _ _ (number n r e3 .same-busyByOther c) λ e7.
@@ -126,7 +126,7 @@ module _ (p : PlainDay) (t : List ℕ) (S : Stands p t) where
       check-table _ (Day.unknownClient c) 2 _ _ (client c) λ e2.
       check-given n _ _ λ r e3.
       check-table _ (y .joined r) 4 _ _ (number n r e3 .same-joined) λ e4.
-      check-table _ (Plain.badBib bib) 5 _ _ refl λ e5.
+      check-table _ (badBib bib) 5 _ _ refl λ e5.
       check-table _ (Day.openElsewhere y c r) 6 _ _ (number n r e3 .same-elsewhere c (known y (cellsOf t) (bytes-are p t S .follow) c e2)) λ e6.
       check-table _ (Day.busyByOther y c r) 7 _ _ (number n r e3 .same-busyByOther c) λ e7.
       check-table _ (Day.stale y c r) 8 _ _ (number n r e3 .out e4 .same-stale c (known y (cellsOf t) (bytes-are p t S .follow) c e2)) λ e8.

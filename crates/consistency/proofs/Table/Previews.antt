@@ -7,6 +7,7 @@ use mathlib.Core.List.{List, [], _++_}
 use lib.Dec.{eqb}
 use lib.ListN.{length}
 use borrow.Author.Tests.{eqb-true, not-false}
+use Rattle.updates.specs.Kinds.{badBib}
 use Rattle.lists.specs.Lists.{_∈_}
 use Rattle.lists.proofs.Changed.{changed-other, changed-same}
 use Rattle.updates.specs.Effect.{stateOf, valueIn}
@@ -120,6 +121,6 @@ module _ (p : PlainDay) (t : List ℕ) (S : Stands p t) where
   preview-same n m bib =
       rw (join-same p t S n m .code)
       (by-check (not (eqb (Plain.joining p n m .answer .code) 0)) (Plain.joining p n m .answer .code) _ _ λ e.
-      by-check (Plain.badBib bib) 5 _ _ λ e5.
+      by-check (badBib bib) 5 _ _ λ e5.
       let s = stands-after-join p t S n m (eqb-true _ 0 (not-false _ e)) bib in
       record { code = refl; state = ap stateOf s; value = ap valueIn s; total = refl; gain = join-same p t S n m .value; next = refl })

@@ -1,4 +1,4 @@
--- `exports::silttongs_fill` meets its contract: it hands back the two numbers of `table`. Assumes nothing.
+-- `exports::silttongs_fill` meets its contract: it returns the two numbers of `table`. Assumes nothing.
 use mathlib.Core.Path.{_∙_, ap}
 use borrow.Author.Needs.{needs}
 use Rattle.exports.specs.Packed.{exportedLevel}

@@ -1,11 +1,11 @@
--- `exports::silttongs_join` meets its contract: it hands back the answer of `table`. Assumes nothing.
+-- `exports::silttongs_join` meets its contract: it returns the answer of `table`. Assumes nothing.
 use borrow.Author.Needs.{needs}
-use Rattle.exports.proofs.Handed.{hands}
+use Rattle.exports.proofs.Returned.{gives}
 use Rattle.exports.proofs.silttongs_join.Statement.{statement}
 use Rattle.exports.proofs.silttongs_join.Tie as tie
 
 returns : tie.Need-returns
-returns c = hands _ (c .pack .ensures) (c .before .before .before .join .ensures)
+returns c = gives _ (c .pack .ensures) (c .before .before .before .join .ensures)
 
 pub silttongs-join-spec : {M : Type 1} → statement M
 silttongs-join-spec = tie.close (tie.spec (λ c κs. search needs) (λ c κs. search needs) (λ c. search needs) returns)

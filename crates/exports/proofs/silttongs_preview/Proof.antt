@@ -1,4 +1,4 @@
--- `exports::silttongs_preview` meets its contract: it hands back the numbers of `reading`. Assumes nothing.
+-- `exports::silttongs_preview` meets its contract: it returns the numbers of `previewing`. Assumes nothing.
 use mathlib.Core.Path.{_∙_, ap}
 use borrow.Author.Needs.{needs}
 use Rattle.exports.specs.Packed.{exportedProspect}

@@ -1,99 +1,17 @@
--- `entering::update::check_update` meets its contract: what the first checks find, then the others. Assumes nothing.
-use Prim.{tt}
-use mathlib.Core.Path.{sym, _∙_}
+-- `entering::update::check_update` meets its contract: the lower half is lent to the checks. Assumes nothing.
 use borrow.Author.Needs.{needs}
-use Rattle.table.specs.Found.{onEvent, onKind}
-use Rattle.entering.specs.Checks.{updateCheck}
-use Rattle.table.proofs.Checks.{bib-known, bib-strange}
-use Rattle.entering.proofs.Checks.{bib-in, has-room, is-full, log-in}
+use Rattle.table.specs.Halves.{low}
 use Rattle.entering.proofs.update.check_update.Statement.{statement}
 use Rattle.entering.proofs.update.check_update.Tie as tie
 
 returns : tie.Need-returns
-unfolding updateCheck onEvent
-returns c =
-    let p = c .before .before .before in
-    let e = sym (p .before .before .before .check-place .ensures .0) ∙ p .before .found2 .given .1 in
-    (rw (e, bib-strange _ (sym (c .before .before .check-bib .ensures) ∙ c .enum-told2 .given .1)), tt)
-
-returns-2 : tie.Need-returns-2
-unfolding updateCheck onEvent onKind
-returns-2 c =
-    let b = c .before .before .before in
-    let p = b .before .before .before in
-    let e = sym (p .before .before .before .check-place .ensures .0) ∙ p .before .found2 .given .1 in
-    let f = bib-known _ (sym (b .before .before .check-bib .ensures) ∙ b .enum-told .given .1) in
-    (rw (e, f, sym (c .before .before .check .ensures) ∙ c .enum-told3 .given .1), tt)
-
-check-turn-requires : tie.Need-check-turn-requires
-check-turn-requires c κs =
-    let p = c .before .before .before .before .before .before .before in
-    let i = rw (p .before .found2 .given .1) at (p .before .before .before .check-place .ensures .1) in
-    (search needs, i .0, i .1)
-
-returns-3 : tie.Need-returns-3
-unfolding updateCheck onEvent onKind
-returns-3 c =
-    let t = c .before .before .before in
-    let k = t .before .before .before .before in
-    let b = k .before .before .before .before in
-    let p = b .before .before .before in
-    let e = sym (p .before .before .before .check-place .ensures .0) ∙ p .before .found2 .given .1 in
-    let f = bib-known _ (sym (b .before .before .check-bib .ensures) ∙ b .enum-told .given .1) in
-    let g = sym (k .before .before .before .check .ensures) ∙ k .before .k .given .1 in
-    let h = sym (t .before .before .before .check-turn .ensures .0) ∙ t .before .next2 .given .1 in
-    (rw (e, f, g, h, is-full _ (sym (c .before .before .check-log .ensures) ∙ c .enum-told5 .given .1)), tt)
-
-returns-4 : tie.Need-returns-4
-unfolding updateCheck onEvent
-returns-4 c = (rw (sym (c .before .before .before .check-place .ensures .0) ∙ c .before .found .given .1), tt)
-
-returns-5 : tie.Need-returns-5
-unfolding updateCheck onEvent onKind
-returns-5 c =
-    let k = c .before .before .before .before in
-    let b = k .before .before .before .before in
-    let p = b .before .before .before in
-    let e = sym (p .before .before .before .check-place .ensures .0) ∙ p .before .found2 .given .1 in
-    let f = bib-known _ (sym (b .before .before .check-bib .ensures) ∙ b .enum-told .given .1) in
-    let g = sym (k .before .before .before .check .ensures) ∙ k .before .k .given .1 in
-    (rw (e, f, g, sym (c .before .before .before .check-turn .ensures .0) ∙ c .before .next .given .1), tt)
-
-returns-6 : tie.Need-returns-6
-unfolding updateCheck onEvent onKind
-returns-6 c =
-    let t = c .before .before .before in
-    let k = t .before .before .before .before in
-    let b = k .before .before .before .before in
-    let p = b .before .before .before in
-    let e = sym (p .before .before .before .check-place .ensures .0) ∙ p .before .found2 .given .1 in
-    let f = bib-known _ (sym (b .before .before .check-bib .ensures) ∙ b .enum-told .given .1) in
-    let g = sym (k .before .before .before .check .ensures) ∙ k .before .k .given .1 in
-    let h = sym (t .before .before .before .check-turn .ensures .0) ∙ t .before .next2 .given .1 in
-    let l = has-room _ (sym (c .before .before .check-log .ensures) ∙ c .enum-told4 .given .1) in
-    let i = rw (t .before .next2 .given .1) at (t .before .before .before .check-turn .ensures .1) in
-    (rw (e, f, g, h, l), (i .0, i .1, log-in _ l, bib-in _ f))
+unfolding low
+returns c = search needs
 
 pub check-update-spec : {M : Type 1} → statement M
 check-update-spec = tie.close (tie.spec
-    (λ c κs. search needs)
     (λ c. search needs)
-    (λ c. search needs)
-    (λ c κs. search needs)
-    (λ c. search needs)
-    (λ c. search needs)
-    returns
-    (λ c κs. search needs)
-    (λ c. search needs)
-    (λ c. search needs)
-    returns-2
-    check-turn-requires
     (λ c. search needs)
     (λ c. search needs)
     (λ c κs. search needs)
-    (λ c. search needs)
-    (λ c. search needs)
-    returns-3
-    returns-4
-    returns-5
-    returns-6)
+    returns)

@@ -1,7 +1,5 @@
 -- `reading::query::query_sound` meets its contract: the checks, then the work. Assumes nothing.
 use borrow.Author.Needs.{needs}
-use Rattle.table.specs.Halves.{low}
-use Rattle.table.proofs.Halves.{low-length}
 use Rattle.reading.proofs.Calls.{query-refused, query-answered}
 use Rattle.reading.proofs.query.query_sound.Statement.{statement}
 use Rattle.reading.proofs.query.query_sound.Tie as tie
@@ -10,7 +8,7 @@ standing-at-requires : tie.Need-standing-at-requires
 standing-at-requires c κs =
     let at-found = c .before .before in
     let at-check = at-found .before .before in
-    let start = at-check .before .before .before .before in
+    let start = at-check .before .before .before in
     let i = rw (at-found .found2 .given .1) at (at-check .check-query .ensures .1) in
     (start .pre .1, start .pre .2, i .1)
 
@@ -18,35 +16,30 @@ ask-requires : tie.Need-ask-requires
 ask-requires c κs =
     let at-found = c .before .before .before .before in
     let at-check = at-found .before .before in
-    let start = at-check .before .before .before .before in
+    let start = at-check .before .before .before in
     let i = rw (at-found .found2 .given .1) at (at-check .check-query .ensures .1) in
     (start .pre .1, i .0, i .1)
 
 returns : tie.Need-returns
-unfolding low
 returns c =
     let at-check = c .before .before .before in
-    let start = at-check .before .before .before .before in
+    let start = at-check .before .before .before in
     let s = start .args in
     query-refused (s .t .now) (start .pre .0) (s .client) (s .revision) (s .bib) (at-check .check-query .result) (at-check .check-query .ensures .0) (c .before .found .given .0 .0) (c .before .found .given .1)
 
 returns-2 : tie.Need-returns-2
-unfolding low
 returns-2 c =
     let at-ask = c .before .before .before in
     let at-value = at-ask .before .before in
     let at-found = at-value .before .before .before in
     let at-check = at-found .before .before in
-    let start = at-check .before .before .before .before in
+    let start = at-check .before .before .before in
     let s = start .args in
     query-answered (s .t .now) (start .pre .0) (s .client) (s .revision) (s .bib) (at-check .check-query .result) (at-check .check-query .ensures .0) (at-found .found2 .given .0 .0) (at-found .found2 .given .0 .1 .0) (at-found .found2 .given .1) (c .tell .ensures) (at-ask .ask .ensures) (at-value .standing-at .ensures)
 
 pub query-sound-spec : {M : Type 1} → statement M
 query-sound-spec = tie.close (tie.spec
-    (λ c. search needs)
-    (λ c. search needs)
-    (λ c. search needs)
-    (λ c κs. low-length (c .before .before .before .args .t .now) (c .before .before .before .pre .1))
+    (λ c κs. search needs)
     (λ c. search needs)
     (λ c. search needs)
     standing-at-requires

@@ -1,56 +1,40 @@
 -- `sending::bundle::bundle_sound` meets its contract: the first update's checks, then the rest. Assumes nothing.
-use mathlib.Core.Path.{_∙_, ap}
+use mathlib.Core.Path.{_∙_}
 use borrow.Author.Needs.{needs}
 use Rattle.bundles.specs.Records.{entriesFrom}
-use Rattle.table.specs.Halves.{low}
-use Rattle.table.proofs.Halves.{low-length}
-use Rattle.entering.specs.Checks.{updateCheck}
 use Rattle.sending.proofs.Bundles.{bundle-going, bundle-refused, bundle-sent}
 use Rattle.sending.proofs.bundle.bundle_sound.Statement.{statement}
 use Rattle.sending.proofs.bundle.bundle_sound.Tie as tie
 
 send-requires : tie.Need-send-requires
-unfolding low
 send-requires c κs =
     let at-found = c .before .before in
     let at-check = at-found .before .before in
-    let at-entry = at-check .before .before .before in
-    let start = at-entry .before .before .before in
+    let start = at-check .before .before .before .before in
     let s = start .args in
-    let is = at-check .check-update .ensures .0 ∙ ap (λ e. updateCheck (low (s .t .now)) (s .client) (s .revision) (e .kind) (e .bib)) (at-entry .entry-at .ensures) in
     let g = at-found .found2 .given in
-    (bundle-going (s .t .now) (start .pre .0) (s .client) (s .revision) (s .b .now) (s .n) (start .pre .4) (at-check .check-update .result) is (g .0 .0) (g .0 .1 .0) (g .0 .1 .1 .0) (g .1), start .pre .1, start .pre .3, start .pre .5)
+    (bundle-going (s .t .now) (start .pre .0) (s .client) (s .revision) (s .b .now) (s .n) (start .pre .4) (at-check .check-first .result) (at-check .check-first .ensures) (g .0 .0) (g .0 .1 .0) (g .0 .1 .1 .0) (g .1), start .pre .1, start .pre .3, start .pre .5)
 
 returns : tie.Need-returns
-unfolding low
 returns c =
     let at-check = c .before .before .before in
-    let at-entry = at-check .before .before .before in
-    let start = at-entry .before .before .before in
+    let start = at-check .before .before .before .before in
     let s = start .args in
-    let is = at-check .check-update .ensures .0 ∙ ap (λ e. updateCheck (low (s .t .now)) (s .client) (s .revision) (e .kind) (e .bib)) (at-entry .entry-at .ensures) in
-    bundle-refused (s .t .now) (start .pre .0) (s .client) (s .revision) (s .b .now) (s .n) (start .pre .4) (at-check .check-update .result) is (c .before .found .given .0 .0) (c .before .found .given .1)
+    bundle-refused (s .t .now) (start .pre .0) (s .client) (s .revision) (s .b .now) (s .n) (start .pre .4) (at-check .check-first .result) (at-check .check-first .ensures) (c .before .found .given .0 .0) (c .before .found .given .1)
 
 returns-2 : tie.Need-returns-2
-unfolding low
 returns-2 c =
     let at-send = c .before .before in
     let at-found = at-send .before .before .before in
     let at-check = at-found .before .before in
-    let at-entry = at-check .before .before .before in
-    let start = at-entry .before .before .before in
+    let start = at-check .before .before .before .before in
     let s = start .args in
-    let is = at-check .check-update .ensures .0 ∙ ap (λ e. updateCheck (low (s .t .now)) (s .client) (s .revision) (e .kind) (e .bib)) (at-entry .entry-at .ensures) in
     let g = at-found .found2 .given in
     at-send .send .ensures
-    ∙ bundle-sent (s .t .now) (start .pre .0) (s .client) (s .revision) (s .b .now) (s .n) (start .pre .4) (at-check .check-update .result) is (g .0 .0) (g .0 .1 .0) (g .0 .1 .1 .0) (g .1) (entriesFrom (s .b .now) 0 (s .n))
+    ∙ bundle-sent (s .t .now) (start .pre .0) (s .client) (s .revision) (s .b .now) (s .n) (start .pre .4) (at-check .check-first .result) (at-check .check-first .ensures) (g .0 .0) (g .0 .1 .0) (g .0 .1 .1 .0) (g .1) (entriesFrom (s .b .now) 0 (s .n))
 
 pub bundle-sound-spec : {M : Type 1} → statement M
 bundle-sound-spec = tie.close (tie.spec
-    (λ c κs. search needs)
-    (λ c. search needs)
-    (λ c. search needs)
-    (λ c. search needs)
     (λ c κs. search needs)
     (λ c. search needs)
     (λ c. search needs)

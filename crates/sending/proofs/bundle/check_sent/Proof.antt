@@ -5,7 +5,7 @@ use native.Mathlib.Omega.{arith}
 use borrow.Author.Needs.{needs}
 use Rattle.bundles.specs.Records.{entriesFrom}
 use Rattle.sending.specs.Bundles.{fitCheck, sentCheck}
-use Rattle.sending.proofs.Bundles.{check-ends, check-goes-on, check-last, check-start}
+use Rattle.sending.proofs.Records.{check-ends, check-goes-on, check-last, check-start}
 use Rattle.sending.proofs.bundle.check_sent.Statement.{statement}
 use Rattle.sending.proofs.bundle.check_sent.Tie as tie
 

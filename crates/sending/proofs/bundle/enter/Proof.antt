@@ -4,7 +4,7 @@ use native.Mathlib.Omega.{arith}
 use borrow.Author.Needs.{needs}
 use Rattle.table.specs.Found.{onKind}
 use Rattle.sending.specs.Bundles.{entered}
-use Rattle.sending.proofs.Bundles.{client-in, in-range, long, revision-in}
+use Rattle.sending.proofs.Going.{client-in, in-range, long, revision-in}
 use Rattle.sending.proofs.bundle.enter.Statement.{statement}
 use Rattle.sending.proofs.bundle.enter.Tie as tie
 

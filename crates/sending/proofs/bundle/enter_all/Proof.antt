@@ -8,7 +8,8 @@ use Rattle.table.specs.Halves.{cellsOf}
 use Rattle.sending.specs.Bundles.{Going, entered, enteredAll, sentCheck}
 use Rattle.sending.specs.declared.bundle.FitCheck.the-variants as fit
 use Rattle.bundles.proofs.First.{entries-all}
-use Rattle.sending.proofs.Bundles.{bib-below, entered-next, entered-none, fits-on, long}
+use Rattle.sending.proofs.Going.{long}
+use Rattle.sending.proofs.Records.{bib-below, entered-next, entered-none, fits-on}
 use Rattle.sending.proofs.bundle.enter_all.Statement.{statement}
 use Rattle.sending.proofs.bundle.enter_all.Tie as tie
 

@@ -25,7 +25,7 @@ returns-3 c =
     let a = b .before .before .before in
     let e = free _ _ (sym (a .before .before .check-use .ensures) ∙ a .enum-told .given .1) in
     let f = free _ _ (sym (b .before .before .check-use2 .ensures) ∙ b .enum-told3 .given .1) in
-    (rw (e, f, may-not _ _ _ (sym (c .before .before .check-join .ensures) ∙ c .enum-told6 .given .1)), tt)
+    (rw (e, f, may-not _ _ _ (sym (c .before .before .check-joinable .ensures) ∙ c .enum-told6 .given .1)), tt)
 
 returns-4 : tie.Need-returns-4
 unfolding meetCheck
@@ -35,7 +35,7 @@ returns-4 c =
     let start = a .before .before .before .before in
     let e = free _ _ (sym (a .before .before .check-use .ensures) ∙ a .enum-told .given .1) in
     let f = free _ _ (sym (b .before .before .check-use2 .ensures) ∙ b .enum-told3 .given .1) in
-    (rw (e, f, may-join _ _ _ (sym (c .before .before .check-join .ensures) ∙ c .enum-told5 .given .1)), (start .pre .1, start .pre .2))
+    (rw (e, f, may-join _ _ _ (sym (c .before .before .check-joinable .ensures) ∙ c .enum-told5 .given .1)), (start .pre .1, start .pre .2))
 
 pub check-meet-spec : {M : Type 1} → statement M
 check-meet-spec = tie.close (tie.spec

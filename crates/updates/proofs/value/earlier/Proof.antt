@@ -1,10 +1,9 @@
 -- `updates::value::earlier` meets its contract: the tests on the way decide those of `earliest`. Assumes nothing.
 use Prim.Native.Nat.{ℕ}
-use mathlib.Core.Bool.{Bool, true, false}
+use mathlib.Core.Bool.{Bool, true, false, cond}
 use mathlib.Core.Path.{_≡_, refl, sym}
 use lib.Dec.{eqb}
 use borrow.Author.Tests.{eq-eqb, eqb-true, le-ltb, lt-ltb, ne-eqb}
-use Rattle.updates.specs.Kinds.{pick}
 use Rattle.updates.specs.Effect.{earliest}
 use Rattle.updates.proofs.value.earlier.Statement.{statement}
 use Rattle.updates.proofs.value.earlier.Tie as tie
@@ -14,7 +13,7 @@ only-old : (value : ℕ) → value ≡ earliest value 0
 unfolding earliest
 only-old value = by (eqb value 0) refl
   where
-    by : (old : Bool) → eqb value 0 ≡ old → value ≡ pick old 0 value
+    by : (old : Bool) → eqb value 0 ≡ old → value ≡ cond old 0 value
     by true e = eqb-true value 0 e
     by false e = refl
 

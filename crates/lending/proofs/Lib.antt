@@ -1,0 +1,3 @@
+-- Laws of entries packed as records, and of a slice lent again.
+pub mod Packed
+pub mod Lend

@@ -1,0 +1,2 @@
+-- What the checks of a preview find.
+pub mod Checks

@@ -1,0 +1,2 @@
+// How a bib will stand: the call preview.
+pub mod preview; // preview.rt: the call preview

@@ -1,0 +1,2 @@
+-- What the check of a sheet finds.
+pub mod Checks
