@@ -10,7 +10,7 @@ use std::process::{Command, Stdio};
 use calls::Call;
 use common::{file, printed_by_literal, random_record};
 use dayfile::{read_file, read_text, write_file, Record, LONGEST};
-use days::{chain_of_joins, late_days, random_day, seeds, Profile, Rng};
+use days::{chains_of_joins, days_of, late_days, seeds, Profile, Rng, Sample};
 
 /// What the program prints of a file on standard input.
 fn printed(bytes: &[u8]) -> String {
@@ -73,18 +73,19 @@ fn with_gap(records: &[Record], gap: usize, rng: &mut Rng) -> Vec<u8> {
 }
 
 /// A day, as far as it fits a file, with strange steps in it.
-fn day_file(calls: &[Call], rng: &mut Rng) -> Vec<u8> {
+fn day_file(day: &Sample) -> Vec<u8> {
+    let mut rng = Rng::new(day.seed);
     let mut records = Vec::new();
-    for call in calls {
+    for call in &day.calls {
         if rng.percent(3) {
             let any = 6 + rng.below(250) as u8;
-            records.push(Record { step: rng.pick(&[0, 6, 255, any]), ..random_record(rng) });
+            records.push(Record { step: rng.pick(&[0, 6, 255, any]), ..random_record(&mut rng) });
         }
-        records.extend(record(call, rng));
+        records.extend(record(call, &mut rng));
     }
     records.truncate(LONGEST / Record::SIZE - 20);
     let gap = rng.pick(&[0, 0, 1, 11, 12, 200]);
-    with_gap(&records, gap, rng)
+    with_gap(&records, gap, &mut rng)
 }
 
 #[test]
@@ -100,17 +101,11 @@ fn random_days() {
         (Profile::STRANGE, 60),
         (Profile::FULL, 4),
     ];
-    let mut struck = 0;
-    for (profile, count) in kinds {
-        for seed in seeds(count) {
-            let bytes = day_file(&random_day(&profile, seed), &mut Rng::new(seed));
-            struck += must_print(&bytes, &format!("day `{}`, seed {seed}", profile.name));
-        }
-    }
+    let struck: usize =
+        days_of(&kinds).map(|day| must_print(&day_file(&day), &day.to_string())).sum();
     assert!(struck >= 500, "{struck} lines say `struck`");
-    for seed in seeds(20) {
-        let bytes = day_file(&chain_of_joins(seed), &mut Rng::new(seed));
-        must_print(&bytes, &format!("chain of joins, seed {seed}"));
+    for day in chains_of_joins(seeds(20)) {
+        must_print(&day_file(&day), &day.to_string());
     }
 }
 
@@ -131,11 +126,11 @@ fn random_records() {
 #[test]
 fn days_with_late_updates() {
     let mut struck = 0;
-    for (number, calls) in late_days().enumerate() {
+    for day in late_days() {
         let records: Vec<Record> =
-            calls.into_iter().filter_map(|call| record(&call, &mut Rng::new(0))).collect();
+            day.calls.iter().filter_map(|call| record(call, &mut Rng::new(0))).collect();
         let bytes = with_gap(&records, 0, &mut Rng::new(0));
-        struck += must_print(&bytes, &format!("late updates, day {number}"));
+        struck += must_print(&bytes, &day.to_string());
     }
     assert!(struck >= 100, "{struck} lines say `struck`");
 }

@@ -2,7 +2,7 @@
 //! would be refused, changes nothing. And wrong bundles are found.
 
 use calls::{Answer, Call, Code, Line};
-use days::{fault_of_bundles, must_pass, random_day, seeds, shown, Profile};
+use days::{days_of, fault_of_bundles, must_find, must_pass, shown, Profile, Sample};
 use literal::Day;
 
 /// How many days of each kind are replayed.
@@ -22,11 +22,7 @@ fn by_plain(calls: &[Call]) -> Option<String> {
 
 #[test]
 fn bundles_are_their_updates_and_a_yield() {
-    for (profile, count) in KINDS {
-        for seed in seeds(count) {
-            must_pass(profile.name, seed, &random_day(&profile, seed), by_plain);
-        }
-    }
+    must_pass(days_of(&KINDS), by_plain);
 }
 
 /// Bundles of nearly every size are accepted, the log is filled by some to its last place, and others find
@@ -36,7 +32,7 @@ fn bundles_of_every_kind_are_made() {
     let mut sizes = [0; 65];
     let (mut filled, mut full_within, mut late_bad, mut continued) = (0, 0, 0, 0);
     let kinds = [Profile::BUNDLES, Profile::NEARLY_FULL];
-    for calls in kinds.iter().flat_map(|kind| (0..60).map(|seed| random_day(kind, seed))) {
+    for Sample { calls, .. } in kinds.into_iter().flat_map(|kind| kind.days(0..60)) {
         let mut day = Day::fresh();
         for call in calls {
             let before = day.updates().len();
@@ -200,8 +196,6 @@ fn wrong_bundles_are_found() {
                 _ => shown(&day.call(call)),
             })
         };
-        let days = kinds.iter().flat_map(|kind| (0..30).map(|seed| random_day(kind, seed)));
-        let found = days.filter(|day| by_wrong(day).is_some()).count();
-        assert!(found >= 5, "{name}: found on {found} days of 90");
+        must_find(name, kinds.into_iter().flat_map(|kind| kind.days(0..30)), by_wrong);
     }
 }

@@ -2,7 +2,9 @@
 //! the updates accepted, counted from the calls and their answers. And wrong fills are found.
 
 use calls::Call;
-use days::{chain_of_joins, fault_of_fills, must_pass, random_day, seeds, told, Profile, Told};
+use days::{
+    chains_of_joins, days_of, fault_of_fills, must_find, must_pass, seeds, told, Profile, Told,
+};
 use literal::{Day, VertexId, VertexKind};
 
 /// How many days of each kind are replayed.
@@ -19,29 +21,17 @@ const KINDS: [(Profile, u64); 10] = [
     (Profile::NEARLY_FULL, 5),
 ];
 
-fn by_literal(calls: &[Call]) -> Option<String> {
-    let mut day = Day::fresh();
-    fault_of_fills(calls, |call| told(&day.call(call)))
-}
-
-fn by_plain(calls: &[Call]) -> Option<String> {
-    let mut day = plain::Day::fresh();
-    fault_of_fills(calls, |call| told(&day.call(call)))
+/// By the literal replay, and by the plain implementation.
+fn by_either(calls: &[Call]) -> Option<String> {
+    let (mut literal, mut plain) = (Day::fresh(), plain::Day::fresh());
+    fault_of_fills(calls, |call| told(&literal.call(call)))
+        .or_else(|| fault_of_fills(calls, |call| told(&plain.call(call))))
 }
 
 #[test]
 fn fills_come_to_the_updates_accepted() {
-    for (profile, count) in KINDS {
-        for seed in seeds(count) {
-            let day = random_day(&profile, seed);
-            must_pass(profile.name, seed, &day, by_literal);
-            must_pass(profile.name, seed, &day, by_plain);
-        }
-    }
-    for seed in seeds(30) {
-        must_pass("chain of joins", seed, &chain_of_joins(seed), by_literal);
-        must_pass("chain of joins", seed, &chain_of_joins(seed), by_plain);
-    }
+    must_pass(days_of(&KINDS), by_either);
+    must_pass(chains_of_joins(seeds(30)), by_either);
 }
 
 /// What a wrong fill tells of a revision number, in place of what is right.
@@ -102,9 +92,9 @@ fn open(day: &Day, r: usize) -> impl Iterator<Item = VertexId> + '_ {
 fn wrong_fills_are_found() {
     let few_calls = Profile { calls: 100, ..Profile::NESTED };
     for (name, wrong) in WRONG {
-        let by_wrong = |seed| {
+        let by_wrong = |calls: &[Call]| {
             let mut day = Day::fresh();
-            fault_of_fills(&random_day(&few_calls, seed), |call| {
+            fault_of_fills(calls, |call| {
                 let right = told(&day.call(call));
                 match *call {
                     Call::Fill { revision } => wrong(&day, usize::from(revision), right),
@@ -112,7 +102,6 @@ fn wrong_fills_are_found() {
                 }
             })
         };
-        let found = (0..100).filter_map(by_wrong).count();
-        assert!(found >= 5, "{name}: found on {found} days of 100");
+        must_find(name, few_calls.days(0..100), by_wrong);
     }
 }

@@ -2,7 +2,7 @@
 
 use calls::{Call, Code, State};
 use days::{
-    arbitration_order, broken_sentence, chain_of_joins, late_days, must_pass, random_day, seeds,
+    arbitration_order, broken_sentence, chains_of_joins, days_of, late_days, must_pass, seeds,
     Facts, Profile, SENTENCES,
 };
 
@@ -13,30 +13,21 @@ fn line_up(calls: &[Call]) -> Option<String> {
 
 #[test]
 fn small_days_have_a_line_up() {
-    for seed in seeds(2_000) {
-        must_pass("small", seed, &random_day(&Profile::SMALL, seed), line_up);
-    }
+    must_pass(Profile::SMALL.days(seeds(2_000)), line_up);
 }
 
 #[test]
 fn days_with_late_updates_have_a_line_up() {
-    for (number, day) in late_days().enumerate() {
-        must_pass("late updates", number as u64, &day, line_up);
-    }
+    must_pass(late_days(), line_up);
 }
 
 #[test]
 fn days_with_many_revisions_have_a_line_up() {
-    let few_calls = |profile: Profile| Profile { calls: 90, ..profile };
+    let few_calls = |profile: Profile| (Profile { calls: 90, ..profile }, 300);
     let kinds = [Profile::NESTED, Profile::STALE, Profile::QUERIES, Profile::STRIKES];
-    for profile in kinds.map(few_calls) {
-        for seed in seeds(300) {
-            must_pass(profile.name, seed, &random_day(&profile, seed), line_up);
-        }
-    }
-    for seed in (0..400).filter(|&seed| chain_of_joins(seed).len() < 120).take(30) {
-        must_pass("chain of joins", seed, &chain_of_joins(seed), line_up);
-    }
+    must_pass(days_of(&kinds.map(few_calls)), line_up);
+    let chains = chains_of_joins(0..400).filter(|chain| chain.calls.len() < 120);
+    must_pass(chains.take(30), line_up);
 }
 
 /// A small day on which every sentence has something to say.

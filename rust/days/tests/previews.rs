@@ -3,7 +3,8 @@
 
 use calls::{Answer, Call, Code, State};
 use days::{
-    chain_of_joins, fault_of_previews, late_days, must_pass, random_day, seeds, shown, Profile,
+    chains_of_joins, days_of, fault_of_previews, late_days, must_find, must_pass, seeds, shown,
+    Profile, Sample,
 };
 use literal::{Day, Standing};
 
@@ -25,39 +26,29 @@ fn by_plain(calls: &[Call]) -> Option<String> {
 
 #[test]
 fn previews_are_the_join_and_a_query_on_a_copy() {
-    for (profile, count) in KINDS {
-        for seed in seeds(count) {
-            must_pass(profile.name, seed, &random_day(&profile, seed), by_plain);
-        }
-    }
-    for seed in seeds(50) {
-        must_pass("chain of joins", seed, &chain_of_joins(seed), by_plain);
-    }
-    for (number, day) in late_days().enumerate() {
-        must_pass("late updates", number as u64, &day, by_plain);
-    }
+    must_pass(days_of(&KINDS), by_plain);
+    must_pass(chains_of_joins(seeds(50)), by_plain);
+    must_pass(late_days(), by_plain);
 }
 
 /// Previews find bibs in every state, changed by the join or not, and joins follow many of them.
 #[test]
 fn previews_of_every_kind_are_made() {
     let (mut states, mut changed, mut empty, mut joined) = ([0; 3], 0, 0, 0);
-    for (profile, count) in KINDS {
-        for seed in 0..count / 2 {
-            let calls = random_day(&profile, seed);
-            let mut day = Day::fresh();
-            for (at, call) in calls.iter().enumerate() {
-                let answer = day.call(call);
-                let Call::Preview { joiner, joinee, bib } = *call else { continue };
-                if answer.code != Code::Accepted {
-                    continue;
-                }
-                states[answer.state as usize] += 1;
-                let before = stands(&day, day.visible(usize::from(joiner)), bib);
-                changed += usize::from(before != (answer.state, answer.value));
-                empty += usize::from(answer.gain == 0);
-                joined += usize::from(calls.get(at + 1) == Some(&Call::Join { joiner, joinee }));
+    let days = KINDS.into_iter().flat_map(|(profile, count)| profile.days(0..count / 2));
+    for Sample { calls, .. } in days {
+        let mut day = Day::fresh();
+        for (at, call) in calls.iter().enumerate() {
+            let answer = day.call(call);
+            let Call::Preview { joiner, joinee, bib } = *call else { continue };
+            if answer.code != Code::Accepted {
+                continue;
             }
+            states[answer.state as usize] += 1;
+            let before = stands(&day, day.visible(usize::from(joiner)), bib);
+            changed += usize::from(before != (answer.state, answer.value));
+            empty += usize::from(answer.gain == 0);
+            joined += usize::from(calls.get(at + 1) == Some(&Call::Join { joiner, joinee }));
         }
     }
     assert!(states.iter().all(|&times| times >= 100), "{states:?}");
@@ -156,8 +147,6 @@ fn wrong_previews_are_found() {
                 _ => shown(&day.call(call)),
             })
         };
-        let days = kinds.iter().flat_map(|kind| (0..30).map(|seed| random_day(kind, seed)));
-        let found = days.filter(|day| by_wrong(day).is_some()).count();
-        assert!(found >= 5, "{name}: found on {found} days of 90");
+        must_find(name, kinds.into_iter().flat_map(|kind| kind.days(0..30)), by_wrong);
     }
 }

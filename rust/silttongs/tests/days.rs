@@ -6,8 +6,8 @@ mod common;
 use calls::{Call, Line};
 use common::{as_given, difference, first_difference, library, Given};
 use days::{
-    chain_of_joins, fault_of_bundles, fault_of_fills, fault_of_previews, late_days, must_pass,
-    random_day, seeds, Profile, Shown,
+    chains_of_joins, days_of, fault_of_bundles, fault_of_fills, fault_of_previews, late_days,
+    must_pass, seeds, Profile, Shown,
 };
 use silttongs::{Entry, Table, BYTES};
 
@@ -25,45 +25,36 @@ const KINDS: [(Profile, u64); 10] = [
     (Profile::NEARLY_FULL, 60),
 ];
 
-#[test]
-fn days_of_all_kinds() {
-    for (profile, count) in KINDS {
-        for seed in seeds(count) {
-            must_pass(profile.name, seed, &random_day(&profile, seed), fault);
-        }
-    }
+/// One of so many of these days.
+fn one_in(part: u64) -> [(Profile, u64); 10] {
+    KINDS.map(|(profile, count)| (profile, count.div_ceil(part)))
 }
 
 #[test]
-fn chains_of_joins() {
-    for seed in seeds(60) {
-        must_pass("chain of joins", seed, &chain_of_joins(seed), fault);
-    }
+fn days_of_all_kinds() {
+    must_pass(days_of(&KINDS), fault);
+}
+
+#[test]
+fn chains() {
+    must_pass(chains_of_joins(seeds(60)), fault);
 }
 
 #[test]
 fn days_with_late_updates() {
-    for (number, day) in late_days().enumerate() {
-        must_pass("late updates", number as u64, &day, fault);
-    }
+    must_pass(late_days(), fault);
 }
 
 #[test]
 fn small_days_with_every_listing_and_fill_after_every_step() {
-    for seed in seeds(800) {
-        must_pass("small", seed, &random_day(&Profile::SMALL, seed), fault_with_reads);
-    }
-    for seed in 0..10 {
-        must_pass("chain of joins", seed, &chain_of_joins(seed), fault_with_reads);
-    }
+    must_pass(Profile::SMALL.days(seeds(800)), fault_with_reads);
+    must_pass(chains_of_joins(0..10), fault_with_reads);
 }
 
 /// A preview of each pair of boxes after every step, of a bib that is entered and of one too high.
 #[test]
 fn small_days_with_every_preview_after_every_step() {
-    for seed in seeds(100) {
-        must_pass("small", seed, &random_day(&Profile::SMALL, seed), fault_with_previews);
-    }
+    must_pass(Profile::SMALL.days(seeds(100)), fault_with_previews);
 }
 
 /// 02, U4 and U6, by the library alone: a bundle is its updates and a yield, or changes nothing; a
@@ -76,45 +67,27 @@ fn bundles_and_previews_are_what_other_calls_come_to() {
     };
     let bundles = |calls: &[Call]| fault_of_bundles(fresh(), calls, on_library);
     let previews = |calls: &[Call]| fault_of_previews(fresh(), calls, on_library);
-    for (profile, count) in KINDS {
-        for seed in seeds(count.div_ceil(8)) {
-            must_pass(profile.name, seed, &random_day(&profile, seed), bundles);
-            must_pass(profile.name, seed, &random_day(&profile, seed), previews);
-        }
-    }
-    for (number, day) in late_days().enumerate() {
-        must_pass("late updates", number as u64, &day, previews);
-    }
+    must_pass(days_of(&one_in(8)), bundles);
+    must_pass(days_of(&one_in(8)), previews);
+    must_pass(late_days(), previews);
 }
 
 /// Random days on the library, each bundle of whole records sent in both forms.
 #[test]
 fn both_forms_on_random_days() {
     let kinds = [(Profile::BUNDLES, 100), (Profile::NEARLY_FULL, 30), (Profile::STRANGE, 100)];
-    for (profile, count) in kinds {
-        for seed in seeds(count) {
-            must_pass(profile.name, seed, &random_day(&profile, seed), |calls| {
-                let mut t = fresh();
-                calls.iter().find_map(|call| fault_of_entries(&mut t, call))
-            });
-        }
-    }
+    must_pass(days_of(&kinds), |calls| {
+        let mut t = fresh();
+        calls.iter().find_map(|call| fault_of_entries(&mut t, call))
+    });
 }
 
 /// 02, U1: after every step, the own updates of all boxes out come to the updates accepted.
 #[test]
 fn fills_come_to_the_updates_accepted() {
-    for (profile, count) in KINDS {
-        for seed in seeds(count.div_ceil(4)) {
-            must_pass(profile.name, seed, &random_day(&profile, seed), fault_of_a_sum);
-        }
-    }
-    for seed in seeds(200) {
-        must_pass("small", seed, &random_day(&Profile::SMALL, seed), fault_of_a_sum);
-    }
-    for seed in seeds(30) {
-        must_pass("chain of joins", seed, &chain_of_joins(seed), fault_of_a_sum);
-    }
+    must_pass(days_of(&one_in(4)), fault_of_a_sum);
+    must_pass(Profile::SMALL.days(seeds(200)), fault_of_a_sum);
+    must_pass(chains_of_joins(seeds(30)), fault_of_a_sum);
 }
 
 /// The first call on which they differ, in words.
