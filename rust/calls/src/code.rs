@@ -38,7 +38,31 @@ pub enum Code {
     WrongBundle = 14,
 }
 
+/// In the order of their numbers.
+const ALL: [Code; 15] = [
+    Code::Accepted,
+    Code::NoTable,
+    Code::StrangeClient,
+    Code::NeverForked,
+    Code::Joined,
+    Code::BadEntry,
+    Code::OtherRevisionOpen,
+    Code::InUse,
+    Code::StaleClient,
+    Code::LogFull,
+    Code::NoRevisionLeft,
+    Code::NotJoinable,
+    Code::ListingShort,
+    Code::StrangeStep,
+    Code::WrongBundle,
+];
+
 impl Code {
+    /// The code of a number, if there is one.
+    pub fn of(number: u8) -> Option<Self> {
+        ALL.get(usize::from(number)).copied()
+    }
+
     /// The number.
     pub fn number(self) -> u8 {
         self as u8
@@ -69,5 +93,18 @@ impl Code {
 impl fmt::Display for Code {
     fn fmt(&self, f: &mut fmt::Formatter<'_>) -> fmt::Result {
         write!(f, "{} {}", self.number(), self.name())
+    }
+}
+
+#[cfg(test)]
+mod tests {
+    use super::*;
+
+    #[test]
+    fn each_number_has_its_code() {
+        for number in 0..=14 {
+            assert_eq!(Code::of(number).map(Code::number), Some(number));
+        }
+        assert_eq!(Code::of(15), None);
     }
 }

@@ -3,8 +3,8 @@
 
 use calls::{Answer, Call, Code, State};
 use days::{
-    chains_of_joins, days_of, fault_of_previews, late_days, must_find, must_pass, seeds, shown,
-    Profile, Sample,
+    chains_of_joins, days_of, fault_of_previews, late_days, must_find, must_pass, seeds, Profile,
+    Sample,
 };
 use literal::{Day, Standing};
 
@@ -21,7 +21,7 @@ const KINDS: [(Profile, u64); 8] = [
 ];
 
 fn by_plain(calls: &[Call]) -> Option<String> {
-    fault_of_previews(plain::Day::fresh(), calls, |day, call| shown(&day.call(call)))
+    fault_of_previews(plain::Day::fresh(), calls, plain::Day::call)
 }
 
 #[test]
@@ -142,9 +142,9 @@ fn wrong_previews_are_found() {
             fault_of_previews(Day::fresh(), calls, |day, call| match *call {
                 Call::Preview { joiner, joinee, bib } => {
                     let right = day.call(call);
-                    shown(&wrong(day, [joiner, joinee].map(usize::from), bib, right))
+                    wrong(day, [joiner, joinee].map(usize::from), bib, right)
                 }
-                _ => shown(&day.call(call)),
+                _ => day.call(call),
             })
         };
         must_find(name, kinds.into_iter().flat_map(|kind| kind.days(0..30)), by_wrong);

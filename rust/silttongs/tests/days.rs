@@ -3,13 +3,15 @@
 
 mod common;
 
-use calls::{Call, Line};
-use common::{as_given, difference, first_difference, library, Given};
+use calls::{Answer, Call, Line};
+use common::{
+    answered, as_given, difference, first_difference, fresh, library, only_reads, refused,
+};
 use days::{
     chains_of_joins, days_of, fault_of_bundles, fault_of_fills, fault_of_previews, late_days,
-    must_pass, seeds, Profile, Shown,
+    must_pass, seeds, Profile,
 };
-use silttongs::{Entry, Table, BYTES};
+use silttongs::{Entry, Table};
 
 /// How many days of each kind are replayed.
 const KINDS: [(Profile, u64); 10] = [
@@ -61,12 +63,8 @@ fn small_days_with_every_preview_after_every_step() {
 /// preview is the join on a copy and a query there.
 #[test]
 fn bundles_and_previews_are_what_other_calls_come_to() {
-    let on_library = |t: &mut Vec<u8>, call: &Call| {
-        let Given { code, state, value, gain, .. } = library(t, call);
-        Shown { code, state, value, gain }
-    };
-    let bundles = |calls: &[Call]| fault_of_bundles(fresh(), calls, on_library);
-    let previews = |calls: &[Call]| fault_of_previews(fresh(), calls, on_library);
+    let bundles = |calls: &[Call]| fault_of_bundles(fresh(), calls, answered);
+    let previews = |calls: &[Call]| fault_of_previews(fresh(), calls, answered);
     must_pass(days_of(&one_in(8)), bundles);
     must_pass(days_of(&one_in(8)), previews);
     must_pass(late_days(), previews);
@@ -109,16 +107,12 @@ fn fault_with_previews(calls: &[Call]) -> Option<String> {
 }
 
 fn fault_of_a_sum(calls: &[Call]) -> Option<String> {
-    let mut day = Day::fresh();
-    fault_of_fills(calls, |call| {
-        let given = library(&mut day.table, call);
-        (given.code == 0).then_some((given.value, given.total))
-    })
+    fault_of_fills(fresh(), calls, answered)
 }
 
 fn fault_of_entries(t: &mut Vec<u8>, call: &Call) -> Option<String> {
     let mut other = Table::from_bytes(t.clone());
-    let given = library(t, call);
+    let by_records = answered(t, call);
     let Call::Bundle { client, revision, ref records } = *call else { return None };
     let (whole, rest) = records.as_chunks();
     if !rest.is_empty() {
@@ -130,13 +124,9 @@ fn fault_of_entries(t: &mut Vec<u8>, call: &Call) -> Option<String> {
     };
     let entries: Vec<Entry> = whole.iter().map(entry).collect();
     let answer = other.bundle_entries(client, revision, &entries);
-    let by_entries = answer.map_or_else(|refusal| (refusal.code(), 0), |value| (0, value));
-    let same = by_entries == (given.code, given.value) && other.bytes() == t;
-    (!same).then(|| format!("`{call}`: as entries {by_entries:?}, as records {given:?}"))
-}
-
-fn fresh() -> Vec<u8> {
-    Table::fresh(vec![0xa5; BYTES]).expect("the length is right").into_bytes()
+    let by_entries = answer.map_or_else(|refusal| refused(refusal.code()), Answer::accepted);
+    let same = by_entries == by_records && other.bytes() == t;
+    (!same).then(|| format!("`{call}`: as entries {by_entries:?}, as records {by_records:?}"))
 }
 
 /// A day on all three.
@@ -154,7 +144,7 @@ impl Day {
     /// Makes the call. The plain implementation is not asked to list, to fill or to preview: its bytes
     /// are then the table's before the call.
     fn fault(&mut self, call: &Call) -> Option<String> {
-        if !matches!(call, Call::List { .. } | Call::Fill { .. } | Call::Preview { .. }) {
+        if !only_reads(call) {
             self.plain.call(call);
         }
         let fault = self.fault_of_answer(call).or_else(|| self.fault_of_bytes());
@@ -162,7 +152,7 @@ impl Day {
     }
 
     fn fault_of_answer(&mut self, call: &Call) -> Option<String> {
-        let expected = as_given(call, &self.literal.call(call));
+        let expected = as_given(call, self.literal.call(call));
         difference(&library(&mut self.table, call), &expected)
     }
 
