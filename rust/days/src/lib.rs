@@ -22,6 +22,7 @@ mod late;
 mod line_up;
 mod previews;
 mod profile;
+mod reads;
 mod rng;
 mod sample;
 
@@ -37,5 +38,6 @@ pub use late::late_days;
 pub use line_up::{broken_sentence, SENTENCES};
 pub use previews::fault_of_previews;
 pub use profile::{Profile, Weights};
+pub use reads::{every_fill, every_list, every_preview};
 pub use rng::Rng;
 pub use sample::{days_of, seeds, Sample};

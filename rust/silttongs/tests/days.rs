@@ -8,8 +8,8 @@ use common::{
     answered, as_given, difference, first_difference, fresh, library, only_reads, refused,
 };
 use days::{
-    chains_of_joins, days_of, fault_of_bundles, fault_of_fills, fault_of_previews, late_days,
-    must_pass, seeds, Profile,
+    chains_of_joins, days_of, every_fill, every_list, every_preview, fault_of_bundles,
+    fault_of_fills, fault_of_previews, late_days, must_pass, seeds, Profile,
 };
 use silttongs::{Entry, Table};
 
@@ -97,13 +97,17 @@ fn fault(calls: &[Call]) -> Option<String> {
 fn fault_with_reads(calls: &[Call]) -> Option<String> {
     let mut day = Day::fresh();
     calls.iter().find_map(|call| {
-        day.fault(call).or_else(|| day.fault_of_a_fill()).or_else(|| day.fault_of_a_listing())
+        day.fault(call)
+            .or_else(|| every_fill(&day.literal).iter().find_map(|fill| day.fault(fill)))
+            .or_else(|| day.fault_of_reads(&every_list(&day.literal, 1)))
     })
 }
 
 fn fault_with_previews(calls: &[Call]) -> Option<String> {
     let mut day = Day::fresh();
-    calls.iter().find_map(|call| day.fault(call).or_else(|| day.fault_of_a_preview()))
+    calls.iter().find_map(|call| {
+        day.fault(call).or_else(|| day.fault_of_reads(&every_preview(&day.literal, &[0, 1_000])))
+    })
 }
 
 fn fault_of_a_sum(calls: &[Call]) -> Option<String> {
@@ -162,36 +166,12 @@ impl Day {
         Some(format!("byte {at} is {}, plain has {}", self.table[at], bytes[at]))
     }
 
-    /// Fills of every revision, and of numbers that were not given out.
-    fn fault_of_a_fill(&mut self) -> Option<String> {
-        let given = self.literal.revisions().len() as u8;
-        (0..=given).chain([64, 255]).find_map(|revision| self.fault(&Call::Fill { revision }))
-    }
-
-    /// Previews of every two revisions, and of the number after the last.
-    fn fault_of_a_preview(&mut self) -> Option<String> {
-        let given = self.literal.revisions().len() as u8;
-        let pairs = (0..=given).flat_map(|joiner| (0..=given).map(move |joinee| (joiner, joinee)));
-        let all = pairs.flat_map(|pair| [0, 1_000].map(|bib| (pair, bib)));
-        let mut previews = all.map(|((joiner, joinee), bib)| Call::Preview { joiner, joinee, bib });
-        previews
-            .find_map(|call| self.fault_of_answer(&call).map(|fault| format!("`{call}`: {fault}")))
-            .or_else(|| self.fault_of_bytes().map(|fault| format!("after previews: {fault}")))
-    }
-
-    /// Lists every revision, and the number after the last: with a byte more than it needs, with
-    /// just enough, and with a byte less.
-    fn fault_of_a_listing(&mut self) -> Option<String> {
-        let given = self.literal.revisions().len();
-        (0..=given)
-            .find_map(|number| {
-                let needed =
-                    if number < given { 12 * self.literal.visible(number).len() } else { 0 };
-                [needed + 1, needed, needed.saturating_sub(1)].into_iter().find_map(|room| {
-                    let call = Call::List { revision: number as u8, room };
-                    self.fault_of_answer(&call).map(|fault| format!("`{call}`: {fault}"))
-                })
-            })
-            .or_else(|| self.fault_of_bytes().map(|fault| format!("after listings: {fault}")))
+    /// Makes these calls, which only read. The bytes are compared after the last: that takes most of
+    /// the time.
+    fn fault_of_reads(&mut self, reads: &[Call]) -> Option<String> {
+        reads
+            .iter()
+            .find_map(|call| self.fault_of_answer(call).map(|fault| format!("`{call}`: {fault}")))
+            .or_else(|| self.fault_of_bytes().map(|fault| format!("after reads: {fault}")))
     }
 }
