@@ -1,5 +1,7 @@
 //! What a call answers with.
 
+use std::fmt;
+
 use crate::Code;
 
 /// How a bib stands: 02, U2. It is struck "or, if not, timed exactly if its value isn't 0".
@@ -103,9 +105,44 @@ impl Answer {
     }
 }
 
+/// Code and value, and what else is not as in a refusal.
+impl fmt::Display for Answer {
+    fn fmt(&self, f: &mut fmt::Formatter<'_>) -> fmt::Result {
+        let Answer { code, state, value, total, gain, ref lines } = *self;
+        write!(f, "code {}, value {value}", code.number())?;
+        if state != State::Neither {
+            write!(f, ", state {state:?}")?;
+        }
+        if total != 0 {
+            write!(f, ", total {total}")?;
+        }
+        if gain != 0 {
+            write!(f, ", gain {gain}")?;
+        }
+        if !lines.is_empty() {
+            let numbers: Vec<u32> = lines.iter().map(|line| line.number).collect();
+            write!(f, ", updates {numbers:?} of {lines:?}")?;
+        }
+        Ok(())
+    }
+}
+
 #[cfg(test)]
 mod tests {
-    use super::Line;
+    use super::*;
+
+    #[test]
+    fn answers_are_written_as_far_as_they_tell() {
+        let written = [
+            (Answer::refused(Code::NotJoinable), "code 11, value 0"),
+            (Answer::found(State::Struck, 0), "code 0, value 0, state Struck"),
+            (Answer::filled(1, 2), "code 0, value 1, total 2"),
+            (Answer::previewed(State::Timed, 9, 3), "code 0, value 9, state Timed, gain 3"),
+        ];
+        for (answer, text) in written {
+            assert_eq!(answer.to_string(), text);
+        }
+    }
 
     #[test]
     fn fields_stand_where_01_puts_them() {

@@ -1,6 +1,6 @@
 //! The literal replay against the plain implementation, answer by answer.
 
-use calls::{Answer, Call, State};
+use calls::Call;
 use literal::Day;
 
 use crate::reads::{every_fill, every_list, every_preview};
@@ -41,26 +41,6 @@ impl Both {
 
     fn differ(&mut self, call: &Call) -> Option<String> {
         let (literal, plain) = (self.literal.call(call), self.plain.call(call));
-        (literal != plain).then(|| {
-            format!("`{call}`: literal {}, plain {}", described(&literal), described(&plain))
-        })
+        (literal != plain).then(|| format!("`{call}`: literal {literal}, plain {plain}"))
     }
-}
-
-fn described(answer: &Answer) -> String {
-    let mut text = format!("code {}, value {}", answer.code.number(), answer.value);
-    if answer.state != State::Neither {
-        text += &format!(", state {:?}", answer.state);
-    }
-    if answer.total != 0 {
-        text += &format!(", total {}", answer.total);
-    }
-    if answer.gain != 0 {
-        text += &format!(", gain {}", answer.gain);
-    }
-    if !answer.lines.is_empty() {
-        let numbers: Vec<u32> = answer.lines.iter().map(|line| line.number).collect();
-        text += &format!(", updates {numbers:?} of {:?}", answer.lines);
-    }
-    text
 }

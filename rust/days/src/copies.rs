@@ -16,8 +16,8 @@ pub(crate) fn fault_on_copies<D: Clone + PartialEq>(
         let given = make(&mut day, call);
         let (right, left) = right(call, before, &given)?;
         if given != right {
-            return Some(format!("`{call}`: gives {given:?}, not {right:?}"));
+            return Some(format!("`{call}`: gives {given}, not {right}"));
         }
-        (day != left).then(|| format!("`{call}`: gives {given:?} and leaves another table"))
+        (day != left).then(|| format!("`{call}`: gives {given} and leaves another table"))
     })
 }

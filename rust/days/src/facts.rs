@@ -1,8 +1,8 @@
 //! What demand 3 speaks of, read off the literal day: who sees whom, by a path search for each pair
 //! of vertices, and what stood where before and after each call.
 
-use calls::{Answer, Call};
-use literal::{Day, Revision, Transaction, Update, VertexId, VertexKind};
+use calls::{Answer, Call, State};
+use literal::{Day, Revision, Standing, Transaction, Update, VertexId, VertexKind};
 
 /// A call of the day.
 #[derive(Clone, Debug)]
@@ -93,6 +93,13 @@ impl Facts {
         let events = order.iter().flat_map(|&t| self.events(t));
         events.filter(|&y| self.sees[x][y]).filter_map(|y| self.number(y)).collect()
     }
+}
+
+/// How a bib stands after these updates, applied to the fresh values in this order: state and value.
+pub fn stands(updates: impl Iterator<Item = Update>, bib: u16) -> (State, u32) {
+    let of_bib = updates.filter(|update| update.bib == bib);
+    let standing = of_bib.fold(Standing::FRESH, |standing, update| update.applied_to(standing));
+    (standing.state(), standing.value())
 }
 
 fn views_now(day: &Day) -> Vec<Option<View>> {

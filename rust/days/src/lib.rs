@@ -30,7 +30,7 @@ pub use arbitration::arbitration_order;
 pub use bundles::{fault_of_bundles, updates_of};
 pub use chains::chains_of_joins;
 pub use compare::{disagreement, disagreement_with_previews, disagreement_with_reads};
-pub use facts::{Facts, Step, View};
+pub use facts::{stands, Facts, Step, View};
 pub use fills::fault_of_fills;
 pub use generator::random_day;
 pub use judge::{must_find, must_pass};

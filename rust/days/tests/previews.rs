@@ -3,10 +3,10 @@
 
 use calls::{Answer, Call, Code, State};
 use days::{
-    chains_of_joins, days_of, fault_of_previews, late_days, must_find, must_pass, seeds, Profile,
-    Sample,
+    chains_of_joins, days_of, fault_of_previews, late_days, must_find, must_pass, seeds, stands,
+    Profile, Sample,
 };
-use literal::{Day, Standing};
+use literal::Day;
 
 /// How many days of each kind are replayed.
 const KINDS: [(Profile, u64); 8] = [
@@ -45,7 +45,7 @@ fn previews_of_every_kind_are_made() {
                 continue;
             }
             states[answer.state as usize] += 1;
-            let before = stands(&day, day.visible(usize::from(joiner)), bib);
+            let before = after(&day, day.visible(usize::from(joiner)), bib);
             changed += usize::from(before != (answer.state, answer.value));
             empty += usize::from(answer.gain == 0);
             joined += usize::from(calls.get(at + 1) == Some(&Call::Join { joiner, joinee }));
@@ -56,12 +56,9 @@ fn previews_of_every_kind_are_made() {
     assert!(met.iter().all(|&times| times >= 150), "{met:?}");
 }
 
-/// How a bib stands after these updates, by number, in this order.
-fn stands(day: &Day, numbers: Vec<usize>, bib: u16) -> (State, u32) {
-    let updates = numbers.into_iter().map(|number| day.updates()[number]);
-    let of_bib = updates.filter(|update| update.bib == bib);
-    let standing = of_bib.fold(Standing::FRESH, |standing, update| update.applied_to(standing));
-    (standing.state(), standing.value())
+/// How a bib stands after the updates of these numbers, in this order.
+fn after(day: &Day, numbers: Vec<usize>, bib: u16) -> (State, u32) {
+    stands(numbers.into_iter().map(|number| day.updates()[number]), bib)
 }
 
 /// What a wrong preview answers and does; the last argument is what is right.
@@ -110,7 +107,7 @@ const WRONG: [(&str, Wrong); 11] = [
     }),
     ("a refusal tells the state", |day, [joiner, _], bib, right| match right.code {
         Code::NotJoinable => {
-            let (state, value) = stands(day, day.visible(joiner), bib);
+            let (state, value) = after(day, day.visible(joiner), bib);
             Answer { state, value, ..right }
         }
         _ => right,
@@ -130,7 +127,7 @@ fn told(day: &Day, bib: u16, right: Answer, numbers: impl Fn(&Day) -> Vec<usize>
     if right.code != Code::Accepted {
         return right;
     }
-    let (state, value) = stands(day, numbers(day), bib);
+    let (state, value) = after(day, numbers(day), bib);
     Answer { state, value, ..right }
 }
 

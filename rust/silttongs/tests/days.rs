@@ -130,7 +130,7 @@ fn fault_of_entries(t: &mut Vec<u8>, call: &Call) -> Option<String> {
     let answer = other.bundle_entries(client, revision, &entries);
     let by_entries = answer.map_or_else(|refusal| refused(refusal.code()), Answer::accepted);
     let same = by_entries == by_records && other.bytes() == t;
-    (!same).then(|| format!("`{call}`: as entries {by_entries:?}, as records {by_records:?}"))
+    (!same).then(|| format!("`{call}`: as entries {by_entries}, as records {by_records}"))
 }
 
 /// A day on all three.

@@ -106,7 +106,7 @@ pub(crate) fn only_reads(call: &Call) -> bool {
 /// What is other than expected, in words.
 pub(crate) fn difference(given: &Given, expected: &Given) -> Option<String> {
     if given.answer != expected.answer {
-        return Some(format!("gives {:?}, not {:?}", given.answer, expected.answer));
+        return Some(format!("gives {}, not {}", given.answer, expected.answer));
     }
     let at = first_difference(&given.sheet, &expected.sheet)?;
     Some(format!("byte {at} of the sheet is {}, not {}", given.sheet[at], expected.sheet[at]))
