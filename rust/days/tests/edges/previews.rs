@@ -11,6 +11,7 @@ fn preview(joiner: u8, joinee: u8, bib: u16) -> Call {
 }
 
 /// Makes the calls of one day and then a preview, which the join and a query by tablet 15 bear out.
+#[track_caller]
 fn shows(name: &str, calls: &[Call], pair: (u8, u8), bib: u16, right: (State, u32, u32)) {
     let (joiner, joinee) = pair;
     let look = [preview(joiner, joinee, bib), join(joiner, joinee), query(15, joiner, bib)];
@@ -180,29 +181,26 @@ fn a_bad_bib_is_found_last() {
 /// goes on as without them.
 #[test]
 fn a_preview_is_no_event() {
-    day(
-        "previews",
-        &[
-            (update(0, 0, TIME, 7, 5), 0, 0),
-            (yields(0), 0, 0),
-            (fork(0), 0, 1),
-            (update(1, 1, PENALTY, 7, 2), 0, 1),
-            (preview(0, 1, 7), 7, 0),
-            (yields(1), 0, 0),
-            (preview(0, 1, 7), 0, 7),
-            (preview(0, 1, 7), 0, 7),
-            (preview(1, 0, 7), 11, 0),
-            (preview(0, 1, 1000), 5, 0),
-            (query(2, 0, 7), 0, 5),
-            (query(3, 1, 7), 0, 7),
-            (yields(2), 0, 0),
-            (yields(3), 0, 0),
-            (list(0, 12), 0, 1),
-            (fork(1), 0, 2),
-            (join(0, 1), 0, 1),
-            (preview(0, 1, 7), 4, 0),
-        ],
-    );
+    day(&[
+        (update(0, 0, TIME, 7, 5), 0, 0),
+        (yields(0), 0, 0),
+        (fork(0), 0, 1),
+        (update(1, 1, PENALTY, 7, 2), 0, 1),
+        (preview(0, 1, 7), 7, 0),
+        (yields(1), 0, 0),
+        (preview(0, 1, 7), 0, 7),
+        (preview(0, 1, 7), 0, 7),
+        (preview(1, 0, 7), 11, 0),
+        (preview(0, 1, 1000), 5, 0),
+        (query(2, 0, 7), 0, 5),
+        (query(3, 1, 7), 0, 7),
+        (yields(2), 0, 0),
+        (yields(3), 0, 0),
+        (list(0, 12), 0, 1),
+        (fork(1), 0, 2),
+        (join(0, 1), 0, 1),
+        (preview(0, 1, 7), 4, 0),
+    ]);
 }
 
 /// A full log on a box that is not the main one.
