@@ -3,7 +3,7 @@
 mod common;
 
 use calls::{Call, Code};
-use common::{file, printed_by_literal, random_record};
+use common::{file, printed_by_literal, random_records};
 use dayfile::{
     answers, drawn_day, printed_day, read_file, read_text, write_file, write_text, BadFile, Record,
     LONGEST, MOST_STEPS,
@@ -126,8 +126,7 @@ fn more_steps_than_fit_are_not_written() {
 #[test]
 fn random_files_print_alike_through_text_and_by_the_literal_replay() {
     for seed in 0..500 {
-        let mut rng = Rng::new(seed);
-        let records: Vec<Record> = (0..rng.below(60)).map(|_| random_record(&mut rng)).collect();
+        let records = random_records(&mut Rng::new(seed), 60);
         let bytes = write_file(&records).unwrap();
         let text = write_text(&records);
         let again = write_file(&read_text(&text).unwrap()).unwrap();
@@ -142,8 +141,7 @@ fn random_files_print_alike_through_text_and_by_the_literal_replay() {
 #[test]
 fn random_files_are_drawn_step_by_step() {
     for seed in 0..500 {
-        let mut rng = Rng::new(seed);
-        let records: Vec<Record> = (0..rng.below(60)).map(|_| random_record(&mut rng)).collect();
+        let records = random_records(&mut Rng::new(seed), 60);
         let accepted = || {
             let answered = records.iter().zip(answers(&records));
             answered.filter(|(_, answer)| answer.code == Code::Accepted).map(|(r, _)| r.call())

@@ -2,13 +2,14 @@
 //! literal replay's.
 
 mod common;
+#[path = "common/run.rs"]
+mod run;
 
-use std::io::Write;
 use std::path::Path;
-use std::process::{Command, Stdio};
+use std::process::Command;
 
 use calls::Call;
-use common::{file, printed_by_literal, random_record};
+use common::{file, printed_by_literal, random_record, random_records};
 use dayfile::{read_file, read_text, write_file, Record, LONGEST};
 use days::{chains_of_joins, days_of, late_days, seeds, Profile, Rng, Sample};
 
@@ -20,18 +21,7 @@ fn printed(bytes: &[u8]) -> String {
         "{} is missing: run `rt check day` in the repository's folder",
         program.display()
     );
-    let mut child = Command::new(program)
-        .stdin(Stdio::piped())
-        .stdout(Stdio::piped())
-        .stderr(Stdio::piped())
-        .spawn()
-        .unwrap();
-    // Of a file that is too long it may leave the rest unread.
-    let _ = child.stdin.take().unwrap().write_all(bytes);
-    let output = child.wait_with_output().unwrap();
-    assert!(output.status.success(), "{}", output.status);
-    assert_eq!(output.stderr, b"");
-    String::from_utf8(output.stdout).unwrap()
+    String::from_utf8(run::output(&mut Command::new(program), bytes)).unwrap()
 }
 
 /// How many lines of what it prints say `struck`.
@@ -72,6 +62,13 @@ fn with_gap(records: &[Record], gap: usize, rng: &mut Rng) -> Vec<u8> {
     bytes
 }
 
+/// A file of so many random records at most, and of a gap.
+fn random_file(rng: &mut Rng, records: usize, gap: usize) -> Vec<u8> {
+    let records = random_records(rng, records);
+    let gap = rng.below(gap);
+    with_gap(&records, gap, rng)
+}
+
 /// A day, as far as it fits a file, with strange steps in it.
 fn day_file(day: &Sample) -> Vec<u8> {
     let mut rng = Rng::new(day.seed);
@@ -110,13 +107,10 @@ fn random_days() {
 }
 
 #[test]
-fn random_records() {
+fn files_of_random_records() {
     let mut struck = 0;
     for seed in seeds(200) {
-        let mut rng = Rng::new(seed);
-        let records: Vec<Record> = (0..rng.below(200)).map(|_| random_record(&mut rng)).collect();
-        let gap = rng.below(40);
-        let bytes = with_gap(&records, gap, &mut rng);
+        let bytes = random_file(&mut Rng::new(seed), 200, 40);
         struck += must_print(&bytes, &format!("random records, seed {seed}"));
     }
     assert!(struck >= 10, "{struck} lines say `struck`");
@@ -172,10 +166,9 @@ fn malformed_files() {
     let mut bad = 0;
     for seed in seeds(300) {
         let mut rng = Rng::new(seed);
-        let records: Vec<Record> = (0..rng.below(20)).map(|_| random_record(&mut rng)).collect();
-        let gap = rng.below(30);
-        let mut bytes = with_gap(&records, gap, &mut rng);
-        let (mut count, mut offset) = (records.len() as u32, 8 + gap as u32);
+        let mut bytes = random_file(&mut rng, 20, 30);
+        let [mut count, mut offset] =
+            [0, 4].map(|at| u32::from_le_bytes(*bytes[at..].first_chunk().unwrap()));
         let any = rng.bits() as u32;
         if rng.percent(40) {
             // 12 times 2^30 is 0 modulo 2^32.

@@ -1,7 +1,9 @@
 //! The library's calls as values, and what they are compared with.
 
+mod fresh;
+
 use calls::{Answer, Call, Code, State};
-use silttongs::{Standing, Table, BYTES};
+use silttongs::{Standing, Table};
 
 /// What a call left, but for the table.
 #[derive(Clone, Debug, PartialEq, Eq)]
@@ -14,7 +16,7 @@ pub(crate) struct Given {
 
 /// The bytes of a fresh table.
 pub(crate) fn fresh() -> Vec<u8> {
-    Table::fresh(vec![0xa5; BYTES]).expect("the length is right").into_bytes()
+    fresh::fresh().into_bytes()
 }
 
 /// The sheet of a list before the call: as long as the call says, up to more than any listing
