@@ -38,29 +38,29 @@ pub enum Code {
     WrongBundle = 14,
 }
 
-/// In the order of their numbers.
-const ALL: [Code; 15] = [
-    Code::Accepted,
-    Code::NoTable,
-    Code::StrangeClient,
-    Code::NeverForked,
-    Code::Joined,
-    Code::BadEntry,
-    Code::OtherRevisionOpen,
-    Code::InUse,
-    Code::StaleClient,
-    Code::LogFull,
-    Code::NoRevisionLeft,
-    Code::NotJoinable,
-    Code::ListingShort,
-    Code::StrangeStep,
-    Code::WrongBundle,
+/// Each code with its name, in the order of their numbers.
+const NAMED: [(Code, &str); 15] = [
+    (Code::Accepted, "taken"),
+    (Code::NoTable, "no table"),
+    (Code::StrangeClient, "strange tablet"),
+    (Code::NeverForked, "never sent"),
+    (Code::Joined, "handed in"),
+    (Code::BadEntry, "bad entry"),
+    (Code::OtherRevisionOpen, "other box open"),
+    (Code::InUse, "in use"),
+    (Code::StaleClient, "not caught up"),
+    (Code::LogFull, "log full"),
+    (Code::NoRevisionLeft, "no box left"),
+    (Code::NotJoinable, "not joinable"),
+    (Code::ListingShort, "sheet short"),
+    (Code::StrangeStep, "strange step"),
+    (Code::WrongBundle, "wrong bundle"),
 ];
 
 impl Code {
     /// The code of a number, if there is one.
     pub fn of(number: u8) -> Option<Self> {
-        ALL.get(usize::from(number)).copied()
+        NAMED.get(usize::from(number)).map(|&(code, _)| code)
     }
 
     /// The number.
@@ -70,23 +70,7 @@ impl Code {
 
     /// The name.
     pub fn name(self) -> &'static str {
-        match self {
-            Code::Accepted => "taken",
-            Code::NoTable => "no table",
-            Code::StrangeClient => "strange tablet",
-            Code::NeverForked => "never sent",
-            Code::Joined => "handed in",
-            Code::BadEntry => "bad entry",
-            Code::OtherRevisionOpen => "other box open",
-            Code::InUse => "in use",
-            Code::StaleClient => "not caught up",
-            Code::LogFull => "log full",
-            Code::NoRevisionLeft => "no box left",
-            Code::NotJoinable => "not joinable",
-            Code::ListingShort => "sheet short",
-            Code::StrangeStep => "strange step",
-            Code::WrongBundle => "wrong bundle",
-        }
+        NAMED[usize::from(self.number())].1
     }
 }
 

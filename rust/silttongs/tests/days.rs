@@ -128,7 +128,7 @@ fn fault_of_entries(t: &mut Vec<u8>, call: &Call) -> Option<String> {
     };
     let entries: Vec<Entry> = whole.iter().map(entry).collect();
     let answer = other.bundle_entries(client, revision, &entries);
-    let by_entries = answer.map_or_else(|refusal| refused(refusal.code()), Answer::accepted);
+    let by_entries = answer.map_or_else(refused, Answer::accepted);
     let same = by_entries == by_records && other.bytes() == t;
     (!same).then(|| format!("`{call}`: as entries {by_entries}, as records {by_records}"))
 }

@@ -71,6 +71,17 @@ fn refused_after(rows: &[Row], call: Call, code: u8) {
     day(&[rows, &[(call, code, 0)]].concat());
 }
 
+/// Revision 1 is forked and gets an update of bib 7, as kind and argument. Then revision 0 gets one.
+fn late_update(late: (u8, u32), since: (u8, u32)) -> [Call; 5] {
+    [
+        fork(0),
+        update(1, 1, late.0, 7, late.1),
+        yields(1),
+        update(0, 0, since.0, 7, since.1),
+        yields(0),
+    ]
+}
+
 /// Revision 3 was joined, 1 and 2 are busy with clients 1 and 2, and client 4 has caught up with 0
 /// alone.
 fn busy_revisions() -> [Row; 8] {

@@ -2,7 +2,9 @@
 
 use calls::{Answer, Call, Code, State};
 
-use super::{answers, fork, join, query, update, yields, EARLIEST, PENALTY, STRIKE, TIME};
+use super::{
+    answers, fork, join, late_update, query, update, yields, EARLIEST, PENALTY, STRIKE, TIME,
+};
 
 /// Enters updates of bib 7, and compares what a query then answers.
 fn stands(updates: &[(u8, u32)], state: State, value: u32) {
@@ -77,17 +79,9 @@ fn a_strike_and_a_late_box() {
     for (kind, state, value) in
         [(EARLIEST, State::Struck, 0), (PENALTY, State::Struck, 0), (TIME, State::Timed, 60000)]
     {
-        let calls = [
-            update(0, 0, TIME, 7, 61000),
-            yields(0),
-            fork(0),
-            update(1, 1, kind, 7, 60000),
-            yields(1),
-            update(0, 0, STRIKE, 7, 0),
-            yields(0),
-            join(0, 1),
-            query(2, 0, 7),
-        ];
+        let first = [update(0, 0, TIME, 7, 61000), yields(0)];
+        let late = late_update((kind, 60000), (STRIKE, 0));
+        let calls = [&first[..], &late, &[join(0, 1), query(2, 0, 7)]].concat();
         assert_eq!(answers(&calls).pop(), Some(Answer::found(state, value)), "kind {kind}");
     }
 }

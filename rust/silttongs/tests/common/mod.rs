@@ -3,7 +3,7 @@
 mod fresh;
 
 use calls::{Answer, Call, Code, State};
-use silttongs::{Standing, Table};
+use silttongs::{Refusal, Standing, Table};
 
 /// What a call left, but for the table.
 #[derive(Clone, Debug, PartialEq, Eq)]
@@ -55,7 +55,7 @@ pub(crate) fn library(bytes: &mut [u8], call: &Call) -> Given {
             .preview(joiner, joinee, bib)
             .map(|preview| Answer { gain: preview.gain, ..found(preview.standing) }),
     };
-    Given { answer: answer.unwrap_or_else(|refusal| refused(refusal.code())), sheet }
+    Given { answer: answer.unwrap_or_else(refused), sheet }
 }
 
 /// What the library answers, without the sheet.
@@ -72,9 +72,11 @@ fn found(standing: Standing) -> Answer {
     Answer::found(state, standing.value())
 }
 
-/// A refusal with the code of this number.
-pub(crate) fn refused(number: u8) -> Answer {
-    Answer::refused(Code::of(number).expect("a code of the desk"))
+/// The answer of a refused call. The wrapper has numbers and names of its own: they are those of 01.
+pub(crate) fn refused(refusal: Refusal) -> Answer {
+    let code = Code::of(refusal.code()).expect("a code of the desk");
+    assert_eq!(refusal.name(), code.name());
+    Answer::refused(code)
 }
 
 /// What the plain implementation gives.
