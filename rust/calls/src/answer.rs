@@ -34,7 +34,8 @@ pub struct Answer {
     pub lines: Vec<Line>,
 }
 
-/// One entry of a listing, in the order of its fields there; or a record of a bundle.
+/// One entry of a listing, in the order of its fields there; or a record of a bundle. The wrapper
+/// `silttongs` has a type and a reading of its own, which tests compare with this one.
 #[derive(Clone, Copy, Debug, PartialEq, Eq)]
 pub struct Line {
     /// 1 Time, 2 Earliest, 3 Penalty, 4 Strike.

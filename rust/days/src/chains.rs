@@ -4,6 +4,7 @@ use std::ops::Range;
 
 use calls::Call;
 
+use crate::generator::ENOUGH;
 use crate::rng::Rng;
 use crate::sample::Sample;
 
@@ -37,7 +38,7 @@ fn chain_of_joins(seed: u64) -> Vec<Call> {
         calls.extend([0, 1].map(|bib| Call::Preview { joiner, joinee, bib }));
         calls.push(Call::Join { joiner, joinee });
         entries(&mut rng, joiner, &mut calls);
-        calls.push(Call::List { revision: joiner, room: 49_152 });
+        calls.push(Call::List { revision: joiner, room: ENOUGH });
         calls.extend([joiner, joinee].map(|revision| Call::Fill { revision }));
     }
     calls

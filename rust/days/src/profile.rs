@@ -134,7 +134,7 @@ impl Profile {
         strange: 1,
     };
 
-    /// Clients that walk off without a yield, or start where they are not caught up.
+    /// Clients that leave without a yield, or start where they are not caught up.
     pub const STALE: Profile = Profile {
         name: "stale",
         first: 0,
@@ -289,6 +289,7 @@ impl Profile {
         roam: 8,
         strange: 0,
     };
+
     /// Bundles of all sizes.
     pub const BUNDLES: Profile = Profile {
         name: "bundles",
@@ -314,6 +315,7 @@ impl Profile {
         roam: 30,
         strange: 2,
     };
+
     /// Bundles that fill the log to its last place, or find it full in their midst.
     pub const NEARLY_FULL: Profile = Profile { name: "nearly full", first: 61, ..Profile::BUNDLES };
 }

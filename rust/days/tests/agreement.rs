@@ -63,7 +63,7 @@ fn every_call_meets_each_of_its_codes() {
     for Sample { calls, .. } in one_in(1) {
         let mut day = plain::Day::fresh();
         for call in calls {
-            *met.entry((name(&call), day.call(&call).code.number())).or_default() += 1;
+            *met.entry((call.name(), day.call(&call).code.number())).or_default() += 1;
         }
     }
     let codes: [(&str, &[u8]); 9] = [
@@ -194,7 +194,7 @@ fn full_logs_are_reached_and_joins_follow() {
         let codes = codes(&day.calls);
         let answered = day.calls.iter().zip(&codes);
         let mut since_full = answered.skip_while(|(_, &code)| code != Code::LogFull);
-        since_full.any(|(call, &code)| name(call) == "join" && code == Code::Accepted)
+        since_full.any(|(call, &code)| call.name() == "join" && code == Code::Accepted)
     };
     let days = Profile::FULL.days(0..12).filter(joined_when_full).count();
     assert!(days >= 6, "full logs with joins after them: {days}");
@@ -204,7 +204,7 @@ fn full_logs_are_reached_and_joins_follow() {
 fn all_64_revisions_are_started() {
     let starts_63 = |day: &Sample| {
         let mut table = plain::Day::fresh();
-        day.calls.iter().any(|call| table.call(call).value == 63 && name(call) == "fork")
+        day.calls.iter().any(|call| table.call(call).value == 63 && call.name() == "fork")
     };
     let days = Profile::FORKS.days(0..100).filter(starts_63).count();
     assert!(days >= 30, "days with 64 revisions: {days}");
@@ -214,24 +214,10 @@ fn all_64_revisions_are_started() {
 fn chains_of_joins_are_accepted_and_as_long_as_can_be() {
     let joins = chains_of_joins(0..100).map(|day| {
         for (call, code) in day.calls.iter().zip(codes(&day.calls)) {
-            let entered = !["fork", "join"].contains(&name(call));
+            let entered = !["fork", "join"].contains(&call.name());
             assert!(code == Code::Accepted || entered, "{day}: {call}");
         }
-        day.calls.iter().filter(|call| name(call) == "join").count()
+        day.calls.iter().filter(|call| call.name() == "join").count()
     });
     assert_eq!(joins.max(), Some(63), "joins of one day");
-}
-
-fn name(call: &Call) -> &'static str {
-    match *call {
-        Call::Update { .. } => "update",
-        Call::Query { .. } => "query",
-        Call::Yield { .. } => "yield",
-        Call::Fork { .. } => "fork",
-        Call::Join { .. } => "join",
-        Call::List { .. } => "list",
-        Call::Fill { .. } => "fill",
-        Call::Bundle { .. } => "bundle",
-        Call::Preview { .. } => "preview",
-    }
 }

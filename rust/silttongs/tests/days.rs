@@ -11,7 +11,7 @@ use days::{
     chains_of_joins, days_of, every_fill, every_list, every_preview, fault_of_bundles,
     fault_of_fills, fault_of_previews, late_days, must_pass, seeds, Profile,
 };
-use silttongs::{Entry, Table};
+use silttongs::{lines, Entry, Table};
 
 /// How many days of each kind are replayed.
 const KINDS: [(Profile, u64); 10] = [
@@ -156,8 +156,16 @@ impl Day {
     }
 
     fn fault_of_answer(&mut self, call: &Call) -> Option<String> {
-        let expected = as_given(call, self.literal.call(call));
-        difference(&library(&mut self.table, call), &expected)
+        let expected = self.literal.call(call);
+        let given = library(&mut self.table, call);
+        let read = lines(&given.sheet, given.answer.value).map(|line| {
+            let silttongs::Line { kind, client, bib, v, number } = line;
+            Line { kind, client, bib, v, number }
+        });
+        if !read.eq(expected.lines.iter().copied()) {
+            return Some("the lines read from the sheet are others".to_string());
+        }
+        difference(&given, &as_given(call, expected))
     }
 
     fn fault_of_bytes(&self) -> Option<String> {
