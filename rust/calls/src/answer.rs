@@ -26,7 +26,7 @@ pub struct Answer {
     /// 0 in a refusal; of a query or a preview, 0 if the bib is struck; of a fill, the revision's
     /// own updates; of a bundle, the first entry's number.
     pub value: u32,
-    /// The updates taken by the whole table; 0 but for an accepted fill.
+    /// The updates accepted by the whole table; 0 but for an accepted fill.
     pub total: u32,
     /// The updates that the join would gain; 0 but for an accepted preview.
     pub gain: u32,

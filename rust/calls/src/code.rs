@@ -24,7 +24,7 @@ pub enum Code {
     InUse = 7,
     /// No path from the client's last event to the terminal.
     StaleClient = 8,
-    /// 4,096 updates taken.
+    /// 4,096 updates were accepted.
     LogFull = 9,
     /// 64 revisions started.
     NoRevisionLeft = 10,

@@ -35,7 +35,7 @@ pub struct Facts {
     pub sees: Vec<Vec<bool>>,
     /// The transactions, in the order of their first events.
     pub transactions: Vec<Transaction>,
-    /// The updates taken, by number.
+    /// The updates accepted, by number.
     pub updates: Vec<Update>,
     /// The calls.
     pub steps: Vec<Step>,
@@ -51,7 +51,7 @@ impl Facts {
         let mut steps = Vec::new();
         for call in calls {
             let vertices = day.diagram().size();
-            let closed = day.transactions().iter().map(|t| t.yielded.is_some()).collect();
+            let closed = day.transactions().iter().map(|t| !t.is_open()).collect();
             let answer = day.call(call);
             steps.push(Step { call: call.clone(), answer, vertices, closed });
             views.push(views_now(&day));
@@ -87,7 +87,7 @@ impl Facts {
         self.events(t).any(|x| self.events(s).any(|y| self.sees[x][y]))
     }
 
-    /// The updates that a vertex sees, in the order of a line-up, and as entered within a
+    /// The updates that a vertex sees, in arbitration order, and as entered within a
     /// transaction.
     pub fn seen_in_order(&self, order: &[usize], x: usize) -> Vec<usize> {
         let events = order.iter().flat_map(|&t| self.events(t));

@@ -1,15 +1,17 @@
 //! Random days, and the checkers that judge them.
 //!
-//! Days are made from a seed, but for the short ones of [`late_days`], and a failed check prints it
-//! with the shortest day found that still fails. Five checkers use them: the literal replay and the
-//! plain implementation agree on every answer, demand 3's line-up holds by brute force, the fills of
-//! all revisions come to the updates accepted, a bundle is its updates and a yield, and a preview is
-//! the join on a copy and a query there.
+//! Days are made from a seed, but for the short ones of [`late_days`]. A failed check prints the
+//! seed, and the shortest day found that still fails. There are five checks:
+//!
+//! - the literal replay and the plain implementation agree on every answer;
+//! - an arbitration order (01: line-up) has what demand 3 says of it, by brute force;
+//! - the fills of all revisions come to the updates accepted;
+//! - a bundle is its updates and a yield;
+//! - a preview is the join on a copy and a query there.
 
 #![forbid(unsafe_code)]
 
 mod arbitration;
-mod bundled;
 mod bundles;
 mod chains;
 mod compare;
@@ -23,6 +25,7 @@ mod line_up;
 mod previews;
 mod profile;
 mod reads;
+mod records;
 mod rng;
 mod sample;
 

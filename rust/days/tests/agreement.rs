@@ -172,7 +172,7 @@ fn fills_of_every_kind_are_made() {
 }
 
 fn kind_of(day: &literal::Day, number: usize) -> &'static str {
-    let open = |t: &literal::Transaction| t.revision == number && t.yielded.is_none();
+    let open = |t: &literal::Transaction| t.revision == number && t.is_open();
     match day.revisions().get(number) {
         None if number > 63 => "above 63",
         None => "never forked",

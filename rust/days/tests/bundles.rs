@@ -36,10 +36,10 @@ fn bundles_of_every_kind_are_made() {
         let mut day = Day::fresh();
         for call in calls {
             let before = day.updates().len();
-            let open = day.transactions().iter().filter(|t| t.yielded.is_none()).count();
+            let open = day.transactions().iter().filter(|t| t.is_open()).count();
             let code = day.call(&call).code;
             let Call::Bundle { ref records, .. } = call else { continue };
-            let left = day.transactions().iter().filter(|t| t.yielded.is_none()).count();
+            let left = day.transactions().iter().filter(|t| t.is_open()).count();
             let count = records.len() / 12;
             match code {
                 Code::Accepted => {
@@ -156,7 +156,7 @@ const WRONG: [(&str, Wrong); 13] = [
         }
     }),
     ("an open transaction is in the way", |day, client, revision, records| {
-        let mut open = day.transactions().iter().filter(|t| t.yielded.is_none());
+        let mut open = day.transactions().iter().filter(|t| t.is_open());
         let busy = open.any(|t| t.revision == usize::from(revision));
         let answer = right(&mut day.clone(), client, revision, records);
         match busy && answer.code == Code::Accepted {

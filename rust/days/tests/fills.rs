@@ -90,7 +90,7 @@ fn joined_into(day: &Day, r: usize) -> impl Iterator<Item = usize> + '_ {
 
 /// The events of open transactions on a revision.
 fn open(day: &Day, r: usize) -> impl Iterator<Item = VertexId> + '_ {
-    let open = day.transactions().iter().filter(move |t| t.revision == r && t.yielded.is_none());
+    let open = day.transactions().iter().filter(move |t| t.revision == r && t.is_open());
     open.flat_map(|t| t.events.iter().copied())
 }
 

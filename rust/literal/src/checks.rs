@@ -5,9 +5,9 @@ use calls::Code;
 use crate::day::{Day, CLIENTS};
 use crate::update::BIBS;
 
-/// 64 boxes, handed in or not.
+/// 64 revisions, joined or not.
 const REVISIONS: usize = 64;
-/// 4,096 updates, the sum over all boxes.
+/// 4,096 updates, the sum over all revisions.
 const UPDATES: usize = 4_096;
 /// Bytes of one entry of a listing, and of one record of a bundle.
 pub(crate) const ENTRY: usize = 12;

@@ -14,9 +14,9 @@ pub(crate) const LISTED: usize = 12;
 /// How full a revision is.
 #[derive(Clone, Copy, Debug, PartialEq, Eq)]
 pub struct Fill {
-    /// The updates taken on it and on those joined into it.
+    /// The updates accepted on it and on those joined into it.
     pub own: u16,
-    /// The updates taken by the whole table.
+    /// The updates accepted by the whole table.
     pub total: u16,
 }
 

@@ -43,7 +43,7 @@ impl Table<'_> {
         self.check_log_after(0)
     }
 
-    /// Code 9, once so many more updates are taken.
+    /// Code 9, once so many more updates are accepted.
     pub(crate) fn check_log_after(&self, more: usize) -> Result<(), Code> {
         refuse(usize::from(self.updates()) + more >= LOG, Code::LogFull)
     }

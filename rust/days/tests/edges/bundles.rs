@@ -89,7 +89,7 @@ fn an_open_transaction_is_continued_and_closed() {
     }
     let [transaction] = literal.transactions() else { panic!("one transaction") };
     assert_eq!(transaction.events.len(), 4);
-    assert!(transaction.yielded.is_some());
+    assert!(!transaction.is_open());
     day(&[
         (query(0, 0, 7), 0, 0),
         (bundle(0, 0, &[(TIME, 7, 6)]), 0, 0),
