@@ -36,7 +36,8 @@ fn refused(call: &Call, code: Code) -> Given {
 /// Each cell at the ends of its range and one further.
 #[test]
 fn each_cell_at_its_limits() {
-    for cell in cells() {
+    let cells = cells();
+    for cell in &cells {
         let (low, high) = (*cell.range.start(), *cell.range.end());
         let mut values = vec![low, high];
         values.extend(low.checked_sub(1));
@@ -45,13 +46,16 @@ fn each_cell_at_its_limits() {
         for value in values {
             let mut t = fresh();
             cell.set(&mut t, value);
+            let mut made = |call: Call| {
+                judged(&cells, &mut t, &call)
+                    .unwrap_or_else(|fault| panic!("{value} in {cell:?}, `{call}`: {fault}"))
+            };
+            // It may find revision 0 never forked or joined.
+            made(Call::Fill { revision: 0 });
             let in_range = cell.range.contains(&value);
-            // A fill may find revision 0 never forked or joined.
-            let fill = answered(&mut t, &Call::Fill { revision: 0 });
-            assert_eq!(fill.code != Code::NoTable, in_range, "{value} in {cell:?}");
             let right = if in_range { Answer::accepted(0) } else { Answer::refused(Code::NoTable) };
-            let given = answered(&mut t, &Call::Yield { client: 0 });
-            assert_eq!(given, right, "{value} in {cell:?}");
+            let given = made(Call::Yield { client: 0 });
+            assert_eq!(given.answer, right, "{value} in {cell:?}");
         }
     }
 }
@@ -64,10 +68,12 @@ fn the_other_bytes_have_every_value_in_range() {
     for cell in cells() {
         ranged[cell.at..cell.at + cell.width].fill(true);
     }
+    let call = Call::Yield { client: 0 };
     for at in (0..BYTES).filter(|&at| !ranged[at]) {
         t[at] ^= 0xff;
-        let given = answered(&mut t, &Call::Yield { client: 0 });
-        assert_eq!(given, Answer::accepted(0), "byte {at}");
+        let given = library(&mut t, &call);
+        assert_eq!(given.answer, Answer::accepted(0), "byte {at}");
+        assert_eq!(plainly(&mut t, &call), given, "byte {at}, by plain");
     }
 }
 
@@ -86,19 +92,17 @@ fn wrong_lengths() {
         Call::Bundle { client: 0, revision: 0, records: Vec::new() },
         Call::Preview { joiner: 0, joinee: 1, bib: 7 },
     ];
+    let cells = cells();
     for length in [0, 1, 12, 40_959, 40_960, BYTES - 1, BYTES + 1, 2 * BYTES] {
         let mut t = fresh();
         t.resize(length, 0);
         let before = t.clone();
         for call in &calls {
-            assert_eq!(
-                library(&mut t, call),
-                refused(call, Code::NoTable),
-                "{length} bytes, `{call}`"
-            );
-            assert!(t == before, "{length} bytes, `{call}`: changed");
+            let given = judged(&cells, &mut t, call);
+            assert_eq!(given, Ok(refused(call, Code::NoTable)), "{length} bytes, `{call}`");
         }
         assert_eq!(Table::fresh(&mut t[..]).err(), Some(Refusal::NoTable), "{length} bytes");
+        assert_eq!(plain::fresh(&mut t), Err(Code::NoTable), "{length} bytes");
         assert!(t == before, "{length} bytes: changed");
     }
 }
