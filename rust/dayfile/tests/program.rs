@@ -241,3 +241,15 @@ fn the_longest_printed_day() {
     assert_eq!(bytes.len(), LONGEST);
     must_print(&bytes, "the longest printed day");
 }
+
+/// 01: update 4,096 is taken, the next gives 9.
+#[test]
+fn a_full_log() {
+    let mut rng = Rng::new(0);
+    let update = Call::Update { client: 0, revision: 0, kind: 1, bib: 7, v: 1 };
+    let calls = std::iter::repeat_n(update, 4_097);
+    let records: Vec<Record> = calls.filter_map(|call| record(&call, &mut rng)).collect();
+    let bytes = with_gap(&records, 0, &mut rng);
+    must_print(&bytes, "a full log");
+    assert!(printed(&bytes).ends_with("\n4095 0 4095\n4096 9 0\n"));
+}
