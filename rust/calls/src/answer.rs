@@ -1,5 +1,7 @@
 //! What a call answers with.
 
+use std::fmt;
+
 use crate::Code;
 
 /// How a bib stands: 02, U2. It is struck "or, if not, timed exactly if its value isn't 0".
@@ -24,7 +26,7 @@ pub struct Answer {
     /// 0 in a refusal; of a query or a preview, 0 if the bib is struck; of a fill, the revision's
     /// own updates; of a bundle, the first entry's number.
     pub value: u32,
-    /// The updates taken by the whole table; 0 but for an accepted fill.
+    /// The updates accepted by the whole table; 0 but for an accepted fill.
     pub total: u32,
     /// The updates that the join would gain; 0 but for an accepted preview.
     pub gain: u32,
@@ -32,7 +34,8 @@ pub struct Answer {
     pub lines: Vec<Line>,
 }
 
-/// One entry of a listing, in the order of its fields there; or a record of a bundle.
+/// One entry of a listing, in the order of its fields there; or a record of a bundle. The wrapper
+/// `silttongs` has a type and a reading of its own, which tests compare with this one.
 #[derive(Clone, Copy, Debug, PartialEq, Eq)]
 pub struct Line {
     /// 1 Time, 2 Earliest, 3 Penalty, 4 Strike.
@@ -103,9 +106,44 @@ impl Answer {
     }
 }
 
+/// Code and value, and what else is not as in a refusal.
+impl fmt::Display for Answer {
+    fn fmt(&self, f: &mut fmt::Formatter<'_>) -> fmt::Result {
+        let Answer { code, state, value, total, gain, ref lines } = *self;
+        write!(f, "code {}, value {value}", code.number())?;
+        if state != State::Neither {
+            write!(f, ", state {state:?}")?;
+        }
+        if total != 0 {
+            write!(f, ", total {total}")?;
+        }
+        if gain != 0 {
+            write!(f, ", gain {gain}")?;
+        }
+        if !lines.is_empty() {
+            let numbers: Vec<u32> = lines.iter().map(|line| line.number).collect();
+            write!(f, ", updates {numbers:?} of {lines:?}")?;
+        }
+        Ok(())
+    }
+}
+
 #[cfg(test)]
 mod tests {
-    use super::Line;
+    use super::*;
+
+    #[test]
+    fn answers_are_written_as_far_as_they_tell() {
+        let written = [
+            (Answer::refused(Code::NotJoinable), "code 11, value 0"),
+            (Answer::found(State::Struck, 0), "code 0, value 0, state Struck"),
+            (Answer::filled(1, 2), "code 0, value 1, total 2"),
+            (Answer::previewed(State::Timed, 9, 3), "code 0, value 9, state Timed, gain 3"),
+        ];
+        for (answer, text) in written {
+            assert_eq!(answer.to_string(), text);
+        }
+    }
 
     #[test]
     fn fields_stand_where_01_puts_them() {

@@ -92,28 +92,41 @@ pub const KINDS: [&str; 4] = ["Time", "Earliest", "Penalty", "Strike"];
 /// The kind that is written without its argument where that is 0.
 pub const STRIKE: u8 = 4;
 
+impl Call {
+    /// Its first word.
+    pub fn name(&self) -> &'static str {
+        match self {
+            Call::Update { .. } => "update",
+            Call::Query { .. } => "query",
+            Call::Yield { .. } => "yield",
+            Call::Fork { .. } => "fork",
+            Call::Join { .. } => "join",
+            Call::List { .. } => "list",
+            Call::Fill { .. } => "fill",
+            Call::Bundle { .. } => "bundle",
+            Call::Preview { .. } => "preview",
+        }
+    }
+}
+
 impl fmt::Display for Call {
     fn fmt(&self, f: &mut fmt::Formatter<'_>) -> fmt::Result {
+        write!(f, "{} ", self.name())?;
         match *self {
             Call::Update { client, revision, kind, bib, v } => {
-                write!(f, "update {client}/{revision} ")?;
+                write!(f, "{client}/{revision} ")?;
                 write_entry(f, kind, bib, v)
             }
-            Call::Query { client, revision, bib } => {
-                write!(f, "query {client}/{revision} bib {bib}")
-            }
-            Call::Yield { client } => write!(f, "yield {client}"),
-            Call::Fork { revision } => write!(f, "fork box {revision}"),
-            Call::Join { joiner, joinee } => write!(f, "join {joiner} with {joinee}"),
-            Call::List { revision, room } => write!(f, "list box {revision} room {room}"),
-            Call::Fill { revision } => write!(f, "fill box {revision}"),
+            Call::Query { client, revision, bib } => write!(f, "{client}/{revision} bib {bib}"),
+            Call::Yield { client } => write!(f, "{client}"),
+            Call::Fork { revision } | Call::Fill { revision } => write!(f, "box {revision}"),
+            Call::Join { joiner, joinee } => write!(f, "{joiner} with {joinee}"),
+            Call::List { revision, room } => write!(f, "box {revision} room {room}"),
             Call::Bundle { client, revision, ref records } => {
-                write!(f, "bundle {client}/{revision}")?;
+                write!(f, "{client}/{revision}")?;
                 write_records(f, records)
             }
-            Call::Preview { joiner, joinee, bib } => {
-                write!(f, "preview {joiner} with {joinee} bib {bib}")
-            }
+            Call::Preview { joiner, joinee, bib } => write!(f, "{joiner} with {joinee} bib {bib}"),
         }
     }
 }
@@ -173,6 +186,7 @@ mod tests {
             assert_eq!(call.to_string(), text);
         }
     }
+
     #[test]
     fn bundles_are_written_with_their_records() {
         let line = |kind, client, number| Line { kind, client, bib: 7, v: 5, number }.to_bytes();

@@ -24,7 +24,7 @@ pub enum Code {
     InUse = 7,
     /// No path from the client's last event to the terminal.
     StaleClient = 8,
-    /// 4,096 updates taken.
+    /// 4,096 updates were accepted.
     LogFull = 9,
     /// 64 revisions started.
     NoRevisionLeft = 10,
@@ -38,7 +38,31 @@ pub enum Code {
     WrongBundle = 14,
 }
 
+/// Each code with its name, in the order of their numbers.
+const NAMED: [(Code, &str); 15] = [
+    (Code::Accepted, "taken"),
+    (Code::NoTable, "no table"),
+    (Code::StrangeClient, "strange tablet"),
+    (Code::NeverForked, "never sent"),
+    (Code::Joined, "handed in"),
+    (Code::BadEntry, "bad entry"),
+    (Code::OtherRevisionOpen, "other box open"),
+    (Code::InUse, "in use"),
+    (Code::StaleClient, "not caught up"),
+    (Code::LogFull, "log full"),
+    (Code::NoRevisionLeft, "no box left"),
+    (Code::NotJoinable, "not joinable"),
+    (Code::ListingShort, "sheet short"),
+    (Code::StrangeStep, "strange step"),
+    (Code::WrongBundle, "wrong bundle"),
+];
+
 impl Code {
+    /// The code of a number, if there is one.
+    pub fn of(number: u8) -> Option<Self> {
+        NAMED.get(usize::from(number)).map(|&(code, _)| code)
+    }
+
     /// The number.
     pub fn number(self) -> u8 {
         self as u8
@@ -46,28 +70,25 @@ impl Code {
 
     /// The name.
     pub fn name(self) -> &'static str {
-        match self {
-            Code::Accepted => "taken",
-            Code::NoTable => "no table",
-            Code::StrangeClient => "strange tablet",
-            Code::NeverForked => "never sent",
-            Code::Joined => "handed in",
-            Code::BadEntry => "bad entry",
-            Code::OtherRevisionOpen => "other box open",
-            Code::InUse => "in use",
-            Code::StaleClient => "not caught up",
-            Code::LogFull => "log full",
-            Code::NoRevisionLeft => "no box left",
-            Code::NotJoinable => "not joinable",
-            Code::ListingShort => "sheet short",
-            Code::StrangeStep => "strange step",
-            Code::WrongBundle => "wrong bundle",
-        }
+        NAMED[usize::from(self.number())].1
     }
 }
 
 impl fmt::Display for Code {
     fn fmt(&self, f: &mut fmt::Formatter<'_>) -> fmt::Result {
         write!(f, "{} {}", self.number(), self.name())
+    }
+}
+
+#[cfg(test)]
+mod tests {
+    use super::*;
+
+    #[test]
+    fn each_number_has_its_code() {
+        for number in 0..=14 {
+            assert_eq!(Code::of(number).map(Code::number), Some(number));
+        }
+        assert_eq!(Code::of(15), None);
     }
 }

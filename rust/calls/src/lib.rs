@@ -1,4 +1,4 @@
-//! The calls of a day, what they answer with, and how a call is written.
+//! The calls of a day, what they answer with, and how both are written.
 //!
 //! Words only. No rule of the table stands here: the implementations that are compared with one
 //! another share these types and nothing else.

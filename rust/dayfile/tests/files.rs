@@ -3,12 +3,12 @@
 mod common;
 
 use calls::{Call, Code};
-use common::{file, printed_by_literal, random_record};
+use common::{file, printed_by_literal, random_records};
 use dayfile::{
     answers, drawn_day, printed_day, read_file, read_text, write_file, write_text, BadFile, Record,
     LONGEST, MOST_STEPS,
 };
-use days::{random_day, Profile, Rng};
+use days::{Profile, Rng};
 
 fn is_bad(bytes: &[u8]) -> bool {
     printed_day(bytes) == "bad file\n"
@@ -126,8 +126,7 @@ fn more_steps_than_fit_are_not_written() {
 #[test]
 fn random_files_print_alike_through_text_and_by_the_literal_replay() {
     for seed in 0..500 {
-        let mut rng = Rng::new(seed);
-        let records: Vec<Record> = (0..rng.below(60)).map(|_| random_record(&mut rng)).collect();
+        let records = random_records(&mut Rng::new(seed), 60);
         let bytes = write_file(&records).unwrap();
         let text = write_text(&records);
         let again = write_file(&read_text(&text).unwrap()).unwrap();
@@ -142,8 +141,7 @@ fn random_files_print_alike_through_text_and_by_the_literal_replay() {
 #[test]
 fn random_files_are_drawn_step_by_step() {
     for seed in 0..500 {
-        let mut rng = Rng::new(seed);
-        let records: Vec<Record> = (0..rng.below(60)).map(|_| random_record(&mut rng)).collect();
+        let records = random_records(&mut Rng::new(seed), 60);
         let accepted = || {
             let answered = records.iter().zip(answers(&records));
             answered.filter(|(_, answer)| answer.code == Code::Accepted).map(|(r, _)| r.call())
@@ -161,18 +159,18 @@ fn random_files_are_drawn_step_by_step() {
 /// A random day as text, as a file, and back: nothing is lost.
 #[test]
 fn days_survive_text_and_file() {
-    for seed in 0..200 {
-        let is_step = |call: &Call| {
-            let read = matches!(call, Call::List { .. } | Call::Fill { .. } | Call::Preview { .. });
-            !read && !matches!(call, Call::Bundle { .. })
-        };
-        let day: Vec<Call> =
-            random_day(&Profile::STRANGE, seed).into_iter().filter(is_step).collect();
-        let text: String = day.iter().map(|call| format!("{call}\n")).collect();
+    let is_step = |call: &Call| match call {
+        Call::Update { .. } | Call::Query { .. } | Call::Yield { .. } => true,
+        Call::Fork { .. } | Call::Join { .. } => true,
+        Call::List { .. } | Call::Fill { .. } | Call::Bundle { .. } | Call::Preview { .. } => false,
+    };
+    for mut day in Profile::STRANGE.days(0..200) {
+        day.calls.retain(is_step);
+        let text: String = day.calls.iter().map(|call| format!("{call}\n")).collect();
         let records = read_text(&text).unwrap();
         let file = write_file(&records).unwrap();
         let calls: Vec<Call> = read_file(&file).unwrap().iter().filter_map(|r| r.call()).collect();
-        assert_eq!(calls, day, "seed {seed}");
-        assert_eq!(write_text(&records), text, "seed {seed}");
+        assert_eq!(calls, day.calls, "{day}");
+        assert_eq!(write_text(&records), text, "{day}");
     }
 }

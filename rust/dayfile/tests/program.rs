@@ -2,15 +2,16 @@
 //! literal replay's.
 
 mod common;
+#[path = "common/run.rs"]
+mod run;
 
-use std::io::Write;
 use std::path::Path;
-use std::process::{Command, Stdio};
+use std::process::Command;
 
 use calls::Call;
-use common::{file, printed_by_literal, random_record};
+use common::{file, printed_by_literal, random_record, random_records};
 use dayfile::{read_file, read_text, write_file, Record, LONGEST};
-use days::{chain_of_joins, late_days, random_day, seeds, Profile, Rng};
+use days::{chains_of_joins, days_of, late_days, seeds, Profile, Rng, Sample};
 
 /// What the program prints of a file on standard input.
 fn printed(bytes: &[u8]) -> String {
@@ -20,18 +21,7 @@ fn printed(bytes: &[u8]) -> String {
         "{} is missing: run `rt check day` in the repository's folder",
         program.display()
     );
-    let mut child = Command::new(program)
-        .stdin(Stdio::piped())
-        .stdout(Stdio::piped())
-        .stderr(Stdio::piped())
-        .spawn()
-        .unwrap();
-    // Of a file that is too long it may leave the rest unread.
-    let _ = child.stdin.take().unwrap().write_all(bytes);
-    let output = child.wait_with_output().unwrap();
-    assert!(output.status.success(), "{}", output.status);
-    assert_eq!(output.stderr, b"");
-    String::from_utf8(output.stdout).unwrap()
+    String::from_utf8(run::output(&mut Command::new(program), bytes)).unwrap()
 }
 
 /// How many lines of what it prints say `struck`.
@@ -72,19 +62,27 @@ fn with_gap(records: &[Record], gap: usize, rng: &mut Rng) -> Vec<u8> {
     bytes
 }
 
+/// A file of so many random records at most, and of a gap.
+fn random_file(rng: &mut Rng, records: usize, gap: usize) -> Vec<u8> {
+    let records = random_records(rng, records);
+    let gap = rng.below(gap);
+    with_gap(&records, gap, rng)
+}
+
 /// A day, as far as it fits a file, with strange steps in it.
-fn day_file(calls: &[Call], rng: &mut Rng) -> Vec<u8> {
+fn day_file(day: &Sample) -> Vec<u8> {
+    let mut rng = Rng::new(day.seed);
     let mut records = Vec::new();
-    for call in calls {
+    for call in &day.calls {
         if rng.percent(3) {
             let any = 6 + rng.below(250) as u8;
-            records.push(Record { step: rng.pick(&[0, 6, 255, any]), ..random_record(rng) });
+            records.push(Record { step: rng.pick(&[0, 6, 255, any]), ..random_record(&mut rng) });
         }
-        records.extend(record(call, rng));
+        records.extend(record(call, &mut rng));
     }
     records.truncate(LONGEST / Record::SIZE - 20);
     let gap = rng.pick(&[0, 0, 1, 11, 12, 200]);
-    with_gap(&records, gap, rng)
+    with_gap(&records, gap, &mut rng)
 }
 
 #[test]
@@ -100,28 +98,19 @@ fn random_days() {
         (Profile::STRANGE, 60),
         (Profile::FULL, 4),
     ];
-    let mut struck = 0;
-    for (profile, count) in kinds {
-        for seed in seeds(count) {
-            let bytes = day_file(&random_day(&profile, seed), &mut Rng::new(seed));
-            struck += must_print(&bytes, &format!("day `{}`, seed {seed}", profile.name));
-        }
-    }
+    let struck: usize =
+        days_of(&kinds).map(|day| must_print(&day_file(&day), &day.to_string())).sum();
     assert!(struck >= 500, "{struck} lines say `struck`");
-    for seed in seeds(20) {
-        let bytes = day_file(&chain_of_joins(seed), &mut Rng::new(seed));
-        must_print(&bytes, &format!("chain of joins, seed {seed}"));
+    for day in chains_of_joins(seeds(20)) {
+        must_print(&day_file(&day), &day.to_string());
     }
 }
 
 #[test]
-fn random_records() {
+fn files_of_random_records() {
     let mut struck = 0;
     for seed in seeds(200) {
-        let mut rng = Rng::new(seed);
-        let records: Vec<Record> = (0..rng.below(200)).map(|_| random_record(&mut rng)).collect();
-        let gap = rng.below(40);
-        let bytes = with_gap(&records, gap, &mut rng);
+        let bytes = random_file(&mut Rng::new(seed), 200, 40);
         struck += must_print(&bytes, &format!("random records, seed {seed}"));
     }
     assert!(struck >= 10, "{struck} lines say `struck`");
@@ -131,11 +120,11 @@ fn random_records() {
 #[test]
 fn days_with_late_updates() {
     let mut struck = 0;
-    for (number, calls) in late_days().enumerate() {
+    for day in late_days() {
         let records: Vec<Record> =
-            calls.into_iter().filter_map(|call| record(&call, &mut Rng::new(0))).collect();
+            day.calls.iter().filter_map(|call| record(call, &mut Rng::new(0))).collect();
         let bytes = with_gap(&records, 0, &mut Rng::new(0));
-        struck += must_print(&bytes, &format!("late updates, day {number}"));
+        struck += must_print(&bytes, &day.to_string());
     }
     assert!(struck >= 100, "{struck} lines say `struck`");
 }
@@ -177,10 +166,9 @@ fn malformed_files() {
     let mut bad = 0;
     for seed in seeds(300) {
         let mut rng = Rng::new(seed);
-        let records: Vec<Record> = (0..rng.below(20)).map(|_| random_record(&mut rng)).collect();
-        let gap = rng.below(30);
-        let mut bytes = with_gap(&records, gap, &mut rng);
-        let (mut count, mut offset) = (records.len() as u32, 8 + gap as u32);
+        let mut bytes = random_file(&mut rng, 20, 30);
+        let [mut count, mut offset] =
+            [0, 4].map(|at| u32::from_le_bytes(*bytes[at..].first_chunk().unwrap()));
         let any = rng.bits() as u32;
         if rng.percent(40) {
             // 12 times 2^30 is 0 modulo 2^32.
@@ -252,4 +240,16 @@ fn the_longest_printed_day() {
     let bytes = with_gap(&records, 8, &mut rng);
     assert_eq!(bytes.len(), LONGEST);
     must_print(&bytes, "the longest printed day");
+}
+
+/// 01: update 4,096 is taken, the next gives 9.
+#[test]
+fn a_full_log() {
+    let mut rng = Rng::new(0);
+    let update = Call::Update { client: 0, revision: 0, kind: 1, bib: 7, v: 1 };
+    let calls = std::iter::repeat_n(update, 4_097);
+    let records: Vec<Record> = calls.filter_map(|call| record(&call, &mut rng)).collect();
+    let bytes = with_gap(&records, 0, &mut rng);
+    must_print(&bytes, "a full log");
+    assert!(printed(&bytes).ends_with("\n4095 0 4095\n4096 9 0\n"));
 }

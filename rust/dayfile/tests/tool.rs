@@ -1,36 +1,28 @@
 //! The command-line tool as a user meets it: output, messages and exit status.
 
-use std::io::Write;
-use std::process::{Command, Output, Stdio};
+#[path = "common/run.rs"]
+mod run;
+
+use std::process::Command;
 
 const TEXT: &str = include_str!("../../../examples/crossing.txt");
 const FILE: &[u8] = include_bytes!("../../../examples/crossing.day");
 
-/// Runs the tool with these arguments and this standard input.
-fn dayfile(arguments: &[&str], input: &[u8]) -> Output {
-    let mut child = Command::new(env!("CARGO_BIN_EXE_dayfile"))
-        .args(arguments)
-        .stdin(Stdio::piped())
-        .stdout(Stdio::piped())
-        .stderr(Stdio::piped())
-        .spawn()
-        .unwrap();
-    // A tool that reads no input may be gone before it is written.
-    let _ = child.stdin.take().unwrap().write_all(input);
-    child.wait_with_output().unwrap()
+/// The tool with these arguments.
+fn dayfile(arguments: &[&str]) -> Command {
+    let mut tool = Command::new(env!("CARGO_BIN_EXE_dayfile"));
+    tool.args(arguments);
+    tool
 }
 
 /// What it wrote to standard output, having ended well.
 fn output(arguments: &[&str], input: &[u8]) -> Vec<u8> {
-    let output = dayfile(arguments, input);
-    assert!(output.status.success(), "{}", String::from_utf8_lossy(&output.stderr));
-    assert_eq!(output.stderr, b"");
-    output.stdout
+    run::output(&mut dayfile(arguments), input)
 }
 
 /// Its exit status and what it wrote to standard output and standard error, as text.
 fn failure(arguments: &[&str], input: &[u8]) -> (Option<i32>, String, String) {
-    let output = dayfile(arguments, input);
+    let output = run::run(&mut dayfile(arguments), input);
     let text = |bytes| String::from_utf8(bytes).unwrap();
     (output.status.code(), text(output.stdout), text(output.stderr))
 }

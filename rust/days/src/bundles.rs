@@ -1,66 +1,57 @@
 //! 02, U4: "The outcome equals sending the updates one by one and then a yield. If any of them would
 //! be refused, the code of the earliest is given and the table keeps every byte."
 
-use calls::{Call, Line, State};
+use calls::{Answer, Call, Code, Line};
 
-use crate::shown::Shown;
+use crate::copies::fault_on_copies;
 
 /// The first bundle of a day that is not its updates one by one and then a yield, in answer or in what
 /// it leaves, in words. `make` makes one call; it is asked for the updates and the yield on a copy.
 pub fn fault_of_bundles<D: Clone + PartialEq>(
-    mut day: D,
+    day: D,
     calls: &[Call],
-    make: impl Fn(&mut D, &Call) -> Shown,
+    make: impl Fn(&mut D, &Call) -> Answer,
 ) -> Option<String> {
-    calls.iter().find_map(|call| {
-        let before = day.clone();
-        let given = make(&mut day, call);
-        let Call::Bundle { client, revision, ref records } = *call else { return None };
-        let (right, left) = singly(before, &updates(client, revision, records), client, &make);
-        if given != right {
-            return Some(format!("`{call}`: gives {given:?}, not {right:?}"));
+    fault_on_copies(day, calls, &make, |call, before, _| match *call {
+        Call::Bundle { client, revision, ref records } => {
+            let mut after = before.clone();
+            let answer = singly(&mut after, client, revision, records, &make);
+            let left = if answer.code == Code::Accepted { after } else { before };
+            Some((answer, left))
         }
-        (day != left).then(|| format!("`{call}`: gives {given:?} and leaves another table"))
+        _ => None,
     })
 }
 
-/// The updates of a bundle, by the client and on the revision that it names; none if it is a wrong one.
-fn updates(client: u8, revision: u8, records: &[u8]) -> Vec<Call> {
-    let (whole, rest) = records.as_chunks();
-    if !rest.is_empty() || whole.len() > 64 {
-        return Vec::new();
-    }
-    let update = |&record| {
+/// The updates of a bundle, by the client and on the revision that it names. Bytes left over are not
+/// looked at.
+pub fn updates_of(client: u8, revision: u8, records: &[u8]) -> impl Iterator<Item = Call> + '_ {
+    let (whole, _) = records.as_chunks();
+    whole.iter().map(move |&record| {
         let Line { kind, bib, v, .. } = Line::from_bytes(record);
         Call::Update { client, revision, kind, bib, v }
-    };
-    whole.iter().map(update).collect()
+    })
 }
 
-/// What these updates and a yield answer as a bundle, and the day that they leave.
-fn singly<D: Clone>(
-    before: D,
-    updates: &[Call],
+/// What a bundle answers, if the updates and the yield are made on this day, up to the first that is
+/// refused.
+fn singly<D>(
+    day: &mut D,
     client: u8,
-    make: &impl Fn(&mut D, &Call) -> Shown,
-) -> (Shown, D) {
-    let refused = |code| Shown { code, state: State::Neither, value: 0, gain: 0 };
-    if updates.is_empty() {
-        return (refused(14), before);
-    }
-    let mut day = before.clone();
-    let mut first = None;
-    for update in updates {
-        let Shown { code, value, .. } = make(&mut day, update);
-        if code != 0 {
-            return (refused(code), before);
-        }
-        first.get_or_insert(value);
+    revision: u8,
+    records: &[u8],
+    make: impl Fn(&mut D, &Call) -> Answer,
+) -> Answer {
+    let count = records.len() / 12;
+    if !records.len().is_multiple_of(12) || !(1..=64).contains(&count) {
+        return Answer::refused(Code::WrongBundle);
     }
     // On a table that no day made, the last update may have left no table for the yield.
-    let closed = make(&mut day, &Call::Yield { client });
-    if closed.code != 0 {
-        return (refused(closed.code), before);
-    }
-    (Shown { value: first.unwrap_or(0), ..refused(0) }, day)
+    let all = updates_of(client, revision, records).chain([Call::Yield { client }]);
+    let made = all.map(|call| match make(day, &call) {
+        Answer { code: Code::Accepted, value, .. } => Ok(value),
+        Answer { code, .. } => Err(code),
+    });
+    let values: Result<Vec<u32>, Code> = made.collect();
+    values.map_or_else(Answer::refused, |values| Answer::accepted(values[0]))
 }

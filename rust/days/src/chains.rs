@@ -1,12 +1,20 @@
 //! Long chains of joins, written out: revisions in a row that are joined one into the next.
 
+use std::ops::Range;
+
 use calls::Call;
 
+use crate::generator::ENOUGH;
 use crate::rng::Rng;
+use crate::sample::Sample;
 
-/// A chain of up to 63 revisions, each with a few updates, joined in one of three ways. Every fork
+/// Chains of up to 63 revisions, each with a few updates, joined in one of three ways. Every fork
 /// and join is accepted; entries of clients that are not caught up are refused.
-pub fn chain_of_joins(seed: u64) -> Vec<Call> {
+pub fn chains_of_joins(seeds: Range<u64>) -> impl Iterator<Item = Sample> {
+    seeds.map(|seed| Sample { kind: "chain of joins", seed, calls: chain_of_joins(seed) })
+}
+
+fn chain_of_joins(seed: u64) -> Vec<Call> {
     let mut rng = Rng::new(seed);
     let length = 2 + rng.below(62) as u8;
     let way = rng.below(3);
@@ -30,7 +38,7 @@ pub fn chain_of_joins(seed: u64) -> Vec<Call> {
         calls.extend([0, 1].map(|bib| Call::Preview { joiner, joinee, bib }));
         calls.push(Call::Join { joiner, joinee });
         entries(&mut rng, joiner, &mut calls);
-        calls.push(Call::List { revision: joiner, room: 49_152 });
+        calls.push(Call::List { revision: joiner, room: ENOUGH });
         calls.extend([joiner, joinee].map(|revision| Call::Fill { revision }));
     }
     calls

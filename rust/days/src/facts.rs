@@ -1,8 +1,8 @@
 //! What demand 3 speaks of, read off the literal day: who sees whom, by a path search for each pair
 //! of vertices, and what stood where before and after each call.
 
-use calls::{Answer, Call};
-use literal::{Day, Revision, Transaction, Update, VertexId, VertexKind};
+use calls::{Answer, Call, State};
+use literal::{Day, Revision, Standing, Transaction, Update, VertexId, VertexKind};
 
 /// A call of the day.
 #[derive(Clone, Debug)]
@@ -35,7 +35,7 @@ pub struct Facts {
     pub sees: Vec<Vec<bool>>,
     /// The transactions, in the order of their first events.
     pub transactions: Vec<Transaction>,
-    /// The updates taken, by number.
+    /// The updates accepted, by number.
     pub updates: Vec<Update>,
     /// The calls.
     pub steps: Vec<Step>,
@@ -51,7 +51,7 @@ impl Facts {
         let mut steps = Vec::new();
         for call in calls {
             let vertices = day.diagram().size();
-            let closed = day.transactions().iter().map(|t| t.yielded.is_some()).collect();
+            let closed = day.transactions().iter().map(|t| !t.is_open()).collect();
             let answer = day.call(call);
             steps.push(Step { call: call.clone(), answer, vertices, closed });
             views.push(views_now(&day));
@@ -87,12 +87,19 @@ impl Facts {
         self.events(t).any(|x| self.events(s).any(|y| self.sees[x][y]))
     }
 
-    /// The updates that a vertex sees, in the order of a line-up, and as entered within a
+    /// The updates that a vertex sees, in arbitration order, and as entered within a
     /// transaction.
     pub fn seen_in_order(&self, order: &[usize], x: usize) -> Vec<usize> {
         let events = order.iter().flat_map(|&t| self.events(t));
         events.filter(|&y| self.sees[x][y]).filter_map(|y| self.number(y)).collect()
     }
+}
+
+/// How a bib stands after these updates, applied to the fresh values in this order: state and value.
+pub fn stands(updates: impl Iterator<Item = Update>, bib: u16) -> (State, u32) {
+    let of_bib = updates.filter(|update| update.bib == bib);
+    let standing = of_bib.fold(Standing::FRESH, |standing, update| update.applied_to(standing));
+    (standing.state(), standing.value())
 }
 
 fn views_now(day: &Day) -> Vec<Option<View>> {

@@ -5,24 +5,20 @@ use std::collections::BTreeSet;
 
 use calls::{Answer, Call, Code};
 
-/// What an accepted call tells, its value and its total; none for a refused one.
-pub type Told = Option<(u32, u32)>;
-
-/// What an answer tells.
-pub fn told(answer: &Answer) -> Told {
-    (answer.code == Code::Accepted).then_some((answer.value, answer.total))
-}
-
 /// The first time of a day, its start included, at which the fills of all revisions do not come to
 /// the updates accepted until then, in words. `make` makes one call, on a table that was fresh.
-pub fn fault_of_fills(calls: &[Call], mut make: impl FnMut(&Call) -> Told) -> Option<String> {
+pub fn fault_of_fills<D>(
+    mut day: D,
+    calls: &[Call],
+    make: impl Fn(&mut D, &Call) -> Answer,
+) -> Option<String> {
     let mut history = History { accepted: 0, out: BTreeSet::from([0]) };
-    if let Some(fault) = history.fault(&mut make) {
+    if let Some(fault) = history.fault(&mut day, &make) {
         return Some(format!("at the start: {fault}"));
     }
     calls.iter().find_map(|call| {
-        history.learn(call, make(call));
-        history.fault(&mut make).map(|fault| format!("after `{call}`: {fault}"))
+        history.learn(call, &make(&mut day, call));
+        history.fault(&mut day, &make).map(|fault| format!("after `{call}`: {fault}"))
     })
 }
 
@@ -35,13 +31,15 @@ struct History {
 }
 
 impl History {
-    fn learn(&mut self, call: &Call, told: Told) {
-        let Some((value, _)) = told else { return };
+    fn learn(&mut self, call: &Call, answer: &Answer) {
+        if answer.code != Code::Accepted {
+            return;
+        }
         match *call {
             Call::Update { .. } => self.accepted += 1,
             Call::Bundle { ref records, .. } => self.accepted += records.len() as u32 / 12,
             Call::Fork { .. } => {
-                self.out.insert(value as u8);
+                self.out.insert(answer.value as u8);
             }
             Call::Join { joinee, .. } => {
                 self.out.remove(&joinee);
@@ -51,16 +49,16 @@ impl History {
     }
 
     /// A fill of each number in range and of some above: those that are out are told, and no others.
-    fn fault(&self, make: &mut impl FnMut(&Call) -> Told) -> Option<String> {
+    fn fault<D>(&self, day: &mut D, make: impl Fn(&mut D, &Call) -> Answer) -> Option<String> {
         let History { accepted, out } = self;
         let mut sum = 0;
         for revision in (0..=64).chain([128, 255]) {
-            let told = make(&Call::Fill { revision });
-            if told.is_some() != out.contains(&revision) {
-                return Some(format!("box {revision} gives {told:?}, out are {out:?}"));
+            let Answer { code, value: own, total, .. } = make(day, &Call::Fill { revision });
+            let told = code == Code::Accepted;
+            if told != out.contains(&revision) {
+                return Some(format!("box {revision} gives code {code}, out are {out:?}"));
             }
-            let Some((own, total)) = told else { continue };
-            if total != *accepted {
+            if told && total != *accepted {
                 return Some(format!("box {revision} gives total {total}, not {accepted}"));
             }
             sum += own;

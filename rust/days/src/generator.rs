@@ -7,7 +7,7 @@ use crate::profile::Profile;
 use crate::rng::Rng;
 
 /// Room for the longest listing.
-const ENOUGH: usize = 4_096 * 12;
+pub(crate) const ENOUGH: usize = 4_096 * 12;
 
 /// A random day: its calls, picked by the answers of the plain implementation.
 pub fn random_day(profile: &Profile, seed: u64) -> Vec<Call> {

@@ -3,6 +3,8 @@
 
 use calls::Call;
 
+use crate::sample::Sample;
+
 /// The updates that the days are made of, as kind and v.
 const UPDATES: [(u8, u32); 7] = [(1, 0), (1, 8), (2, 0), (2, 5), (3, 0), (3, 5), (4, 6)];
 
@@ -10,19 +12,23 @@ const UPDATES: [(u8, u32); 7] = [(1, 0), (1, 8), (2, 0), (2, 5), (3, 0), (3, 5),
 /// What stands behind the cut is entered first, on a revision of its own; then come the updates
 /// before the cut, on the main revision, which then joins the other. Both are queried before the
 /// join, which has a preview, and the main one after it.
-pub fn late_days() -> impl Iterator<Item = Vec<Call>> {
-    lists(3).into_iter().flat_map(|list| {
-        (0..=list.len()).map(move |cut| {
-            let mut calls = vec![Call::Fork { revision: 0 }];
-            entered(1, &list[cut..], &mut calls);
-            entered(0, &list[..cut], &mut calls);
-            let (joiner, joinee) = (0, 1);
-            calls.push(Call::Preview { joiner, joinee, bib: 7 });
-            calls.push(Call::Join { joiner, joinee });
-            entered(0, &[], &mut calls);
-            calls
-        })
-    })
+pub fn late_days() -> impl Iterator<Item = Sample> {
+    let cuts = |list: Vec<(u8, u32)>| {
+        (0..=list.len()).map(move |cut| late_day(&list[..cut], &list[cut..]))
+    };
+    let days = lists(3).into_iter().flat_map(cuts);
+    days.zip(0..).map(|(calls, seed)| Sample { kind: "late updates", seed, calls })
+}
+
+fn late_day(before: &[(u8, u32)], late: &[(u8, u32)]) -> Vec<Call> {
+    let (joiner, joinee) = (0, 1);
+    let mut calls = vec![Call::Fork { revision: joiner }];
+    entered(joinee, late, &mut calls);
+    entered(joiner, before, &mut calls);
+    calls.push(Call::Preview { joiner, joinee, bib: 7 });
+    calls.push(Call::Join { joiner, joinee });
+    entered(joiner, &[], &mut calls);
+    calls
 }
 
 /// Every list of so many updates at most.

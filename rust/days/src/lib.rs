@@ -1,42 +1,46 @@
 //! Random days, and the checkers that judge them.
 //!
-//! Days are made from a seed, but for the short ones of [`late_days`], and a failed check prints it
-//! with the shortest day found that still fails. Five checkers use them: the literal replay and the
-//! plain implementation agree on every answer, demand 3's line-up holds by brute force, the fills of
-//! all revisions come to the updates accepted, a bundle is its updates and a yield, and a preview is
-//! the join on a copy and a query there.
+//! Days are made from a seed, but for the short ones of [`late_days`]. A failed check prints the
+//! seed, and the shortest day found that still fails. There are five checks:
+//!
+//! - the literal replay and the plain implementation agree on every answer;
+//! - an arbitration order (01: line-up) has what demand 3 says of it, by brute force;
+//! - the fills of all revisions come to the updates accepted;
+//! - a bundle is its updates and a yield;
+//! - a preview is the join on a copy and a query there.
 
 #![forbid(unsafe_code)]
 
 mod arbitration;
-mod bundled;
 mod bundles;
 mod chains;
 mod compare;
+mod copies;
 mod facts;
 mod fills;
 mod generator;
+mod judge;
 mod late;
 mod line_up;
 mod previews;
 mod profile;
-mod report;
+mod reads;
+mod records;
 mod rng;
-mod seeds;
-mod shown;
+mod sample;
 
 pub use arbitration::arbitration_order;
-pub use bundles::fault_of_bundles;
-pub use chains::chain_of_joins;
+pub use bundles::{fault_of_bundles, updates_of};
+pub use chains::chains_of_joins;
 pub use compare::{disagreement, disagreement_with_previews, disagreement_with_reads};
-pub use facts::{Facts, Step, View};
-pub use fills::{fault_of_fills, told, Told};
+pub use facts::{stands, Facts, Step, View};
+pub use fills::fault_of_fills;
 pub use generator::random_day;
+pub use judge::{must_find, must_pass};
 pub use late::late_days;
 pub use line_up::{broken_sentence, SENTENCES};
 pub use previews::fault_of_previews;
 pub use profile::{Profile, Weights};
-pub use report::must_pass;
+pub use reads::{every_fill, every_list, every_preview};
 pub use rng::Rng;
-pub use seeds::seeds;
-pub use shown::{shown, Shown};
+pub use sample::{days_of, seeds, Sample};

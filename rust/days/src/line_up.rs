@@ -2,9 +2,9 @@
 //! on, checked of a day's facts and one order of its transactions.
 
 use calls::{Call, Code};
-use literal::{Standing, VertexKind};
+use literal::VertexKind;
 
-use crate::facts::Facts;
+use crate::facts::{stands, Facts};
 
 /// A check of one sentence: a complaint if it does not hold.
 type Check = fn(&Facts, &[usize]) -> Option<String>;
@@ -67,9 +67,7 @@ fn queries_answer_by_the_order(facts: &Facts, order: &[usize]) -> Option<String>
         }
         let seen = facts.seen_in_order(order, step.vertices);
         let updates = seen.iter().map(|&number| facts.updates[number]);
-        let of_bib = updates.filter(|update| update.bib == bib);
-        let stands = of_bib.fold(Standing::FRESH, |standing, update| update.applied_to(standing));
-        let right = (stands.state(), stands.value());
+        let right = stands(updates, bib);
         let given = (step.answer.state, step.answer.value);
         (given != right).then(|| format!("`{}` gave {given:?}, not {right:?}", step.call))
     })

@@ -56,33 +56,7 @@ pub struct Profile {
 const ALIKE: &[u8] = &[1, 2, 3, 4];
 
 impl Profile {
-    /// Short days that brute force can judge, on few revisions and bibs.
-    pub const SMALL: Profile = Profile {
-        name: "small",
-        first: 0,
-        calls: 64,
-        clients: 3,
-        bibs: 2,
-        kinds: ALIKE,
-        revisions: 7,
-        weights: Weights {
-            update: 30,
-            query: 14,
-            yields: 22,
-            fork: 14,
-            join: 16,
-            list: 4,
-            fill: 6,
-            bundle: 4,
-            preview: 8,
-        },
-        newest: 30,
-        settle: 80,
-        roam: 40,
-        strange: 2,
-    };
-
-    /// A bit of everything.
+    /// A bit of everything. The other kinds tell in what they differ from it.
     pub const MIXED: Profile = Profile {
         name: "mixed",
         first: 0,
@@ -108,15 +82,35 @@ impl Profile {
         strange: 5,
     };
 
+    /// Short days that brute force can judge, on few revisions and bibs.
+    pub const SMALL: Profile = Profile {
+        name: "small",
+        calls: 64,
+        clients: 3,
+        bibs: 2,
+        revisions: 7,
+        weights: Weights {
+            update: 30,
+            query: 14,
+            yields: 22,
+            fork: 14,
+            join: 16,
+            list: 4,
+            fill: 6,
+            bundle: 4,
+            preview: 8,
+        },
+        newest: 30,
+        settle: 80,
+        strange: 2,
+        ..Profile::MIXED
+    };
+
     /// Revisions that fork revisions of their own.
     pub const NESTED: Profile = Profile {
         name: "nested",
-        first: 0,
-        calls: 200,
         clients: 6,
         bibs: 2,
-        kinds: ALIKE,
-        revisions: 65,
         weights: Weights {
             update: 25,
             query: 8,
@@ -132,17 +126,13 @@ impl Profile {
         settle: 90,
         roam: 70,
         strange: 1,
+        ..Profile::MIXED
     };
 
-    /// Clients that walk off without a yield, or start where they are not caught up.
+    /// Clients that leave without a yield, or start where they are not caught up.
     pub const STALE: Profile = Profile {
         name: "stale",
-        first: 0,
-        calls: 200,
-        clients: 16,
         bibs: 3,
-        kinds: ALIKE,
-        revisions: 65,
         weights: Weights {
             update: 35,
             query: 20,
@@ -154,21 +144,18 @@ impl Profile {
             bundle: 5,
             preview: 6,
         },
-        newest: 20,
         settle: 15,
         roam: 90,
         strange: 1,
+        ..Profile::MIXED
     };
 
     /// Transactions of queries alone.
     pub const QUERIES: Profile = Profile {
         name: "queries",
-        first: 0,
         calls: 150,
         clients: 5,
         bibs: 2,
-        kinds: ALIKE,
-        revisions: 65,
         weights: Weights {
             update: 8,
             query: 40,
@@ -184,12 +171,12 @@ impl Profile {
         settle: 80,
         roam: 60,
         strange: 1,
+        ..Profile::MIXED
     };
 
     /// Strikes of a single bib on revisions that are soon joined, and queries among them.
     pub const STRIKES: Profile = Profile {
         name: "strikes",
-        first: 0,
         calls: 150,
         clients: 10,
         bibs: 1,
@@ -210,17 +197,15 @@ impl Profile {
         settle: 95,
         roam: 80,
         strange: 1,
+        ..Profile::MIXED
     };
 
     /// All 64 revisions and the fork that is refused.
     pub const FORKS: Profile = Profile {
         name: "forks",
-        first: 0,
         calls: 400,
         clients: 4,
         bibs: 2,
-        kinds: ALIKE,
-        revisions: 65,
         weights: Weights {
             update: 12,
             query: 5,
@@ -236,17 +221,14 @@ impl Profile {
         settle: 95,
         roam: 60,
         strange: 1,
+        ..Profile::MIXED
     };
 
     /// Arguments out of their range.
     pub const STRANGE: Profile = Profile {
         name: "strange",
-        first: 0,
         calls: 150,
-        clients: 16,
         bibs: 1_000,
-        kinds: ALIKE,
-        revisions: 65,
         weights: Weights {
             update: 30,
             query: 15,
@@ -258,20 +240,17 @@ impl Profile {
             bundle: 12,
             preview: 15,
         },
-        newest: 20,
-        settle: 60,
         roam: 50,
         strange: 40,
+        ..Profile::MIXED
     };
 
     /// A log that fills up, and what goes on after it.
     pub const FULL: Profile = Profile {
         name: "full",
-        first: 0,
         calls: 14_000,
         clients: 4,
         bibs: 20,
-        kinds: ALIKE,
         revisions: 40,
         weights: Weights {
             update: 900,
@@ -288,15 +267,15 @@ impl Profile {
         settle: 90,
         roam: 8,
         strange: 0,
+        ..Profile::MIXED
     };
+
     /// Bundles of all sizes.
     pub const BUNDLES: Profile = Profile {
         name: "bundles",
-        first: 0,
         calls: 100,
         clients: 5,
         bibs: 10,
-        kinds: ALIKE,
         revisions: 12,
         weights: Weights {
             update: 12,
@@ -313,7 +292,9 @@ impl Profile {
         settle: 80,
         roam: 30,
         strange: 2,
+        ..Profile::MIXED
     };
+
     /// Bundles that fill the log to its last place, or find it full in their midst.
     pub const NEARLY_FULL: Profile = Profile { name: "nearly full", first: 61, ..Profile::BUNDLES };
 }

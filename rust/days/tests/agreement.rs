@@ -5,8 +5,8 @@ use std::collections::BTreeMap;
 
 use calls::{Call, Code, State, KINDS as NAMES};
 use days::{
-    chain_of_joins, disagreement, disagreement_with_previews, disagreement_with_reads, late_days,
-    must_pass, random_day, seeds, Profile,
+    chains_of_joins, days_of, disagreement, disagreement_with_previews, disagreement_with_reads,
+    late_days, must_pass, seeds, Profile, Sample,
 };
 
 /// How many days of each kind are replayed.
@@ -23,58 +23,47 @@ const KINDS: [(Profile, u64); 10] = [
     (Profile::NEARLY_FULL, 60),
 ];
 
+/// A part of these days, the same whatever `DAYS_FACTOR` is.
+fn one_in(part: u64) -> impl Iterator<Item = Sample> {
+    KINDS.into_iter().flat_map(move |(profile, count)| profile.days(0..count / part))
+}
+
 #[test]
 fn small_days_agree_in_every_listing_and_fill_after_every_step() {
-    for seed in seeds(3_000) {
-        let day = random_day(&Profile::SMALL, seed);
-        must_pass("small", seed, &day, disagreement_with_reads);
-    }
+    must_pass(Profile::SMALL.days(seeds(3_000)), disagreement_with_reads);
 }
 
 #[test]
 fn small_days_agree_in_every_preview_after_every_step() {
-    for seed in seeds(200) {
-        let day = random_day(&Profile::SMALL, seed);
-        must_pass("small", seed, &day, |day| disagreement_with_previews(day, &[0, 1, 1_000]));
-    }
+    must_pass(Profile::SMALL.days(seeds(200)), |calls| {
+        disagreement_with_previews(calls, &[0, 1, 1_000])
+    });
 }
 
 #[test]
 fn days_of_all_kinds_agree() {
-    for (profile, count) in KINDS {
-        for seed in seeds(count) {
-            must_pass(profile.name, seed, &random_day(&profile, seed), disagreement);
-        }
-    }
+    must_pass(days_of(&KINDS), disagreement);
 }
 
 #[test]
 fn chains_of_joins_agree() {
-    for seed in seeds(100) {
-        must_pass("chain of joins", seed, &chain_of_joins(seed), disagreement);
-    }
-    for seed in 0..20 {
-        must_pass("chain of joins", seed, &chain_of_joins(seed), disagreement_with_reads);
-    }
+    must_pass(chains_of_joins(seeds(100)), disagreement);
+    must_pass(chains_of_joins(0..20), disagreement_with_reads);
 }
 
 #[test]
 fn days_with_late_updates_agree() {
-    for (number, day) in late_days().enumerate() {
-        must_pass("late updates", number as u64, &day, disagreement_with_reads);
-    }
+    must_pass(late_days(), disagreement_with_reads);
 }
 
 /// The random days are worth replaying: each call meets each of its codes, many times over.
 #[test]
 fn every_call_meets_each_of_its_codes() {
     let mut met: BTreeMap<(&str, u8), usize> = BTreeMap::new();
-    for (profile, count) in KINDS {
-        for seed in 0..count {
-            let mut day = plain::Day::fresh();
-            for call in random_day(&profile, seed) {
-                *met.entry((name(&call), day.call(&call).code.number())).or_default() += 1;
-            }
+    for Sample { calls, .. } in one_in(1) {
+        let mut day = plain::Day::fresh();
+        for call in calls {
+            *met.entry((call.name(), day.call(&call).code.number())).or_default() += 1;
         }
     }
     let codes: [(&str, &[u8]); 9] = [
@@ -99,34 +88,49 @@ fn every_call_meets_each_of_its_codes() {
     }
 }
 
+/// What queries found.
+#[derive(Default)]
+struct Found {
+    states: BTreeMap<State, usize>,
+    /// Of bibs whose last update but one is a strike: the last one, and the state.
+    after_strike: BTreeMap<(&'static str, State), usize>,
+    /// How often the last one was entered before that strike.
+    brought_late: usize,
+}
+
+impl Found {
+    /// Notes an accepted query of a day.
+    fn note(&mut self, day: &literal::Day, revision: u8, bib: u16, state: State) {
+        *self.states.entry(state).or_default() += 1;
+        let mut visible = day.visible(usize::from(revision));
+        visible.retain(|&number| day.updates()[number].bib == bib);
+        let [.., before, last] = visible[..] else { return };
+        if day.updates()[before].kind == calls::STRIKE {
+            let name = name_of(day.updates()[last]);
+            *self.after_strike.entry((name, state)).or_default() += 1;
+            self.brought_late += usize::from(last < before);
+        }
+    }
+}
+
 /// Queries find a bib in each of the three states, and after each kind of update that follows a
 /// strike: 02, U2, "Earliest and Penalty leave it so; only Time lifts it".
 #[test]
 fn queries_find_bibs_in_every_state() {
-    let mut states: BTreeMap<State, usize> = BTreeMap::new();
-    let mut after_strike: BTreeMap<(&str, State), usize> = BTreeMap::new();
-    let mut brought_late = 0;
-    for (profile, count) in KINDS {
-        for seed in 0..count / 2 {
-            let mut day = literal::Day::fresh();
-            for call in random_day(&profile, seed) {
-                let answer = day.call(&call);
-                let Call::Query { revision, bib, .. } = call else { continue };
-                if answer.code != Code::Accepted {
-                    continue;
+    let mut found = Found::default();
+    for Sample { calls, .. } in one_in(2) {
+        let mut day = literal::Day::fresh();
+        for call in calls {
+            let answer = day.call(&call);
+            match call {
+                Call::Query { revision, bib, .. } if answer.code == Code::Accepted => {
+                    found.note(&day, revision, bib, answer.state);
                 }
-                *states.entry(answer.state).or_default() += 1;
-                let mut visible = day.visible(usize::from(revision));
-                visible.retain(|&number| day.updates()[number].bib == bib);
-                let [.., before, last] = visible[..] else { continue };
-                if day.updates()[before].kind == calls::STRIKE {
-                    let name = name_of(day.updates()[last]);
-                    *after_strike.entry((name, answer.state)).or_default() += 1;
-                    brought_late += usize::from(last < before);
-                }
+                _ => {}
             }
         }
     }
+    let Found { states, after_strike, brought_late } = found;
     let all: usize = states.values().sum();
     assert_eq!(states.len(), 3, "{states:?}");
     assert!(states.values().all(|&times| times >= all / 6), "{states:?}");
@@ -153,78 +157,67 @@ fn name_of(update: literal::Update) -> &'static str {
 #[test]
 fn fills_of_every_kind_are_made() {
     let mut met: BTreeMap<&str, usize> = BTreeMap::new();
-    for (profile, count) in KINDS {
-        for seed in 0..count / 4 {
-            let mut day = literal::Day::fresh();
-            for call in random_day(&profile, seed) {
-                if let Call::Fill { revision } = call {
-                    *met.entry(kind_of(&day, usize::from(revision))).or_default() += 1;
-                }
-                day.call(&call);
+    for Sample { calls, .. } in one_in(4) {
+        let mut day = literal::Day::fresh();
+        for call in calls {
+            if let Call::Fill { revision } = call {
+                *met.entry(kind_of(&day, usize::from(revision))).or_default() += 1;
             }
+            day.call(&call);
         }
     }
-    let kinds = ["above 63", "busy", "joined", "never sent", "out and idle"];
+    let kinds = ["above 63", "busy", "joined", "never forked", "out and idle"];
     assert!(met.keys().eq(&kinds), "{met:?}");
     assert!(met.values().all(|&times| times >= 100), "{met:?}");
 }
 
 fn kind_of(day: &literal::Day, number: usize) -> &'static str {
-    let open = |t: &literal::Transaction| t.revision == number && t.yielded.is_none();
+    let open = |t: &literal::Transaction| t.revision == number && t.is_open();
     match day.revisions().get(number) {
         None if number > 63 => "above 63",
-        None => "never sent",
+        None => "never forked",
         Some(revision) if revision.joined => "joined",
         _ if day.transactions().iter().any(open) => "busy",
         _ => "out and idle",
     }
 }
 
-/// The sizes of a day are reached: full logs that go on, all 64 revisions, 63 joins.
-#[test]
-fn random_days_reach_the_limits() {
-    let full = (0..12).filter(|&seed| {
-        let calls = random_day(&Profile::FULL, seed);
-        let mut day = plain::Day::fresh();
-        let codes: Vec<Code> = calls.iter().map(|call| day.call(call).code).collect();
-        let at = codes.iter().position(|&code| code == Code::LogFull);
-        let joined_after = |at: usize| {
-            let mut rest = calls[at..].iter().zip(&codes[at..]);
-            rest.any(|(call, &code)| name(call) == "join" && code == Code::Accepted)
-        };
-        at.is_some_and(joined_after)
-    });
-    assert!(full.count() >= 6, "full logs with joins after them");
-
-    let all_started = (0..100).filter(|&seed| {
-        let mut day = plain::Day::fresh();
-        let calls = random_day(&Profile::FORKS, seed);
-        calls.iter().any(|call| day.call(call).value == 63 && name(call) == "fork")
-    });
-    assert!(all_started.count() >= 30, "days with 64 revisions");
-
-    let joins = (0..100).map(|seed| {
-        let mut day = plain::Day::fresh();
-        let calls = chain_of_joins(seed);
-        for call in &calls {
-            let accepted = day.call(call).code == Code::Accepted;
-            assert!(accepted || !["fork", "join"].contains(&name(call)), "seed {seed}: {call}");
-        }
-        calls.iter().filter(|call| name(call) == "join").count()
-    });
-    assert_eq!(joins.max(), Some(63), "joins of one day");
+/// The codes of a day's calls.
+fn codes(calls: &[Call]) -> Vec<Code> {
+    let mut day = plain::Day::fresh();
+    calls.iter().map(|call| day.call(call).code).collect()
 }
 
-fn name(call: &Call) -> &'static str {
-    match *call {
-        Call::Update { .. } => "update",
-        Call::Query { .. } => "query",
-        Call::Yield { .. } => "yield",
-        Call::Fork { .. } => "fork",
-        Call::Join { .. } => "join",
-        Call::List { .. } => "list",
-        Call::Fill { .. } => "fill",
-        Call::Bundle { .. } => "bundle",
-        Call::Preview { .. } => "preview",
-    }
+#[test]
+fn full_logs_are_reached_and_joins_follow() {
+    let joined_when_full = |day: &Sample| {
+        let codes = codes(&day.calls);
+        let answered = day.calls.iter().zip(&codes);
+        let mut since_full = answered.skip_while(|(_, &code)| code != Code::LogFull);
+        since_full.any(|(call, &code)| call.name() == "join" && code == Code::Accepted)
+    };
+    let days = Profile::FULL.days(0..12).filter(joined_when_full).count();
+    assert!(days >= 6, "full logs with joins after them: {days}");
+}
+
+#[test]
+fn all_64_revisions_are_started() {
+    let starts_63 = |day: &Sample| {
+        let mut table = plain::Day::fresh();
+        day.calls.iter().any(|call| table.call(call).value == 63 && call.name() == "fork")
+    };
+    let days = Profile::FORKS.days(0..100).filter(starts_63).count();
+    assert!(days >= 30, "days with 64 revisions: {days}");
+}
+
+#[test]
+fn chains_of_joins_are_accepted_and_as_long_as_can_be() {
+    let joins = chains_of_joins(0..100).map(|day| {
+        for (call, code) in day.calls.iter().zip(codes(&day.calls)) {
+            let entered = !["fork", "join"].contains(&call.name());
+            assert!(code == Code::Accepted || entered, "{day}: {call}");
+        }
+        day.calls.iter().filter(|call| call.name() == "join").count()
+    });
+    assert_eq!(joins.max(), Some(63), "joins of one day");
 }

@@ -2,7 +2,7 @@
 //! would be refused, changes nothing. And wrong bundles are found.
 
 use calls::{Answer, Call, Code, Line};
-use days::{fault_of_bundles, must_pass, random_day, seeds, shown, Profile};
+use days::{days_of, fault_of_bundles, must_find, must_pass, updates_of, Profile, Sample};
 use literal::Day;
 
 /// How many days of each kind are replayed.
@@ -17,16 +17,12 @@ const KINDS: [(Profile, u64); 7] = [
 ];
 
 fn by_plain(calls: &[Call]) -> Option<String> {
-    fault_of_bundles(plain::Day::fresh(), calls, |day, call| shown(&day.call(call)))
+    fault_of_bundles(plain::Day::fresh(), calls, plain::Day::call)
 }
 
 #[test]
 fn bundles_are_their_updates_and_a_yield() {
-    for (profile, count) in KINDS {
-        for seed in seeds(count) {
-            must_pass(profile.name, seed, &random_day(&profile, seed), by_plain);
-        }
-    }
+    must_pass(days_of(&KINDS), by_plain);
 }
 
 /// Bundles of nearly every size are accepted, the log is filled by some to its last place, and others find
@@ -36,14 +32,14 @@ fn bundles_of_every_kind_are_made() {
     let mut sizes = [0; 65];
     let (mut filled, mut full_within, mut late_bad, mut continued) = (0, 0, 0, 0);
     let kinds = [Profile::BUNDLES, Profile::NEARLY_FULL];
-    for calls in kinds.iter().flat_map(|kind| (0..60).map(|seed| random_day(kind, seed))) {
+    for Sample { calls, .. } in kinds.into_iter().flat_map(|kind| kind.days(0..60)) {
         let mut day = Day::fresh();
         for call in calls {
             let before = day.updates().len();
-            let open = day.transactions().iter().filter(|t| t.yielded.is_none()).count();
+            let open = day.transactions().iter().filter(|t| t.is_open()).count();
             let code = day.call(&call).code;
             let Call::Bundle { ref records, .. } = call else { continue };
-            let left = day.transactions().iter().filter(|t| t.yielded.is_none()).count();
+            let left = day.transactions().iter().filter(|t| t.is_open()).count();
             let count = records.len() / 12;
             match code {
                 Code::Accepted => {
@@ -77,7 +73,7 @@ const WRONG: [(&str, Wrong); 13] = [
     ("the entries before a refused one are kept", |day, client, revision, records| {
         let whole = right(&mut day.clone(), client, revision, records);
         if whole.code != Code::WrongBundle && whole.code != Code::Accepted {
-            for update in updates(client, revision, records) {
+            for update in updates_of(client, revision, records) {
                 day.call(&update);
             }
             return whole;
@@ -87,13 +83,13 @@ const WRONG: [(&str, Wrong); 13] = [
     ("no yield", |day, client, revision, records| {
         let answer = right(&mut day.clone(), client, revision, records);
         if answer.code == Code::Accepted {
-            updates(client, revision, records).for_each(|update| _ = day.call(&update));
+            updates_of(client, revision, records).for_each(|update| _ = day.call(&update));
         }
         answer
     }),
     ("the code of the last refused entry", |day, client, revision, records| {
         let mut copy = day.clone();
-        let codes = updates(client, revision, records).map(|update| copy.call(&update).code);
+        let codes = updates_of(client, revision, records).map(|update| copy.call(&update).code);
         let last = codes.filter(|&code| code != Code::Accepted).last();
         match (right(day, client, revision, records), last) {
             (answer, Some(last)) if answer.code != Code::WrongBundle => Answer::refused(last),
@@ -113,7 +109,7 @@ const WRONG: [(&str, Wrong); 13] = [
             return right(day, client, revision, records);
         }
         let mut copy = day.clone();
-        let mut answers = updates(client, revision, records).map(|update| copy.call(&update));
+        let mut answers = updates_of(client, revision, records).map(|update| copy.call(&update));
         let first = answers.next().unwrap();
         if let Some(refused) = answers.find(|answer| answer.code != Code::Accepted) {
             return refused;
@@ -160,7 +156,7 @@ const WRONG: [(&str, Wrong); 13] = [
         }
     }),
     ("an open transaction is in the way", |day, client, revision, records| {
-        let mut open = day.transactions().iter().filter(|t| t.yielded.is_none());
+        let mut open = day.transactions().iter().filter(|t| t.is_open());
         let busy = open.any(|t| t.revision == usize::from(revision));
         let answer = right(&mut day.clone(), client, revision, records);
         match busy && answer.code == Code::Accepted {
@@ -180,14 +176,6 @@ fn right(day: &mut Day, client: u8, revision: u8, records: &[u8]) -> Answer {
     day.call(&Call::Bundle { client, revision, records: records.to_vec() })
 }
 
-/// An update for each record, by this client.
-fn updates(client: u8, revision: u8, records: &[u8]) -> impl Iterator<Item = Call> + '_ {
-    records.as_chunks().0.iter().map(move |&record| {
-        let Line { kind, bib, v, .. } = Line::from_bytes(record);
-        Call::Update { client, revision, kind, bib, v }
-    })
-}
-
 #[test]
 fn wrong_bundles_are_found() {
     let kinds = [Profile::BUNDLES, Profile::NEARLY_FULL, Profile::STRANGE];
@@ -195,13 +183,11 @@ fn wrong_bundles_are_found() {
         let by_wrong = |calls: &[Call]| {
             fault_of_bundles(Day::fresh(), calls, |day, call| match *call {
                 Call::Bundle { client, revision, ref records } => {
-                    shown(&wrong(day, client, revision, records))
+                    wrong(day, client, revision, records)
                 }
-                _ => shown(&day.call(call)),
+                _ => day.call(call),
             })
         };
-        let days = kinds.iter().flat_map(|kind| (0..30).map(|seed| random_day(kind, seed)));
-        let found = days.filter(|day| by_wrong(day).is_some()).count();
-        assert!(found >= 5, "{name}: found on {found} days of 90");
+        must_find(name, kinds.into_iter().flat_map(|kind| kind.days(0..30)), by_wrong);
     }
 }

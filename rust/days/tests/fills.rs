@@ -1,8 +1,8 @@
 //! 02, U1, on random days: after every step the own updates of all revisions that are out come to
 //! the updates accepted, counted from the calls and their answers. And wrong fills are found.
 
-use calls::Call;
-use days::{chain_of_joins, fault_of_fills, must_pass, random_day, seeds, told, Profile, Told};
+use calls::{Answer, Call, Code};
+use days::{chains_of_joins, days_of, fault_of_fills, must_find, must_pass, seeds, Profile};
 use literal::{Day, VertexId, VertexKind};
 
 /// How many days of each kind are replayed.
@@ -19,57 +19,53 @@ const KINDS: [(Profile, u64); 10] = [
     (Profile::NEARLY_FULL, 5),
 ];
 
-fn by_literal(calls: &[Call]) -> Option<String> {
-    let mut day = Day::fresh();
-    fault_of_fills(calls, |call| told(&day.call(call)))
-}
-
-fn by_plain(calls: &[Call]) -> Option<String> {
-    let mut day = plain::Day::fresh();
-    fault_of_fills(calls, |call| told(&day.call(call)))
+/// By the literal replay, and by the plain implementation.
+fn by_either(calls: &[Call]) -> Option<String> {
+    fault_of_fills(Day::fresh(), calls, Day::call)
+        .or_else(|| fault_of_fills(plain::Day::fresh(), calls, plain::Day::call))
 }
 
 #[test]
 fn fills_come_to_the_updates_accepted() {
-    for (profile, count) in KINDS {
-        for seed in seeds(count) {
-            let day = random_day(&profile, seed);
-            must_pass(profile.name, seed, &day, by_literal);
-            must_pass(profile.name, seed, &day, by_plain);
-        }
-    }
-    for seed in seeds(30) {
-        must_pass("chain of joins", seed, &chain_of_joins(seed), by_literal);
-        must_pass("chain of joins", seed, &chain_of_joins(seed), by_plain);
-    }
+    must_pass(days_of(&KINDS), by_either);
+    must_pass(chains_of_joins(seeds(30)), by_either);
 }
 
-/// What a wrong fill tells of a revision number, in place of what is right.
-type Wrong = fn(&Day, usize, Told) -> Told;
+/// What a wrong fill of a revision number answers, in place of what is right.
+type Wrong = fn(&Day, usize, Answer) -> Answer;
 
 const WRONG: [(&str, Wrong); 8] = [
-    ("inherited updates count", |day, r, right| {
-        right.map(|(_, total)| (day.visible(r).len() as u32, total))
-    }),
-    ("joined updates do not count", |day, r, right| right.map(|(_, total)| (taken(day, r), total))),
+    ("inherited updates count", |day, r, right| told(right, |_| day.visible(r).len() as u32)),
+    ("joined updates do not count", |day, r, right| told(right, |_| entered(day, r))),
     ("updates joined through others do not count", |day, r, right| {
-        let joined: u32 = joined_into(day, r).map(|joinee| taken(day, joinee)).sum();
-        right.map(|(_, total)| (taken(day, r) + joined, total))
+        let joined = || joined_into(day, r).map(|joinee| entered(day, joinee)).sum::<u32>();
+        told(right, |_| entered(day, r) + joined())
     }),
-    ("joined revisions are told too", |day, r, right| {
-        let known = r < day.revisions().len();
-        right.or_else(|| known.then(|| (day.own(r).len() as u32, day.updates().len() as u32)))
+    ("joined revisions are told too", |day, r, right| match right.code {
+        Code::Joined => Answer::filled(day.own(r).len() as u32, day.updates().len() as u32),
+        _ => right,
     }),
-    ("numbers never sent are told too", |day, r, right| {
-        let known = r < day.revisions().len();
-        right.or_else(|| (!known).then_some((0, day.updates().len() as u32)))
+    ("numbers never given out are told too", |day, _, right| match right.code {
+        Code::NeverForked => Answer::filled(0, day.updates().len() as u32),
+        _ => right,
     }),
-    ("busy revisions are refused", |day, r, right| right.filter(|_| open(day, r).next().is_none())),
+    ("busy revisions are refused", |day, r, right| match open(day, r).next() {
+        Some(_) => Answer::refused(Code::InUse),
+        None => right,
+    }),
     ("open transactions do not count", |day, r, right| {
-        right.map(|(own, total)| (own - updates(day, open(day, r)), total))
+        told(right, |own| own - updates(day, open(day, r)))
     }),
-    ("the total is that of the revision", |_, _, right| right.map(|(own, _)| (own, own))),
+    ("the total is that of the revision", |_, _, right| Answer { total: right.value, ..right }),
 ];
+
+/// What is right, but of an accepted fill other own updates.
+fn told(right: Answer, own: impl Fn(u32) -> u32) -> Answer {
+    match right.code {
+        Code::Accepted => Answer { value: own(right.value), ..right },
+        _ => right,
+    }
+}
 
 /// The vertices of a revision.
 fn vertices(day: &Day, r: usize) -> impl Iterator<Item = VertexId> + '_ {
@@ -82,8 +78,8 @@ fn updates(day: &Day, vertices: impl Iterator<Item = VertexId>) -> u32 {
     vertices.filter(is_update).count() as u32
 }
 
-/// How many updates a revision took itself.
-fn taken(day: &Day, r: usize) -> u32 {
+/// How many updates were entered on a revision itself.
+fn entered(day: &Day, r: usize) -> u32 {
     updates(day, vertices(day, r))
 }
 
@@ -94,7 +90,7 @@ fn joined_into(day: &Day, r: usize) -> impl Iterator<Item = usize> + '_ {
 
 /// The events of open transactions on a revision.
 fn open(day: &Day, r: usize) -> impl Iterator<Item = VertexId> + '_ {
-    let open = day.transactions().iter().filter(move |t| t.revision == r && t.yielded.is_none());
+    let open = day.transactions().iter().filter(move |t| t.revision == r && t.is_open());
     open.flat_map(|t| t.events.iter().copied())
 }
 
@@ -102,17 +98,15 @@ fn open(day: &Day, r: usize) -> impl Iterator<Item = VertexId> + '_ {
 fn wrong_fills_are_found() {
     let few_calls = Profile { calls: 100, ..Profile::NESTED };
     for (name, wrong) in WRONG {
-        let by_wrong = |seed| {
-            let mut day = Day::fresh();
-            fault_of_fills(&random_day(&few_calls, seed), |call| {
-                let right = told(&day.call(call));
-                match *call {
-                    Call::Fill { revision } => wrong(&day, usize::from(revision), right),
-                    _ => right,
+        let by_wrong = |calls: &[Call]| {
+            fault_of_fills(Day::fresh(), calls, |day, call| match *call {
+                Call::Fill { revision } => {
+                    let right = day.call(call);
+                    wrong(day, usize::from(revision), right)
                 }
+                _ => day.call(call),
             })
         };
-        let found = (0..100).filter_map(by_wrong).count();
-        assert!(found >= 5, "{name}: found on {found} days of 100");
+        must_find(name, few_calls.days(0..100), by_wrong);
     }
 }

@@ -2,7 +2,7 @@
 
 use calls::{Call, Code, State};
 use days::{
-    arbitration_order, broken_sentence, chain_of_joins, late_days, must_pass, random_day, seeds,
+    arbitration_order, broken_sentence, chains_of_joins, days_of, late_days, must_pass, seeds,
     Facts, Profile, SENTENCES,
 };
 
@@ -13,30 +13,21 @@ fn line_up(calls: &[Call]) -> Option<String> {
 
 #[test]
 fn small_days_have_a_line_up() {
-    for seed in seeds(2_000) {
-        must_pass("small", seed, &random_day(&Profile::SMALL, seed), line_up);
-    }
+    must_pass(Profile::SMALL.days(seeds(2_000)), line_up);
 }
 
 #[test]
 fn days_with_late_updates_have_a_line_up() {
-    for (number, day) in late_days().enumerate() {
-        must_pass("late updates", number as u64, &day, line_up);
-    }
+    must_pass(late_days(), line_up);
 }
 
 #[test]
 fn days_with_many_revisions_have_a_line_up() {
-    let few_calls = |profile: Profile| Profile { calls: 90, ..profile };
+    let few_calls = |profile: Profile| (Profile { calls: 90, ..profile }, 300);
     let kinds = [Profile::NESTED, Profile::STALE, Profile::QUERIES, Profile::STRIKES];
-    for profile in kinds.map(few_calls) {
-        for seed in seeds(300) {
-            must_pass(profile.name, seed, &random_day(&profile, seed), line_up);
-        }
-    }
-    for seed in (0..400).filter(|&seed| chain_of_joins(seed).len() < 120).take(30) {
-        must_pass("chain of joins", seed, &chain_of_joins(seed), line_up);
-    }
+    must_pass(days_of(&kinds.map(few_calls)), line_up);
+    let chains = chains_of_joins(0..400).filter(|chain| chain.calls.len() < 120);
+    must_pass(chains.take(30), line_up);
 }
 
 /// A small day on which every sentence has something to say.
@@ -64,7 +55,7 @@ fn day() -> (Vec<usize>, Facts) {
 #[test]
 fn the_layout_puts_the_joinee_after_the_joiner() {
     let (order, facts) = day();
-    assert_eq!(order, [0, 2, 1, 3]);
+    assert_eq!(order, ORDER);
     assert_eq!(broken_sentence(&facts, &order), None);
 }
 
@@ -73,50 +64,52 @@ fn updates(facts: &mut Facts, calls: usize, revision: usize) -> &mut Vec<usize> 
     &mut facts.views[calls][revision].as_mut().unwrap().updates
 }
 
-/// Each sentence holds of the day, and refuses the records that were made wrong for it.
+/// The order of that day.
+const ORDER: [usize; 4] = [0, 2, 1, 3];
+
+/// A sentence, and an order and a change of the facts that it must refuse.
+type Spoilt = (&'static str, &'static [usize], fn(&mut Facts));
+
+const SPOILT: [Spoilt; 17] = [
+    ("every transaction once", &[0, 2, 1], |_| {}),
+    ("every transaction once", &[0, 2, 1, 1], |_| {}),
+    ("every transaction once", &ORDER, |facts| _ = facts.transactions[0].events.pop()),
+    ("after all others that it sees", &[2, 0, 1, 3], |_| {}),
+    ("queries answer by the order", &[0, 1, 2, 3], |_| {}),
+    ("queries answer by the order", &ORDER, |facts| facts.steps[10].answer.value = 4),
+    ("queries answer by the order", &ORDER, |facts| facts.steps[10].answer.state = State::Neither),
+    ("queries answer by the order", &ORDER, |facts| facts.steps[10].answer.state = State::Struck),
+    ("visible updates stand in listed order", &[0, 1, 2, 3], |_| {}),
+    ("visible updates are those seen", &ORDER, |facts| updates(facts, 9, 0).push(1)),
+    ("visible updates are those seen", &ORDER, |facts| updates(facts, 5, 1).clear()),
+    ("lists grow at the end", &ORDER, |facts| updates(facts, 9, 0).swap(2, 3)),
+    ("transactions are seen whole", &ORDER, |facts| {
+        let event = facts.events(0).next().unwrap();
+        facts.sees[4][event] = false;
+    }),
+    ("transactions are seen whole", &ORDER, |facts| facts.transactions[1].yielded = None),
+    ("lists show transactions whole", &ORDER, |facts| {
+        facts.steps[9].answer.lines.remove(0);
+    }),
+    ("lists show transactions whole", &ORDER, |facts| facts.steps[9].closed[1] = false),
+    ("later transactions see earlier ones", &ORDER, |facts| {
+        let [first, later] = [0, 2].map(|t| facts.events(t).next().unwrap());
+        facts.sees[later][first] = false;
+    }),
+];
+
+/// Each sentence holds of the day, and refuses what was spoilt for it.
 #[test]
 fn each_sentence_can_fail() {
     let (order, facts) = day();
-    let mut spoilt: Vec<(&str, Vec<usize>, Facts)> = Vec::new();
-    let mut spoil = |name, order: &[usize], change: &dyn Fn(&mut Facts)| {
-        let mut facts = facts.clone();
-        change(&mut facts);
-        spoilt.push((name, order.to_vec(), facts));
-    };
-    spoil("every transaction once", &[0, 2, 1], &|_| {});
-    spoil("every transaction once", &[0, 2, 1, 1], &|_| {});
-    spoil("every transaction once", &order, &|facts| {
-        facts.transactions[0].events.pop();
-    });
-    spoil("after all others that it sees", &[2, 0, 1, 3], &|_| {});
-    spoil("queries answer by the order", &[0, 1, 2, 3], &|_| {});
-    spoil("queries answer by the order", &order, &|facts| facts.steps[10].answer.value = 4);
-    for state in [State::Neither, State::Struck] {
-        spoil("queries answer by the order", &order, &|facts| facts.steps[10].answer.state = state);
-    }
-    spoil("visible updates stand in listed order", &[0, 1, 2, 3], &|_| {});
-    spoil("visible updates are those seen", &order, &|facts| updates(facts, 9, 0).push(1));
-    spoil("visible updates are those seen", &order, &|facts| updates(facts, 5, 1).clear());
-    spoil("lists grow at the end", &order, &|facts| updates(facts, 9, 0).swap(2, 3));
-    spoil("transactions are seen whole", &order, &|facts| {
-        let event = facts.events(0).next().unwrap();
-        facts.sees[4][event] = false;
-    });
-    spoil("transactions are seen whole", &order, &|facts| facts.transactions[1].yielded = None);
-    spoil("lists show transactions whole", &order, &|facts| {
-        facts.steps[9].answer.lines.remove(0);
-    });
-    spoil("lists show transactions whole", &order, &|facts| facts.steps[9].closed[1] = false);
-    spoil("later transactions see earlier ones", &order, &|facts| {
-        let [first, later] = [0, 2].map(|t| facts.events(t).next().unwrap());
-        facts.sees[later][first] = false;
-    });
-
     for (name, check) in SENTENCES {
         assert_eq!(check(&facts, &order), None, "{name}");
-        assert!(spoilt.iter().any(|(spoilt, ..)| *spoilt == name), "{name} is never spoilt");
-        for (_, order, facts) in spoilt.iter().filter(|(spoilt, ..)| *spoilt == name) {
-            assert!(check(facts, order).is_some(), "{name}: {order:?}");
+        let mut spoilt = SPOILT.iter().filter(|(spoilt, ..)| *spoilt == name).peekable();
+        assert!(spoilt.peek().is_some(), "{name} is never spoilt");
+        for (_, order, change) in spoilt {
+            let mut facts = facts.clone();
+            change(&mut facts);
+            assert!(check(&facts, order).is_some(), "{name}: {order:?}");
         }
     }
 }

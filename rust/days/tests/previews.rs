@@ -3,9 +3,10 @@
 
 use calls::{Answer, Call, Code, State};
 use days::{
-    chain_of_joins, fault_of_previews, late_days, must_pass, random_day, seeds, shown, Profile,
+    chains_of_joins, days_of, fault_of_previews, late_days, must_find, must_pass, seeds, stands,
+    Profile, Sample,
 };
-use literal::{Day, Standing};
+use literal::Day;
 
 /// How many days of each kind are replayed.
 const KINDS: [(Profile, u64); 8] = [
@@ -20,44 +21,34 @@ const KINDS: [(Profile, u64); 8] = [
 ];
 
 fn by_plain(calls: &[Call]) -> Option<String> {
-    fault_of_previews(plain::Day::fresh(), calls, |day, call| shown(&day.call(call)))
+    fault_of_previews(plain::Day::fresh(), calls, plain::Day::call)
 }
 
 #[test]
 fn previews_are_the_join_and_a_query_on_a_copy() {
-    for (profile, count) in KINDS {
-        for seed in seeds(count) {
-            must_pass(profile.name, seed, &random_day(&profile, seed), by_plain);
-        }
-    }
-    for seed in seeds(50) {
-        must_pass("chain of joins", seed, &chain_of_joins(seed), by_plain);
-    }
-    for (number, day) in late_days().enumerate() {
-        must_pass("late updates", number as u64, &day, by_plain);
-    }
+    must_pass(days_of(&KINDS), by_plain);
+    must_pass(chains_of_joins(seeds(50)), by_plain);
+    must_pass(late_days(), by_plain);
 }
 
 /// Previews find bibs in every state, changed by the join or not, and joins follow many of them.
 #[test]
 fn previews_of_every_kind_are_made() {
     let (mut states, mut changed, mut empty, mut joined) = ([0; 3], 0, 0, 0);
-    for (profile, count) in KINDS {
-        for seed in 0..count / 2 {
-            let calls = random_day(&profile, seed);
-            let mut day = Day::fresh();
-            for (at, call) in calls.iter().enumerate() {
-                let answer = day.call(call);
-                let Call::Preview { joiner, joinee, bib } = *call else { continue };
-                if answer.code != Code::Accepted {
-                    continue;
-                }
-                states[answer.state as usize] += 1;
-                let before = stands(&day, day.visible(usize::from(joiner)), bib);
-                changed += usize::from(before != (answer.state, answer.value));
-                empty += usize::from(answer.gain == 0);
-                joined += usize::from(calls.get(at + 1) == Some(&Call::Join { joiner, joinee }));
+    let days = KINDS.into_iter().flat_map(|(profile, count)| profile.days(0..count / 2));
+    for Sample { calls, .. } in days {
+        let mut day = Day::fresh();
+        for (at, call) in calls.iter().enumerate() {
+            let answer = day.call(call);
+            let Call::Preview { joiner, joinee, bib } = *call else { continue };
+            if answer.code != Code::Accepted {
+                continue;
             }
+            states[answer.state as usize] += 1;
+            let before = after(&day, day.visible(usize::from(joiner)), bib);
+            changed += usize::from(before != (answer.state, answer.value));
+            empty += usize::from(answer.gain == 0);
+            joined += usize::from(calls.get(at + 1) == Some(&Call::Join { joiner, joinee }));
         }
     }
     assert!(states.iter().all(|&times| times >= 100), "{states:?}");
@@ -65,12 +56,9 @@ fn previews_of_every_kind_are_made() {
     assert!(met.iter().all(|&times| times >= 150), "{met:?}");
 }
 
-/// How a bib stands after these updates, by number, in this order.
-fn stands(day: &Day, numbers: Vec<usize>, bib: u16) -> (State, u32) {
-    let updates = numbers.into_iter().map(|number| day.updates()[number]);
-    let of_bib = updates.filter(|update| update.bib == bib);
-    let standing = of_bib.fold(Standing::FRESH, |standing, update| update.applied_to(standing));
-    (standing.state(), standing.value())
+/// How a bib stands after the updates of these numbers, in this order.
+fn after(day: &Day, numbers: Vec<usize>, bib: u16) -> (State, u32) {
+    stands(numbers.into_iter().map(|number| day.updates()[number]), bib)
 }
 
 /// What a wrong preview answers and does; the last argument is what is right.
@@ -119,7 +107,7 @@ const WRONG: [(&str, Wrong); 11] = [
     }),
     ("a refusal tells the state", |day, [joiner, _], bib, right| match right.code {
         Code::NotJoinable => {
-            let (state, value) = stands(day, day.visible(joiner), bib);
+            let (state, value) = after(day, day.visible(joiner), bib);
             Answer { state, value, ..right }
         }
         _ => right,
@@ -139,7 +127,7 @@ fn told(day: &Day, bib: u16, right: Answer, numbers: impl Fn(&Day) -> Vec<usize>
     if right.code != Code::Accepted {
         return right;
     }
-    let (state, value) = stands(day, numbers(day), bib);
+    let (state, value) = after(day, numbers(day), bib);
     Answer { state, value, ..right }
 }
 
@@ -151,13 +139,11 @@ fn wrong_previews_are_found() {
             fault_of_previews(Day::fresh(), calls, |day, call| match *call {
                 Call::Preview { joiner, joinee, bib } => {
                     let right = day.call(call);
-                    shown(&wrong(day, [joiner, joinee].map(usize::from), bib, right))
+                    wrong(day, [joiner, joinee].map(usize::from), bib, right)
                 }
-                _ => shown(&day.call(call)),
+                _ => day.call(call),
             })
         };
-        let days = kinds.iter().flat_map(|kind| (0..30).map(|seed| random_day(kind, seed)));
-        let found = days.filter(|day| by_wrong(day).is_some()).count();
-        assert!(found >= 5, "{name}: found on {found} days of 90");
+        must_find(name, kinds.into_iter().flat_map(|kind| kind.days(0..30)), by_wrong);
     }
 }

@@ -5,9 +5,9 @@ use calls::Code;
 use crate::day::{Day, CLIENTS};
 use crate::update::BIBS;
 
-/// 64 boxes, handed in or not.
+/// 64 revisions, joined or not.
 const REVISIONS: usize = 64;
-/// 4,096 updates, the sum over all boxes.
+/// 4,096 updates, the sum over all revisions.
 const UPDATES: usize = 4_096;
 /// Bytes of one entry of a listing, and of one record of a bundle.
 pub(crate) const ENTRY: usize = 12;
@@ -21,6 +21,11 @@ fn refuse_if(condition: bool, code: Code) -> Result<(), Code> {
     }
 }
 
+/// 2: "tablet above 15".
+pub(crate) fn client_known(client: usize) -> Result<(), Code> {
+    refuse_if(client >= CLIENTS, Code::StrangeClient)
+}
+
 /// 5: "bib above 999".
 pub(crate) fn bib_known(bib: u16) -> Result<(), Code> {
     refuse_if(usize::from(bib) >= BIBS, Code::BadEntry)
@@ -31,6 +36,11 @@ pub(crate) fn kind_known(kind: u8) -> Result<(), Code> {
     refuse_if(!(1..=4).contains(&kind), Code::BadEntry)
 }
 
+/// 12: "the listing's buffer is smaller than it needs".
+pub(crate) fn listing_fits(visible: usize, room: usize) -> Result<(), Code> {
+    refuse_if(room < ENTRY * visible, Code::ListingShort)
+}
+
 /// 14: "the count is 0 or above 64 or the bytes aren't a multiple of 12".
 pub(crate) fn bundle_whole(bytes: usize) -> Result<(), Code> {
     let whole = bytes.is_multiple_of(ENTRY);
@@ -38,11 +48,6 @@ pub(crate) fn bundle_whole(bytes: usize) -> Result<(), Code> {
 }
 
 impl Day {
-    /// 2: "tablet above 15".
-    pub(crate) fn client_known(&self, client: usize) -> Result<(), Code> {
-        refuse_if(client >= CLIENTS, Code::StrangeClient)
-    }
-
     /// 3: "box number not yet given out".
     pub(crate) fn given_out(&self, revision: usize) -> Result<(), Code> {
         refuse_if(revision >= self.revisions.len(), Code::NeverForked)
@@ -96,11 +101,6 @@ impl Day {
         let start_seen = self.diagram.leads(start, terminal);
         let refused = joinee == 0 || joinee == joiner || !fork_seen || start_seen;
         refuse_if(refused, Code::NotJoinable)
-    }
-
-    /// 12: "the listing's buffer is smaller than it needs".
-    pub(crate) fn listing_fits(&self, visible: usize, room: usize) -> Result<(), Code> {
-        refuse_if(room < ENTRY * visible, Code::ListingShort)
     }
 
     /// The revision of a client's open transaction.

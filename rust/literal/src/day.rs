@@ -31,6 +31,13 @@ pub struct Transaction {
     pub yielded: Option<usize>,
 }
 
+impl Transaction {
+    /// "A transaction is open until its tablet's yield".
+    pub fn is_open(&self) -> bool {
+        self.yielded.is_none()
+    }
+}
+
 /// What is kept of a client.
 #[derive(Clone, Copy, Debug, Default, PartialEq, Eq)]
 pub(crate) struct Client {
@@ -78,7 +85,7 @@ impl Day {
         &self.transactions
     }
 
-    /// All updates taken, by number.
+    /// All updates accepted, by number.
     pub fn updates(&self) -> &[Update] {
         &self.updates
     }

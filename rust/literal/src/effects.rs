@@ -1,39 +1,23 @@
 //! Effects and root paths: 002, Definitions 7, 8 and 9, with updates by number.
 
+use std::iter;
+
 use crate::diagram::{Diagram, VertexId, VertexKind};
 
 impl Diagram {
     /// S(x): the start vertex of the revision that x belongs to.
     pub fn start_of(&self, x: VertexId) -> VertexId {
-        let mut start = x;
-        while let Some(y) = self.s_edge(start) {
-            start = y;
-        }
-        start
+        self.revision_up_to(x)[0]
     }
 
     /// The vertices of x's revision, from its start vertex to x.
     fn revision_up_to(&self, x: VertexId) -> Vec<VertexId> {
-        let mut path = vec![x];
-        let mut at = x;
-        while let Some(y) = self.s_edge(at) {
-            path.push(y);
-            at = y;
-        }
-        path.reverse();
-        path
+        path_to(x, |y| self.s_edge(y))
     }
 
     /// Definition 7: "the unique path from the root to v that does not contain j-edges".
     pub fn root_path(&self, x: VertexId) -> Vec<VertexId> {
-        let mut path = vec![x];
-        let mut at = x;
-        while let Some(y) = self.s_edge(at).or(self.f_edge(at)) {
-            path.push(y);
-            at = y;
-        }
-        path.reverse();
-        path
+        path_to(x, |y| self.s_edge(y).or(self.f_edge(y)))
     }
 
     /// Definition 8: the effect of a vertex, as the numbers of the updates to apply, first one first.
@@ -63,4 +47,11 @@ impl Diagram {
     pub fn visible(&self, x: VertexId) -> Vec<usize> {
         self.effects(&self.root_path(x))
     }
+}
+
+/// The path that ends at x, with the vertex before each as told.
+fn path_to(x: VertexId, before: impl Fn(VertexId) -> Option<VertexId>) -> Vec<VertexId> {
+    let mut path: Vec<VertexId> = iter::successors(Some(x), |&y| before(y)).collect();
+    path.reverse();
+    path
 }

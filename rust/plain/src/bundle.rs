@@ -2,17 +2,15 @@
 
 use calls::Code;
 
+use crate::calls::LISTED;
 use crate::checks::refuse;
 use crate::entry::Entry;
-use crate::numbers::{Bib, Client};
-use crate::order::UPDATES;
+use crate::numbers::{Bib, Client, LOG};
 use crate::range::checked;
 use crate::update::Kind;
 
 /// A bundle has so many records at most.
 const MOST: usize = 64;
-/// Bytes of a record, laid out as an entry of a listing.
-const RECORD: usize = 12;
 
 /// Several entries by a client on a revision, and its yield; the first entry's number. All are
 /// checked before the first is written.
@@ -30,7 +28,7 @@ pub fn bundle(t: &mut [u8], client: u8, revision: u8, records: &[u8]) -> Result<
         }
         t.check_log_after(place)?;
         // On cells that no day made, the count may leave its range: what comes next finds no table.
-        refuse(usize::from(t.count(revision)) + place >= UPDATES, Code::NoTable)?;
+        refuse(usize::from(t.count(revision)) + place >= LOG, Code::NoTable)?;
     }
 
     let first = t.updates();
@@ -43,7 +41,7 @@ pub fn bundle(t: &mut [u8], client: u8, revision: u8, records: &[u8]) -> Result<
 }
 
 /// Code 14.
-fn checked_records(bytes: &[u8]) -> Result<&[[u8; RECORD]], Code> {
+fn checked_records(bytes: &[u8]) -> Result<&[[u8; LISTED]], Code> {
     let (records, rest) = bytes.as_chunks();
     let whole = rest.is_empty() && (1..=MOST).contains(&records.len());
     refuse(!whole, Code::WrongBundle)?;
@@ -51,7 +49,7 @@ fn checked_records(bytes: &[u8]) -> Result<&[[u8; RECORD]], Code> {
 }
 
 /// Code 5. The client and the number in the record are not looked at.
-fn checked_entry(record: &[u8; RECORD], client: Client) -> Result<Entry, Code> {
+fn checked_entry(record: &[u8; LISTED], client: Client) -> Result<Entry, Code> {
     let &[kind, _, b0, b1, v0, v1, v2, v3, ..] = record;
     let bib = Bib::checked(u16::from_le_bytes([b0, b1]))?;
     let kind = Kind::checked(kind)?;

@@ -3,21 +3,20 @@
 use calls::Code;
 
 use crate::entry::Entry;
-use crate::numbers::{Bib, Client};
-use crate::order::UPDATES;
+use crate::numbers::{Bib, Client, LOG};
 use crate::range::checked;
 use crate::table;
 use crate::update::{Kind, Standing};
 
-/// Bytes of one entry of a listing.
+/// Bytes of one entry of a listing, and of one record of a bundle.
 pub(crate) const LISTED: usize = 12;
 
 /// How full a revision is.
 #[derive(Clone, Copy, Debug, PartialEq, Eq)]
 pub struct Fill {
-    /// The updates taken on it and on those joined into it.
+    /// The updates accepted on it and on those joined into it.
     pub own: u16,
-    /// The updates taken by the whole table.
+    /// The updates accepted by the whole table.
     pub total: u16,
 }
 
@@ -117,7 +116,7 @@ pub fn list(t: &mut [u8], revision: u8, sheet: &mut [u8]) -> Result<u32, Code> {
     let revision = t.check_given(revision)?;
     t.check_out(revision)?;
     t.check_idle(revision)?;
-    let mut numbers = [0; UPDATES];
+    let mut numbers = [0; LOG];
     let order = t.order(revision, &mut numbers);
     if sheet.len() < LISTED * order.len() {
         return Err(Code::ListingShort);

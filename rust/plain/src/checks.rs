@@ -2,8 +2,7 @@
 
 use calls::Code;
 
-use crate::numbers::{Client, Revision, REVISIONS};
-use crate::order::UPDATES;
+use crate::numbers::{Client, Revision, LOG, REVISIONS};
 use crate::parts::{CLOSED, IS_JOINED, NEVER};
 use crate::table::Table;
 
@@ -44,9 +43,9 @@ impl Table<'_> {
         self.check_log_after(0)
     }
 
-    /// Code 9, once so many more updates are taken.
+    /// Code 9, once so many more updates are accepted.
     pub(crate) fn check_log_after(&self, more: usize) -> Result<(), Code> {
-        refuse(usize::from(self.updates()) + more >= UPDATES, Code::LogFull)
+        refuse(usize::from(self.updates()) + more >= LOG, Code::LogFull)
     }
 
     /// Code 10, or the next revision number.

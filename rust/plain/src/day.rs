@@ -5,7 +5,7 @@ use calls::{Answer, Call, Code, Line, State};
 use crate::bundle::bundle;
 use crate::calls::{fill, fork, fresh, join, list, preview, query, update, yield_};
 use crate::calls::{Fill, Preview, LISTED};
-use crate::order::UPDATES;
+use crate::numbers::LOG;
 use crate::parts::BYTES;
 use crate::update::Standing;
 
@@ -71,7 +71,7 @@ fn found(Standing { struck, value }: Standing) -> Answer {
 
 /// The lines of a listing, read back from the sheet.
 fn listed(t: &mut [u8], revision: u8, room: usize) -> Result<Vec<Line>, Code> {
-    let mut sheet = vec![0; room.min(LISTED * UPDATES)];
+    let mut sheet = vec![0; room.min(LISTED * LOG)];
     let count = list(t, revision, &mut sheet)?;
     let (lines, _) = sheet.as_chunks::<LISTED>();
     Ok(lines[..count as usize].iter().map(|&line| Line::from_bytes(line)).collect())

@@ -1,6 +1,6 @@
 //! The table's calls in plain Rust, on the cells of docs/CELLS.md.
 //!
-//! It is the yardstick of speed for the proved table, and one of the two sides of the random
+//! The speed of the proved table is compared with it, and it is one of the two sides of the random
 //! tests: the same bytes, checks and steps, written from docs/CELLS.md alone, as one would write
 //! them without proofs. So it leaves the bytes that the proved table leaves, on every buffer.
 

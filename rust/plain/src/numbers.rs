@@ -6,6 +6,8 @@ use calls::Code;
 pub(crate) const REVISIONS: usize = 64;
 /// Client numbers are 0 to 15.
 pub(crate) const CLIENTS: usize = 16;
+/// The log has room for 4,096 updates, of all revisions together.
+pub(crate) const LOG: usize = 4_096;
 /// Bibs are 0 to 999.
 pub(crate) const BIBS: u16 = 1_000;
 

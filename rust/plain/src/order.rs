@@ -1,16 +1,13 @@
 //! The updates visible at a revision, in listed order: docs/CELLS.md, "What the cells mean".
 
 use crate::entry::Entry;
-use crate::numbers::{Bib, Revision};
+use crate::numbers::{Bib, Revision, LOG};
 use crate::parts::ROW;
 use crate::table::Table;
 use crate::update::Standing;
 
-/// The whole log holds 4,096 updates.
-pub(crate) const UPDATES: usize = 4_096;
-
 /// Room for the numbers of all updates.
-pub(crate) type Numbers = [u16; UPDATES];
+pub(crate) type Numbers = [u16; LOG];
 
 pub(crate) fn has(row: &[u8; ROW], u: u16) -> bool {
     row[usize::from(u / 8)] >> (u % 8) & 1 == 1
@@ -36,10 +33,10 @@ impl Table<'_> {
     /// first, then its own list.
     pub(crate) fn order<'n>(&self, r: Revision, numbers: &'n mut Numbers) -> &'n [u16] {
         let row = self.row(r);
-        let mut scratch = [0; UPDATES];
+        let mut scratch = [0; LOG];
         let mut count = 0;
         let mut push = |u: u16| {
-            if count < UPDATES {
+            if count < LOG {
                 numbers[count] = u;
                 count += 1;
             }
@@ -61,14 +58,14 @@ impl Table<'_> {
 
     /// How a bib stands at a revision.
     pub(crate) fn standing(&self, r: Revision, bib: Bib) -> Standing {
-        self.after(Standing::at(0), self.order(r, &mut [0; UPDATES]), bib)
+        self.after(Standing::at(0), self.order(r, &mut [0; LOG]), bib)
     }
 
     /// How a bib will stand at a revision that joins another: first its own order, then the other's
     /// own list.
     pub(crate) fn standing_joined(&self, joiner: Revision, joinee: Revision, bib: Bib) -> Standing {
         let before = self.standing(joiner, bib);
-        self.after(before, self.own(joinee, &mut [0; UPDATES]), bib)
+        self.after(before, self.own(joinee, &mut [0; LOG]), bib)
     }
 
     /// How a bib that stands so does after these updates.

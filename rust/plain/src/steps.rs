@@ -2,8 +2,8 @@
 
 use crate::entry::Entry;
 use crate::marks::Marks;
-use crate::numbers::{Client, Revision, CLIENTS, REVISIONS};
-use crate::order::{insert, UPDATES};
+use crate::numbers::{Client, Revision, CLIENTS, LOG, REVISIONS};
+use crate::order::insert;
 use crate::parts::{CLOSED, IS_JOINED, IS_OUT};
 use crate::table::Table;
 
@@ -62,7 +62,7 @@ impl Table<'_> {
             self.set_base(child, self.count(parent));
         } else {
             let mut row = self.row(parent);
-            for &u in self.own(parent, &mut [0; UPDATES]) {
+            for &u in self.own(parent, &mut [0; LOG]) {
                 insert(&mut row, u);
             }
             self.set_row(child, &row);

@@ -1,12 +1,12 @@
 //! 02, U4, of the static library: "A whole bundle from a tablet", as records and as entries.
 
+#[path = "common/fresh.rs"]
+mod fresh;
+
 use calls::Line;
+use fresh::fresh;
 use silttongs::Kind::{Penalty, Strike, Time};
 use silttongs::{lines, Entry, Fill, Refusal, Standing, Table, BUNDLE, BYTES, SHEET};
-
-fn fresh() -> Table<Vec<u8>> {
-    Table::fresh(vec![0; BYTES]).expect("the length is right")
-}
 
 fn records(entries: &[Entry]) -> Vec<u8> {
     entries.iter().flat_map(|entry| entry.to_bytes()).collect()

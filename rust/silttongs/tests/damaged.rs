@@ -7,20 +7,18 @@ mod common;
 
 use std::collections::BTreeMap;
 
-use calls::{Call, Line, State};
+use calls::{Answer, Call, Code, Line, State};
 use cells::{cells, is_table, Cell};
-use common::{difference, first_difference, library, plainly, sheet, Given};
-use days::{fault_of_bundles, random_day, seeds, Profile, Rng, Shown};
+use common::{
+    answered, difference, first_difference, fresh, library, only_reads, plainly, sheet, Given,
+};
+use days::{fault_of_bundles, random_day, seeds, Profile, Rng};
 use silttongs::{Refusal, Table, BYTES, SHEET};
 
 /// How many damaged buffers are tried.
 const BUFFERS: u64 = 8_000;
 /// How many calls are made on each.
 const CALLS: usize = 16;
-
-fn fresh() -> Vec<u8> {
-    Table::fresh(vec![0; BYTES]).expect("the length is right").into_bytes()
-}
 
 /// The 796 bytes that docs/CELLS.md names.
 #[test]
@@ -31,14 +29,15 @@ fn the_cells_with_a_range() {
 }
 
 /// What a refusal gives: no state, no number, and the sheet as it was.
-fn refused(call: &Call, code: u8) -> Given {
-    Given { code, state: State::Neither, value: 0, total: 0, gain: 0, sheet: sheet(call) }
+fn refused(call: &Call, code: Code) -> Given {
+    Given { answer: Answer::refused(code), sheet: sheet(call) }
 }
 
 /// Each cell at the ends of its range and one further.
 #[test]
 fn each_cell_at_its_limits() {
-    for cell in cells() {
+    let cells = cells();
+    for cell in &cells {
         let (low, high) = (*cell.range.start(), *cell.range.end());
         let mut values = vec![low, high];
         values.extend(low.checked_sub(1));
@@ -47,12 +46,16 @@ fn each_cell_at_its_limits() {
         for value in values {
             let mut t = fresh();
             cell.set(&mut t, value);
-            let code = if cell.range.contains(&value) { 0 } else { 1 };
-            // A fill may find revision 0 never sent or joined.
-            let fill = library(&mut t, &Call::Fill { revision: 0 });
-            assert_eq!(fill.code == 1, code == 1, "{value} in {cell:?}");
-            let given = library(&mut t, &Call::Yield { client: 0 });
-            assert_eq!((given.code, given.value), (code, 0), "{value} in {cell:?}");
+            let mut made = |call: Call| {
+                judged(&cells, &mut t, &call)
+                    .unwrap_or_else(|fault| panic!("{value} in {cell:?}, `{call}`: {fault}"))
+            };
+            // It may find revision 0 never forked or joined.
+            made(Call::Fill { revision: 0 });
+            let in_range = cell.range.contains(&value);
+            let right = if in_range { Answer::accepted(0) } else { Answer::refused(Code::NoTable) };
+            let given = made(Call::Yield { client: 0 });
+            assert_eq!(given.answer, right, "{value} in {cell:?}");
         }
     }
 }
@@ -65,9 +68,12 @@ fn the_other_bytes_have_every_value_in_range() {
     for cell in cells() {
         ranged[cell.at..cell.at + cell.width].fill(true);
     }
+    let call = Call::Yield { client: 0 };
     for at in (0..BYTES).filter(|&at| !ranged[at]) {
         t[at] ^= 0xff;
-        assert_eq!(library(&mut t, &Call::Yield { client: 0 }).code, 0, "byte {at}");
+        let given = library(&mut t, &call);
+        assert_eq!(given.answer, Answer::accepted(0), "byte {at}");
+        assert_eq!(plainly(&mut t, &call), given, "byte {at}, by plain");
     }
 }
 
@@ -86,15 +92,17 @@ fn wrong_lengths() {
         Call::Bundle { client: 0, revision: 0, records: Vec::new() },
         Call::Preview { joiner: 0, joinee: 1, bib: 7 },
     ];
+    let cells = cells();
     for length in [0, 1, 12, 40_959, 40_960, BYTES - 1, BYTES + 1, 2 * BYTES] {
         let mut t = fresh();
         t.resize(length, 0);
         let before = t.clone();
         for call in &calls {
-            assert_eq!(library(&mut t, call), refused(call, 1), "{length} bytes, `{call}`");
-            assert!(t == before, "{length} bytes, `{call}`: changed");
+            let given = judged(&cells, &mut t, call);
+            assert_eq!(given, Ok(refused(call, Code::NoTable)), "{length} bytes, `{call}`");
         }
         assert_eq!(Table::fresh(&mut t[..]).err(), Some(Refusal::NoTable), "{length} bytes");
+        assert_eq!(plain::fresh(&mut t), Err(Code::NoTable), "{length} bytes");
         assert!(t == before, "{length} bytes: changed");
     }
 }
@@ -109,73 +117,83 @@ fn fresh_on_any_content() {
     }
 }
 
+/// What calls on damaged buffers met.
+#[derive(Default)]
+struct Met {
+    codes: BTreeMap<Code, usize>,
+    /// What queries found.
+    states: BTreeMap<State, usize>,
+}
+
+impl Met {
+    /// Makes any call, which is judged, and after an accepted list some more. `at` tells which.
+    fn calls(&mut self, at: &str, rng: &mut Rng, mut judged: impl FnMut(&Call) -> Given) {
+        let call = any_call(rng);
+        let Given { answer: Answer { code, value, .. }, sheet } = judged(&call);
+        *self.codes.entry(code).or_default() += 1;
+        let (Call::List { revision, .. }, 1..) = (call, value) else { return };
+        // It is accepted with just the room that it needs, and not with a byte less.
+        let needed = 12 * value as usize;
+        for (room, code) in [(needed, Code::Accepted), (needed - 1, Code::ListingShort)] {
+            let list = Call::List { revision, room };
+            assert_eq!(judged(&list).answer.code, code, "{at}, `{list}`");
+        }
+        // The bib of its last entry is queried, by the first client that may.
+        let bib = u16::from_le_bytes([sheet[needed - 10], sheet[needed - 9]]);
+        let mut queries =
+            (0..16).map(|client| judged(&Call::Query { client, revision, bib }).answer);
+        if let Some(found) = queries.find(|answer| answer.code == Code::Accepted) {
+            *self.states.entry(found.state).or_default() += 1;
+        }
+    }
+}
+
 #[test]
 fn random_calls_on_damaged_buffers() {
     let cells = cells();
-    let mut met: BTreeMap<u8, usize> = BTreeMap::new();
-    let mut states: BTreeMap<State, usize> = BTreeMap::new();
+    let mut met = Met::default();
     for seed in seeds(BUFFERS) {
         let mut rng = Rng::new(seed);
         let mut t = damaged(&cells, &mut rng);
         for step in 0..CALLS {
-            let mut made = |call: &Call| {
+            let at = format!("seed {seed}, call {step}");
+            met.calls(&at, &mut rng, |call| {
                 judged(&cells, &mut t, call)
-                    .unwrap_or_else(|fault| panic!("seed {seed}, call {step}, `{call}`: {fault}"))
-            };
-            let call = any_call(&mut rng);
-            let Given { code, value, sheet, .. } = made(&call);
-            *met.entry(code).or_default() += 1;
-            // A taken list is taken with just the room that it needs, and not with a byte less.
-            if let (Call::List { revision, .. }, 1..) = (call, value) {
-                let needed = 12 * value as usize;
-                for (room, code) in [(needed, 0), (needed - 1, 12)] {
-                    let list = Call::List { revision, room };
-                    assert_eq!(made(&list).code, code, "seed {seed}, call {step}, `{list}`");
-                }
-                // The bib of its last entry is queried, by the first client that may.
-                let bib = u16::from_le_bytes([sheet[needed - 10], sheet[needed - 9]]);
-                let mut queries =
-                    (0..16).map(|client| made(&Call::Query { client, revision, bib }));
-                if let Some(found) = queries.find(|given| given.code == 0) {
-                    *states.entry(found.state).or_default() += 1;
-                }
-            }
+                    .unwrap_or_else(|fault| panic!("{at}, `{call}`: {fault}"))
+            });
         }
     }
-    for code in (0..=12).chain([14]) {
-        let times = met.get(&code).copied().unwrap_or(0);
-        assert!(times >= 10, "code {code} was met {times} times");
-    }
-    let often = states.values().filter(|&&times| times >= 30).count();
-    assert_eq!(often, 3, "queries found {states:?}");
+    let Met { codes, states } = met;
+    // 13 is given by the program alone.
+    let numbers: Vec<u8> = codes.keys().map(|code| code.number()).collect();
+    assert_eq!(numbers, [0, 1, 2, 3, 4, 5, 6, 7, 8, 9, 10, 11, 12, 14]);
+    assert!(codes.values().all(|&times| times >= 10), "{codes:?}");
+    assert_eq!(states.len(), 3, "{states:?}");
+    assert!(states.values().all(|&times| times >= 30), "{states:?}");
 }
 
 /// Makes the call, or says what is wrong with it.
 fn judged(cells: &[Cell], t: &mut Vec<u8>, call: &Call) -> Result<Given, String> {
-    let mut again = t.clone();
-    let mut plain = t.clone();
-    let before = t.clone();
+    let [mut again, mut plain, before] = [(); 3].map(|()| t.clone());
     let given = library(t, call);
     if library(&mut again, call) != given || again != *t {
         return Err("a second run differs".to_string());
     }
-    let code = given.code;
+    let code = given.answer.code;
     let table = is_table(cells, &before);
     // Of a bundle, an entry may leave a cell out of its range, and what comes next finds no table.
     if table && matches!(call, Call::Bundle { .. }) {
         let bundle = std::slice::from_ref(call);
-        let fault = fault_of_bundles(before.clone(), bundle, |t, call| on_library(t, call));
-        if let Some(fault) = fault {
+        if let Some(fault) = fault_of_bundles(before.clone(), bundle, answered) {
             return Err(fault);
         }
-    } else if (code == 1) == table {
+    } else if (code == Code::NoTable) == table {
         return Err(format!("code {code}, against docs/CELLS.md"));
     }
-    if code != 0 && (given != refused(call, code) || *t != before) {
+    if code != Code::Accepted && (given != refused(call, code) || *t != before) {
         return Err(format!("refused with code {code}, but with an answer or bytes changed"));
     }
-    let reads = matches!(call, Call::List { .. } | Call::Fill { .. } | Call::Preview { .. });
-    if reads && *t != before {
+    if only_reads(call) && *t != before {
         return Err("a call that only reads changed the table".to_string());
     }
     if let Some(fault) = difference(&given, &plainly(&mut plain, call)) {
@@ -185,11 +203,6 @@ fn judged(cells: &[Cell], t: &mut Vec<u8>, call: &Call) -> Result<Given, String>
         Some(at) => Err(format!("byte {at} is {}, plain has {}", t[at], plain[at])),
         None => Ok(given),
     }
-}
-
-fn on_library(t: &mut [u8], call: &Call) -> Shown {
-    let Given { code, state, value, gain, .. } = library(t, call);
-    Shown { code, state, value, gain }
 }
 
 fn random_bytes(rng: &mut Rng) -> Vec<u8> {

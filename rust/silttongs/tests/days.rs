@@ -3,13 +3,15 @@
 
 mod common;
 
-use calls::{Call, Line};
-use common::{as_given, difference, first_difference, library, Given};
-use days::{
-    chain_of_joins, fault_of_bundles, fault_of_fills, fault_of_previews, late_days, must_pass,
-    random_day, seeds, Profile, Shown,
+use calls::{Answer, Call, Line};
+use common::{
+    answered, as_given, difference, first_difference, fresh, library, only_reads, refused,
 };
-use silttongs::{Entry, Table, BYTES};
+use days::{
+    chains_of_joins, days_of, every_fill, every_list, every_preview, fault_of_bundles,
+    fault_of_fills, fault_of_previews, late_days, must_pass, seeds, Profile,
+};
+use silttongs::{lines, Entry, Table};
 
 /// How many days of each kind are replayed.
 const KINDS: [(Profile, u64); 10] = [
@@ -25,96 +27,65 @@ const KINDS: [(Profile, u64); 10] = [
     (Profile::NEARLY_FULL, 60),
 ];
 
-#[test]
-fn days_of_all_kinds() {
-    for (profile, count) in KINDS {
-        for seed in seeds(count) {
-            must_pass(profile.name, seed, &random_day(&profile, seed), fault);
-        }
-    }
+/// One of so many of these days.
+fn one_in(part: u64) -> [(Profile, u64); 10] {
+    KINDS.map(|(profile, count)| (profile, count.div_ceil(part)))
 }
 
 #[test]
-fn chains_of_joins() {
-    for seed in seeds(60) {
-        must_pass("chain of joins", seed, &chain_of_joins(seed), fault);
-    }
+fn days_of_all_kinds() {
+    must_pass(days_of(&KINDS), fault);
+}
+
+#[test]
+fn chains() {
+    must_pass(chains_of_joins(seeds(60)), fault);
 }
 
 #[test]
 fn days_with_late_updates() {
-    for (number, day) in late_days().enumerate() {
-        must_pass("late updates", number as u64, &day, fault);
-    }
+    must_pass(late_days(), fault);
 }
 
 #[test]
 fn small_days_with_every_listing_and_fill_after_every_step() {
-    for seed in seeds(800) {
-        must_pass("small", seed, &random_day(&Profile::SMALL, seed), fault_with_reads);
-    }
-    for seed in 0..10 {
-        must_pass("chain of joins", seed, &chain_of_joins(seed), fault_with_reads);
-    }
+    must_pass(Profile::SMALL.days(seeds(800)), fault_with_reads);
+    must_pass(chains_of_joins(0..10), fault_with_reads);
 }
 
 /// A preview of each pair of boxes after every step, of a bib that is entered and of one too high.
 #[test]
 fn small_days_with_every_preview_after_every_step() {
-    for seed in seeds(100) {
-        must_pass("small", seed, &random_day(&Profile::SMALL, seed), fault_with_previews);
-    }
+    must_pass(Profile::SMALL.days(seeds(100)), fault_with_previews);
 }
 
 /// 02, U4 and U6, by the library alone: a bundle is its updates and a yield, or changes nothing; a
 /// preview is the join on a copy and a query there.
 #[test]
 fn bundles_and_previews_are_what_other_calls_come_to() {
-    let on_library = |t: &mut Vec<u8>, call: &Call| {
-        let Given { code, state, value, gain, .. } = library(t, call);
-        Shown { code, state, value, gain }
-    };
-    let bundles = |calls: &[Call]| fault_of_bundles(fresh(), calls, on_library);
-    let previews = |calls: &[Call]| fault_of_previews(fresh(), calls, on_library);
-    for (profile, count) in KINDS {
-        for seed in seeds(count.div_ceil(8)) {
-            must_pass(profile.name, seed, &random_day(&profile, seed), bundles);
-            must_pass(profile.name, seed, &random_day(&profile, seed), previews);
-        }
-    }
-    for (number, day) in late_days().enumerate() {
-        must_pass("late updates", number as u64, &day, previews);
-    }
+    let bundles = |calls: &[Call]| fault_of_bundles(fresh(), calls, answered);
+    let previews = |calls: &[Call]| fault_of_previews(fresh(), calls, answered);
+    must_pass(days_of(&one_in(8)), bundles);
+    must_pass(days_of(&one_in(8)), previews);
+    must_pass(late_days(), previews);
 }
 
 /// Random days on the library, each bundle of whole records sent in both forms.
 #[test]
 fn both_forms_on_random_days() {
     let kinds = [(Profile::BUNDLES, 100), (Profile::NEARLY_FULL, 30), (Profile::STRANGE, 100)];
-    for (profile, count) in kinds {
-        for seed in seeds(count) {
-            must_pass(profile.name, seed, &random_day(&profile, seed), |calls| {
-                let mut t = fresh();
-                calls.iter().find_map(|call| fault_of_entries(&mut t, call))
-            });
-        }
-    }
+    must_pass(days_of(&kinds), |calls| {
+        let mut t = fresh();
+        calls.iter().find_map(|call| fault_of_entries(&mut t, call))
+    });
 }
 
 /// 02, U1: after every step, the own updates of all boxes out come to the updates accepted.
 #[test]
 fn fills_come_to_the_updates_accepted() {
-    for (profile, count) in KINDS {
-        for seed in seeds(count.div_ceil(4)) {
-            must_pass(profile.name, seed, &random_day(&profile, seed), fault_of_a_sum);
-        }
-    }
-    for seed in seeds(200) {
-        must_pass("small", seed, &random_day(&Profile::SMALL, seed), fault_of_a_sum);
-    }
-    for seed in seeds(30) {
-        must_pass("chain of joins", seed, &chain_of_joins(seed), fault_of_a_sum);
-    }
+    must_pass(days_of(&one_in(4)), fault_of_a_sum);
+    must_pass(Profile::SMALL.days(seeds(200)), fault_of_a_sum);
+    must_pass(chains_of_joins(seeds(30)), fault_of_a_sum);
 }
 
 /// The first call on which they differ, in words.
@@ -126,26 +97,26 @@ fn fault(calls: &[Call]) -> Option<String> {
 fn fault_with_reads(calls: &[Call]) -> Option<String> {
     let mut day = Day::fresh();
     calls.iter().find_map(|call| {
-        day.fault(call).or_else(|| day.fault_of_a_fill()).or_else(|| day.fault_of_a_listing())
+        day.fault(call)
+            .or_else(|| every_fill(&day.literal).iter().find_map(|fill| day.fault(fill)))
+            .or_else(|| day.fault_of_reads(&every_list(&day.literal, 1)))
     })
 }
 
 fn fault_with_previews(calls: &[Call]) -> Option<String> {
     let mut day = Day::fresh();
-    calls.iter().find_map(|call| day.fault(call).or_else(|| day.fault_of_a_preview()))
+    calls.iter().find_map(|call| {
+        day.fault(call).or_else(|| day.fault_of_reads(&every_preview(&day.literal, &[0, 1_000])))
+    })
 }
 
 fn fault_of_a_sum(calls: &[Call]) -> Option<String> {
-    let mut day = Day::fresh();
-    fault_of_fills(calls, |call| {
-        let given = library(&mut day.table, call);
-        (given.code == 0).then_some((given.value, given.total))
-    })
+    fault_of_fills(fresh(), calls, answered)
 }
 
 fn fault_of_entries(t: &mut Vec<u8>, call: &Call) -> Option<String> {
     let mut other = Table::from_bytes(t.clone());
-    let given = library(t, call);
+    let by_records = answered(t, call);
     let Call::Bundle { client, revision, ref records } = *call else { return None };
     let (whole, rest) = records.as_chunks();
     if !rest.is_empty() {
@@ -157,13 +128,9 @@ fn fault_of_entries(t: &mut Vec<u8>, call: &Call) -> Option<String> {
     };
     let entries: Vec<Entry> = whole.iter().map(entry).collect();
     let answer = other.bundle_entries(client, revision, &entries);
-    let by_entries = answer.map_or_else(|refusal| (refusal.code(), 0), |value| (0, value));
-    let same = by_entries == (given.code, given.value) && other.bytes() == t;
-    (!same).then(|| format!("`{call}`: as entries {by_entries:?}, as records {given:?}"))
-}
-
-fn fresh() -> Vec<u8> {
-    Table::fresh(vec![0xa5; BYTES]).expect("the length is right").into_bytes()
+    let by_entries = answer.map_or_else(refused, Answer::accepted);
+    let same = by_entries == by_records && other.bytes() == t;
+    (!same).then(|| format!("`{call}`: as entries {by_entries}, as records {by_records}"))
 }
 
 /// A day on all three.
@@ -181,7 +148,7 @@ impl Day {
     /// Makes the call. The plain implementation is not asked to list, to fill or to preview: its bytes
     /// are then the table's before the call.
     fn fault(&mut self, call: &Call) -> Option<String> {
-        if !matches!(call, Call::List { .. } | Call::Fill { .. } | Call::Preview { .. }) {
+        if !only_reads(call) {
             self.plain.call(call);
         }
         let fault = self.fault_of_answer(call).or_else(|| self.fault_of_bytes());
@@ -189,8 +156,16 @@ impl Day {
     }
 
     fn fault_of_answer(&mut self, call: &Call) -> Option<String> {
-        let expected = as_given(call, &self.literal.call(call));
-        difference(&library(&mut self.table, call), &expected)
+        let expected = self.literal.call(call);
+        let given = library(&mut self.table, call);
+        let read = lines(&given.sheet, given.answer.value).map(|line| {
+            let silttongs::Line { kind, client, bib, v, number } = line;
+            Line { kind, client, bib, v, number }
+        });
+        if !read.eq(expected.lines.iter().copied()) {
+            return Some("the lines read from the sheet are others".to_string());
+        }
+        difference(&given, &as_given(call, expected))
     }
 
     fn fault_of_bytes(&self) -> Option<String> {
@@ -199,36 +174,12 @@ impl Day {
         Some(format!("byte {at} is {}, plain has {}", self.table[at], bytes[at]))
     }
 
-    /// Fills of every revision, and of numbers that were not given out.
-    fn fault_of_a_fill(&mut self) -> Option<String> {
-        let given = self.literal.revisions().len() as u8;
-        (0..=given).chain([64, 255]).find_map(|revision| self.fault(&Call::Fill { revision }))
-    }
-
-    /// Previews of every two revisions, and of the number after the last.
-    fn fault_of_a_preview(&mut self) -> Option<String> {
-        let given = self.literal.revisions().len() as u8;
-        let pairs = (0..=given).flat_map(|joiner| (0..=given).map(move |joinee| (joiner, joinee)));
-        let all = pairs.flat_map(|pair| [0, 1_000].map(|bib| (pair, bib)));
-        let mut previews = all.map(|((joiner, joinee), bib)| Call::Preview { joiner, joinee, bib });
-        previews
-            .find_map(|call| self.fault_of_answer(&call).map(|fault| format!("`{call}`: {fault}")))
-            .or_else(|| self.fault_of_bytes().map(|fault| format!("after previews: {fault}")))
-    }
-
-    /// Lists every revision, and the number after the last: with a byte more than it needs, with
-    /// just enough, and with a byte less.
-    fn fault_of_a_listing(&mut self) -> Option<String> {
-        let given = self.literal.revisions().len();
-        (0..=given)
-            .find_map(|number| {
-                let needed =
-                    if number < given { 12 * self.literal.visible(number).len() } else { 0 };
-                [needed + 1, needed, needed.saturating_sub(1)].into_iter().find_map(|room| {
-                    let call = Call::List { revision: number as u8, room };
-                    self.fault_of_answer(&call).map(|fault| format!("`{call}`: {fault}"))
-                })
-            })
-            .or_else(|| self.fault_of_bytes().map(|fault| format!("after listings: {fault}")))
+    /// Makes these calls, which only read. The bytes are compared after the last: that takes most of
+    /// the time.
+    fn fault_of_reads(&mut self, reads: &[Call]) -> Option<String> {
+        reads
+            .iter()
+            .find_map(|call| self.fault_of_answer(call).map(|fault| format!("`{call}`: {fault}")))
+            .or_else(|| self.fault_of_bytes().map(|fault| format!("after reads: {fault}")))
     }
 }

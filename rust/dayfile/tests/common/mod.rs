@@ -34,6 +34,11 @@ pub(crate) fn random_record(rng: &mut Rng) -> Record {
     Record::from_bytes(bytes)
 }
 
+/// Fewer than so many.
+pub(crate) fn random_records(rng: &mut Rng, most: usize) -> Vec<Record> {
+    (0..rng.below(most)).map(|_| random_record(rng)).collect()
+}
+
 /// The printed day, each step answered by the literal replay.
 pub(crate) fn printed_by_literal(bytes: &[u8]) -> String {
     let Ok(records) = read_file(bytes) else { return "bad file\n".to_string() };

@@ -3,7 +3,8 @@
 use calls::{Call, Code, Line};
 
 use super::{
-    answers, day, fill, fork, join, list, query, update, yields, EARLIEST, PENALTY, STRIKE, TIME,
+    answers, busy_revisions, day, fill, fork, list, query, refused_after, update, yields, Row,
+    EARLIEST, PENALTY, STRIKE, TIME,
 };
 
 /// A bundle of these kinds, bibs and arguments. Client and number of each record are of no account.
@@ -22,20 +23,17 @@ fn times(count: usize) -> Vec<(u8, u16, u32)> {
 
 #[test]
 fn the_updates_and_then_a_yield() {
-    day(
-        "a bundle",
-        &[
-            (update(1, 0, TIME, 9, 1), 0, 0),
-            (yields(1), 0, 0),
-            (bundle(0, 0, &[(TIME, 7, 61000), (PENALTY, 7, 5000), (STRIKE, 8, 0)]), 0, 1),
-            // Yielded: the box is idle, for forks and for other tablets.
-            (fork(0), 0, 1),
-            (query(1, 0, 7), 0, 66000),
-            (yields(1), 0, 0),
-            (bundle(1, 0, &[(EARLIEST, 7, 60000)]), 0, 4),
-            (query(2, 0, 7), 0, 60000),
-        ],
-    );
+    day(&[
+        (update(1, 0, TIME, 9, 1), 0, 0),
+        (yields(1), 0, 0),
+        (bundle(0, 0, &[(TIME, 7, 61000), (PENALTY, 7, 5000), (STRIKE, 8, 0)]), 0, 1),
+        // Yielded: the box is idle, for forks and for other tablets.
+        (fork(0), 0, 1),
+        (query(1, 0, 7), 0, 66000),
+        (yields(1), 0, 0),
+        (bundle(1, 0, &[(EARLIEST, 7, 60000)]), 0, 4),
+        (query(2, 0, 7), 0, 60000),
+    ]);
 }
 
 /// The client is the one that sends it, and the numbers are those of the day.
@@ -54,16 +52,15 @@ fn all_or_nothing() {
         for place in [0, 1, 40, 63] {
             let mut entries = times(64);
             entries[place] = bad;
-            let mut steps = vec![
+            day(&[
                 (fork(0), 0, 1),
                 (bundle(0, 0, &entries), 5, 0),
                 (fill(0), 0, 0),
                 (fork(0), 0, 2),
                 // Tablet 0 is not tied to box 0.
                 (query(0, 1, 7), 0, 0),
-            ];
-            steps.push((update(1, 0, TIME, 7, 1), 0, 0));
-            day("all or nothing", &steps);
+                (update(1, 0, TIME, 7, 1), 0, 0),
+            ]);
         }
     }
 }
@@ -71,19 +68,16 @@ fn all_or_nothing() {
 /// The client's transaction stays open, with what it had, if its bundle is refused.
 #[test]
 fn a_refused_bundle_leaves_a_transaction_open() {
-    day(
-        "refused, open",
-        &[
-            (update(0, 0, TIME, 7, 5), 0, 0),
-            (bundle(0, 0, &[(TIME, 7, 6), (9, 7, 6)]), 5, 0),
-            (fork(0), 7, 0),
-            (query(0, 0, 7), 0, 5),
-            (bundle(0, 0, &[]), 14, 0),
-            (fork(0), 7, 0),
-            (bundle(0, 0, &[(PENALTY, 7, 6)]), 0, 1),
-            (fork(0), 0, 1),
-        ],
-    );
+    day(&[
+        (update(0, 0, TIME, 7, 5), 0, 0),
+        (bundle(0, 0, &[(TIME, 7, 6), (9, 7, 6)]), 5, 0),
+        (fork(0), 7, 0),
+        (query(0, 0, 7), 0, 5),
+        (bundle(0, 0, &[]), 14, 0),
+        (fork(0), 7, 0),
+        (bundle(0, 0, &[(PENALTY, 7, 6)]), 0, 1),
+        (fork(0), 0, 1),
+    ]);
 }
 
 /// "A transaction already open on that box is continued and closed": it is one transaction.
@@ -95,16 +89,13 @@ fn an_open_transaction_is_continued_and_closed() {
     }
     let [transaction] = literal.transactions() else { panic!("one transaction") };
     assert_eq!(transaction.events.len(), 4);
-    assert!(transaction.yielded.is_some());
-    day(
-        "continued",
-        &[
-            (query(0, 0, 7), 0, 0),
-            (bundle(0, 0, &[(TIME, 7, 6)]), 0, 0),
-            (fork(0), 0, 1),
-            (query(0, 1, 7), 0, 6),
-        ],
-    );
+    assert!(!transaction.is_open());
+    day(&[
+        (query(0, 0, 7), 0, 0),
+        (bundle(0, 0, &[(TIME, 7, 6)]), 0, 0),
+        (fork(0), 0, 1),
+        (query(0, 1, 7), 0, 6),
+    ]);
 }
 
 /// 1 to 64 whole records; the wrong bundle is found before all else.
@@ -119,37 +110,25 @@ fn the_count_of_a_bundle() {
     };
     for (count, code) in [(0, 14), (1, 0), (2, 0), (63, 0), (64, 0), (65, 14), (66, 14), (128, 14)]
     {
-        day("count", &[(bundle(0, 0, &times(count)), code, 0)]);
+        day(&[(bundle(0, 0, &times(count)), code, 0)]);
     }
     for bytes in [1, 6, 11, 13, 23, 767, 769, 779] {
-        day("bytes", &[(cut(65, bytes), 14, 0), (fill(0), 0, 0)]);
+        day(&[(cut(65, bytes), 14, 0), (fill(0), 0, 0)]);
     }
-    day("count modulo 256", &[(bundle(0, 0, &times(256 + 64)), 14, 0)]);
+    day(&[(bundle(0, 0, &times(256 + 64)), 14, 0)]);
     let mut bad = times(65);
     bad[0] = (0, 1000, 0);
     for (client, revision) in [(0, 0), (16, 0), (0, 1), (255, 255)] {
-        day("14 first", &[(bundle(client, revision, &bad), 14, 0)]);
-        day("14 first", &[(bundle(client, revision, &[]), 14, 0)]);
+        day(&[(bundle(client, revision, &bad), 14, 0)]);
+        day(&[(bundle(client, revision, &[]), 14, 0)]);
     }
 }
 
 /// Each check of the first entry ends the call before the ones after it, and before the second's.
 #[test]
 fn codes_of_the_first_entry_in_ascending_order() {
-    let start = [
-        (fork(0), 0, 1),
-        (fork(0), 0, 2),
-        (fork(0), 0, 3),
-        (join(0, 3), 0, 0),
-        (update(1, 1, TIME, 1, 1), 0, 0),
-        (update(2, 2, TIME, 1, 1), 0, 1),
-        (query(4, 0, 1), 0, 0),
-        (yields(4), 0, 0),
-    ];
     let ask = |client, revision, entries: &[(u8, u16, u32)], code| {
-        let mut steps = start.to_vec();
-        steps.push((bundle(client, revision, entries), code, 0));
-        day("ascending", &steps);
+        refused_after(&busy_revisions(), bundle(client, revision, entries), code);
     };
     let (good, bad) = ((TIME, 7, 1), (TIME, 1000, 1));
     ask(16, 64, &[bad, bad], 2);
@@ -160,13 +139,12 @@ fn codes_of_the_first_entry_in_ascending_order() {
     ask(3, 1, &[good, bad], 7);
     ask(4, 2, &[good, bad], 7);
     ask(2, 2, &[good, bad], 5);
-    let mut stale = start.to_vec();
-    stale.extend([(yields(1), 0, 0), (bundle(4, 1, &[good, bad]), 8, 0)]);
-    day("stale", &stale);
+    let idle = [&busy_revisions()[..], &[(yields(1), 0, 0)]].concat();
+    refused_after(&idle, bundle(4, 1, &[good, bad]), 8);
 }
 
 /// A day with this many updates of tablet 0 on box 0.
-fn filled(count: u32) -> Vec<(Call, u8, u32)> {
+fn filled(count: u32) -> Vec<Row> {
     (0..count).map(|number| (update(0, 0, TIME, 7, 1), 0, number)).collect()
 }
 
@@ -176,11 +154,11 @@ fn filled(count: u32) -> Vec<(Call, u8, u32)> {
 fn the_log_runs_full_within_a_bundle() {
     let (good, bad) = ((TIME, 7, 2), (TIME, 1000, 2));
     let ask = |taken, entries: &[(u8, u16, u32)], code, value| {
-        let mut steps = filled(taken);
-        steps.push((bundle(0, 0, entries), code, value));
+        let mut rows = filled(taken);
+        rows.push((bundle(0, 0, entries), code, value));
         let left = if code == 0 { taken + entries.len() as u32 } else { taken };
-        steps.push((fill(0), 0, left));
-        day("full", &steps);
+        rows.push((fill(0), 0, left));
+        day(&rows);
     };
     ask(4_032, &[good; 64], 0, 4_032);
     ask(4_033, &[good; 64], 9, 0);
@@ -198,12 +176,14 @@ fn the_log_runs_full_within_a_bundle() {
 /// On a full log a stale client is told 8, and the one whose transaction is open 9.
 #[test]
 fn a_full_log_and_a_stale_client() {
-    let mut steps = vec![(fork(0), 0, 1), (query(1, 1, 7), 0, 0), (yields(1), 0, 0)];
-    steps.extend(filled(4_096));
-    steps.push((bundle(1, 0, &times(1)), 7, 0));
-    steps.push((bundle(0, 0, &times(1)), 9, 0));
-    steps.push((yields(0), 0, 0));
-    steps.push((bundle(1, 0, &times(1)), 8, 0));
-    steps.push((bundle(2, 1, &times(1)), 9, 0));
-    day("full log", &steps);
+    let mut rows = vec![(fork(0), 0, 1), (query(1, 1, 7), 0, 0), (yields(1), 0, 0)];
+    rows.extend(filled(4_096));
+    rows.extend([
+        (bundle(1, 0, &times(1)), 7, 0),
+        (bundle(0, 0, &times(1)), 9, 0),
+        (yields(0), 0, 0),
+        (bundle(1, 0, &times(1)), 8, 0),
+        (bundle(2, 1, &times(1)), 9, 0),
+    ]);
+    day(&rows);
 }

@@ -3,7 +3,8 @@
 use calls::{Answer, Call, Code, State};
 
 use super::{
-    answers, day, fork, join, list, query, update, yields, EARLIEST, PENALTY, STRIKE, TIME,
+    answers, day, fork, join, late_update, list, query, update, yields, EARLIEST, PENALTY, STRIKE,
+    TIME,
 };
 
 fn preview(joiner: u8, joinee: u8, bib: u16) -> Call {
@@ -11,6 +12,7 @@ fn preview(joiner: u8, joinee: u8, bib: u16) -> Call {
 }
 
 /// Makes the calls of one day and then a preview, which the join and a query by tablet 15 bear out.
+#[track_caller]
 fn shows(name: &str, calls: &[Call], pair: (u8, u8), bib: u16, right: (State, u32, u32)) {
     let (joiner, joinee) = pair;
     let look = [preview(joiner, joinee, bib), join(joiner, joinee), query(15, joiner, bib)];
@@ -25,15 +27,8 @@ fn shows(name: &str, calls: &[Call], pair: (u8, u8), bib: u16, right: (State, u3
 /// before it.
 #[test]
 fn the_joiners_updates_come_first() {
-    let calls = [
-        update(0, 0, TIME, 7, 61000),
-        yields(0),
-        fork(0),
-        update(1, 1, PENALTY, 7, 5000),
-        yields(1),
-        update(0, 0, TIME, 7, 60000),
-        yields(0),
-    ];
+    let first = [update(0, 0, TIME, 7, 61000), yields(0)];
+    let calls = [&first[..], &late_update((PENALTY, 5000), (TIME, 60000))].concat();
     shows("E1", &calls, (0, 1), 7, (State::Timed, 65000, 1));
     shows("another bib", &calls, (0, 1), 8, (State::Neither, 0, 1));
 }
@@ -71,26 +66,20 @@ fn the_gain_is_told_in_every_state() {
 /// 02, U2 and U3 at the seam: a strike on the joiner stands, a penalty finds its time there.
 #[test]
 fn strikes_and_penalties_across_the_join() {
-    let day = |first: (u8, u32), late: (u8, u32)| {
-        [
-            fork(0),
-            update(1, 1, late.0, 7, late.1),
-            yields(1),
-            update(0, 0, first.0, 7, first.1),
-            yields(0),
-        ]
-    };
-    let pair = (0, 1);
-    shows("strike, Earliest", &day((STRIKE, 0), (EARLIEST, 9)), pair, 7, (State::Struck, 0, 1));
-    shows("strike, Time", &day((STRIKE, 0), (TIME, 9)), pair, 7, (State::Timed, 9, 1));
-    shows("strike, Time 0", &day((STRIKE, 0), (TIME, 0)), pair, 7, (State::Neither, 0, 1));
-    shows("time, Penalty", &day((TIME, 8), (PENALTY, 9)), pair, 7, (State::Timed, 17, 1));
-    shows("wrap", &day((TIME, 1), (PENALTY, u32::MAX)), pair, 7, (State::Neither, 0, 1));
-    shows("nothing, Penalty", &day((TIME, 0), (PENALTY, 9)), pair, 7, (State::Neither, 0, 1));
+    let cases = [
+        ("strike, Earliest", (STRIKE, 0), (EARLIEST, 9), (State::Struck, 0, 1)),
+        ("strike, Time", (STRIKE, 0), (TIME, 9), (State::Timed, 9, 1)),
+        ("strike, Time 0", (STRIKE, 0), (TIME, 0), (State::Neither, 0, 1)),
+        ("time, Penalty", (TIME, 8), (PENALTY, 9), (State::Timed, 17, 1)),
+        ("wrap", (TIME, 1), (PENALTY, u32::MAX), (State::Neither, 0, 1)),
+        ("nothing, Penalty", (TIME, 0), (PENALTY, 9), (State::Neither, 0, 1)),
+    ];
+    for (name, since, late, right) in cases {
+        shows(name, &late_update(late, since), (0, 1), 7, right);
+    }
 }
 
-/// Joins inside the joinee are brought over, and box 0's later updates that the joiner never saw are
-/// not.
+/// Joins inside the joinee are brought over. What the joiner never saw of revision 0 is not.
 #[test]
 fn joins_within_the_joinee() {
     let calls = [
@@ -180,29 +169,26 @@ fn a_bad_bib_is_found_last() {
 /// goes on as without them.
 #[test]
 fn a_preview_is_no_event() {
-    day(
-        "previews",
-        &[
-            (update(0, 0, TIME, 7, 5), 0, 0),
-            (yields(0), 0, 0),
-            (fork(0), 0, 1),
-            (update(1, 1, PENALTY, 7, 2), 0, 1),
-            (preview(0, 1, 7), 7, 0),
-            (yields(1), 0, 0),
-            (preview(0, 1, 7), 0, 7),
-            (preview(0, 1, 7), 0, 7),
-            (preview(1, 0, 7), 11, 0),
-            (preview(0, 1, 1000), 5, 0),
-            (query(2, 0, 7), 0, 5),
-            (query(3, 1, 7), 0, 7),
-            (yields(2), 0, 0),
-            (yields(3), 0, 0),
-            (list(0, 12), 0, 1),
-            (fork(1), 0, 2),
-            (join(0, 1), 0, 1),
-            (preview(0, 1, 7), 4, 0),
-        ],
-    );
+    day(&[
+        (update(0, 0, TIME, 7, 5), 0, 0),
+        (yields(0), 0, 0),
+        (fork(0), 0, 1),
+        (update(1, 1, PENALTY, 7, 2), 0, 1),
+        (preview(0, 1, 7), 7, 0),
+        (yields(1), 0, 0),
+        (preview(0, 1, 7), 0, 7),
+        (preview(0, 1, 7), 0, 7),
+        (preview(1, 0, 7), 11, 0),
+        (preview(0, 1, 1000), 5, 0),
+        (query(2, 0, 7), 0, 5),
+        (query(3, 1, 7), 0, 7),
+        (yields(2), 0, 0),
+        (yields(3), 0, 0),
+        (list(0, 12), 0, 1),
+        (fork(1), 0, 2),
+        (join(0, 1), 0, 1),
+        (preview(0, 1, 7), 4, 0),
+    ]);
 }
 
 /// A full log on a box that is not the main one.

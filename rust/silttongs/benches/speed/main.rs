@@ -89,7 +89,7 @@ fn clock() -> u64 {
 /// The calls that 01's users make, on middling and on full tables, and whole days.
 fn single_calls() -> Vec<Case> {
     let middle = chain(2_048, 8);
-    let one_box = chain(4_096, 1);
+    let one_revision = chain(4_096, 1);
     let full = chain(4_096, 8);
     let query = |revision| [Call::Query { client: 0, revision, bib: 7 }];
     let list = |revision| [Call::List { revision, room: SHEET }];
@@ -102,11 +102,15 @@ fn single_calls() -> Vec<Case> {
         Case::of_calls("fill", &middle, &[Call::Fill { revision: 7 }]),
         Case::of_calls("update + yield, 2,048 updates, 8 boxes", &middle, &pair),
         Case::of_calls("bundle of 64, 2,048 updates, 8 boxes", &middle, &[bundle(0, 7, 7)]),
-        Case::of_calls("query, 4,096 visible updates, 1 box", &one_box, &query(0)),
+        Case::of_calls("query, 4,096 visible updates, 1 box", &one_revision, &query(0)),
         Case::of_calls("query, 4,096 visible updates, 8 boxes", &full, &query(7)),
-        Case::of_calls("list of 4,096 updates, 1 box", &one_box, &list(0)),
+        Case::of_calls("list of 4,096 updates, 1 box", &one_revision, &list(0)),
         Case::of_calls("list of 4,096 updates, 8 boxes", &full, &list(7)),
-        Case::of_calls("fork of box 0, 4,096 updates", &one_box, &[Call::Fork { revision: 0 }]),
+        Case::of_calls(
+            "fork of box 0, 4,096 updates",
+            &one_revision,
+            &[Call::Fork { revision: 0 }],
+        ),
         Case::of_calls(
             "fork of box 7, 4,096 updates, 8 boxes",
             &full,
@@ -124,12 +128,12 @@ fn single_calls() -> Vec<Case> {
     ]
 }
 
-/// The calls on the last box of chains of several sizes: the sizes, and the case of each.
+/// The calls on the last revision of chains of several sizes: the sizes, and the case of each.
 fn growth(sizes: &[usize], chain_of: impl Fn(usize) -> (usize, usize)) -> Vec<(usize, Case)> {
     let of_size = |&size: &usize| {
-        let (updates, boxes) = chain_of(size);
-        let day = chain(updates, boxes);
-        let last = boxes as u8 - 1;
+        let (updates, revisions) = chain_of(size);
+        let day = chain(updates, revisions);
+        let last = revisions as u8 - 1;
         let entry = Call::Update { client: 0, revision: last, kind: 1, bib: 7, v: 1 };
         let calls = [
             ("query", vec![Call::Query { client: 0, revision: last, bib: 7 }]),
@@ -155,33 +159,34 @@ fn main() {
     let clock = clock();
     let mut single = single_calls();
     let mut by_updates = growth(&[64, 1_024, 2_048, 3_072, 4_080], |updates| (updates, 8));
-    let mut by_boxes = growth(&[2, 8, 16, 32, 48, 63], |boxes| (2_048, boxes));
+    let mut by_revisions = growth(&[2, 8, 16, 32, 48, 63], |revisions| (2_048, revisions));
     for _ in 0..ROUNDS {
         single.iter_mut().for_each(Case::round);
-        by_updates.iter_mut().chain(&mut by_boxes).for_each(|(_, case)| case.round());
+        by_updates.iter_mut().chain(&mut by_revisions).for_each(|(_, case)| case.round());
     }
 
-    let grown = by_updates.iter_mut().chain(&mut by_boxes).map(|(_, case)| case);
+    let grown = by_updates.iter_mut().chain(&mut by_revisions).map(|(_, case)| case);
     for case in single.iter_mut().chain(grown) {
         case.times.plain -= clock;
         case.times.library -= clock;
     }
 
     println!("{:<44} {:>10} {:>10} {:>7}", "nanoseconds", "plain", "library", "ratio");
-    for case in &single {
-        print_case(&case.name, case);
-    }
-    for (title, cases) in [("updates, 8 boxes", &by_updates), ("boxes, 2,048 updates", &by_boxes)] {
-        for (size, case) in cases {
-            print_case(&format!("{}, {size} {title}", case.name), case);
-        }
-    }
+    single.iter().for_each(|case| print_case(&case.name, case));
+    print_growth("updates, 8 boxes", &by_updates);
+    print_growth("boxes, 2,048 updates", &by_revisions);
     if let Some(file) = plot {
         let points = |cases: &[(usize, Case)]| {
             cases.iter().map(|(size, case)| (case.name.clone(), *size, case.times)).collect()
         };
-        let text = plot::svg(points(&by_updates), points(&by_boxes));
+        let text = plot::svg(points(&by_updates), points(&by_revisions));
         std::fs::write(file, text).unwrap_or_else(|error| panic!("{file}: {error}"));
+    }
+}
+
+fn print_growth(title: &str, cases: &[(usize, Case)]) {
+    for (size, case) in cases {
+        print_case(&format!("{}, {size} {title}", case.name), case);
     }
 }
 

@@ -24,7 +24,7 @@ const HEIGHT: f64 = 280.0;
 const TOP: f64 = 40.0;
 
 /// Two panels side by side.
-pub(crate) fn svg(by_updates: Vec<Point>, by_boxes: Vec<Point>) -> String {
+pub(crate) fn svg(by_updates: Vec<Point>, by_revisions: Vec<Point>) -> String {
     let mut text = String::from(
         "<svg xmlns=\"http://www.w3.org/2000/svg\" viewBox=\"0 0 880 420\" \
          font-family=\"sans-serif\" font-size=\"13\" fill=\"#222\">\n\
@@ -32,7 +32,7 @@ pub(crate) fn svg(by_updates: Vec<Point>, by_boxes: Vec<Point>) -> String {
          <rect width=\"880\" height=\"420\" fill=\"#fff\"/>\n",
     );
     panel(&mut text, 80.0, "updates, 8 boxes", &by_updates);
-    panel(&mut text, 510.0, "boxes, 2,048 updates", &by_boxes);
+    panel(&mut text, 510.0, "boxes, 2,048 updates", &by_revisions);
     let mut x = 80.0;
     for (name, colour) in COLOURS {
         put(&mut text, format!("<path d=\"M{x} 392h26\" stroke=\"{colour}\" stroke-width=\"2\"/>"));

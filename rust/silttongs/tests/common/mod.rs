@@ -1,21 +1,22 @@
 //! The library's calls as values, and what they are compared with.
 
-use calls::{Answer, Call, State};
-use silttongs::{Standing, Table};
+mod fresh;
+
+use calls::{Answer, Call, Code, State};
+use silttongs::{Refusal, Standing, Table};
 
 /// What a call left, but for the table.
 #[derive(Clone, Debug, PartialEq, Eq)]
 pub(crate) struct Given {
-    pub(crate) code: u8,
-    /// What a query or a preview finds; neither for other calls.
-    pub(crate) state: State,
-    pub(crate) value: u32,
-    /// The second number of a fill; 0 for other calls.
-    pub(crate) total: u32,
-    /// Of a preview; 0 for other calls.
-    pub(crate) gain: u32,
+    /// Without lines: those of a list are on its sheet.
+    pub(crate) answer: Answer,
     /// Of a list, every byte of its sheet; empty for other calls.
     pub(crate) sheet: Vec<u8>,
+}
+
+/// The bytes of a fresh table.
+pub(crate) fn fresh() -> Vec<u8> {
+    fresh::fresh().into_bytes()
 }
 
 /// The sheet of a list before the call: as long as the call says, up to more than any listing
@@ -33,46 +34,49 @@ pub(crate) fn sheet(call: &Call) -> Vec<u8> {
 pub(crate) fn library(bytes: &mut [u8], call: &Call) -> Given {
     let mut table = Table::from_bytes(bytes);
     let mut sheet = sheet(call);
-    let mut state = State::Neither;
-    let mut total = 0;
-    let mut gain = 0;
     let answer = match *call {
         Call::Update { client, revision, kind, bib, v } => {
-            table.update(client, revision, kind, bib, v)
+            table.update(client, revision, kind, bib, v).map(Answer::accepted)
         }
-        Call::Query { client, revision, bib } => {
-            table.query(client, revision, bib).map(|standing| {
-                state = state_of(standing);
-                standing.value()
-            })
+        Call::Query { client, revision, bib } => table.query(client, revision, bib).map(found),
+        Call::Yield { client } => table.yield_(client).map(|()| Answer::accepted(0)),
+        Call::Fork { revision } => {
+            table.fork(revision).map(|number| Answer::accepted(u32::from(number)))
         }
-        Call::Yield { client } => table.yield_(client).map(|()| 0),
-        Call::Fork { revision } => table.fork(revision).map(u32::from),
-        Call::Join { joiner, joinee } => table.join(joiner, joinee),
-        Call::List { revision, .. } => table.list(revision, &mut sheet),
-        Call::Fill { revision } => table.fill(revision).map(|fill| {
-            total = u32::from(fill.total);
-            u32::from(fill.own)
-        }),
-        Call::Bundle { client, revision, ref records } => table.bundle(client, revision, records),
-        Call::Preview { joiner, joinee, bib } => {
-            table.preview(joiner, joinee, bib).map(|preview| {
-                state = state_of(preview.standing);
-                gain = preview.gain;
-                preview.standing.value()
-            })
+        Call::Join { joiner, joinee } => table.join(joiner, joinee).map(Answer::accepted),
+        Call::List { revision, .. } => table.list(revision, &mut sheet).map(Answer::accepted),
+        Call::Fill { revision } => table
+            .fill(revision)
+            .map(|fill| Answer::filled(u32::from(fill.own), u32::from(fill.total))),
+        Call::Bundle { client, revision, ref records } => {
+            table.bundle(client, revision, records).map(Answer::accepted)
         }
+        Call::Preview { joiner, joinee, bib } => table
+            .preview(joiner, joinee, bib)
+            .map(|preview| Answer { gain: preview.gain, ..found(preview.standing) }),
     };
-    let (code, value) = answer.map_or_else(|refusal| (refusal.code(), 0), |value| (0, value));
-    Given { code, state, value, total, gain, sheet }
+    Given { answer: answer.unwrap_or_else(refused), sheet }
 }
 
-fn state_of(standing: Standing) -> State {
-    match standing {
+/// What the library answers, without the sheet.
+pub(crate) fn answered(t: &mut impl AsMut<[u8]>, call: &Call) -> Answer {
+    library(t.as_mut(), call).answer
+}
+
+fn found(standing: Standing) -> Answer {
+    let state = match standing {
         Standing::Neither => State::Neither,
         Standing::Timed(_) => State::Timed,
         Standing::Struck => State::Struck,
-    }
+    };
+    Answer::found(state, standing.value())
+}
+
+/// The answer of a refused call. The wrapper has numbers and names of its own: they are those of 01.
+pub(crate) fn refused(refusal: Refusal) -> Answer {
+    let code = Code::of(refusal.code()).expect("a code of the desk");
+    assert_eq!(refusal.name(), code.name());
+    Answer::refused(code)
 }
 
 /// What the plain implementation gives.
@@ -85,27 +89,28 @@ pub(crate) fn plainly(bytes: &mut [u8], call: &Call) -> Given {
         }
         _ => plain::call(bytes, call),
     };
-    let Answer { code, state, value, total, gain, .. } = answer.unwrap_or_else(Answer::refused);
-    Given { code: code.number(), state, value, total, gain, sheet }
+    Given { answer: answer.unwrap_or_else(Answer::refused), sheet }
 }
 
 /// What the literal replay's answer comes to: its lines, and behind them the sheet as it was.
 #[allow(dead_code, reason = "for the random days alone")]
-pub(crate) fn as_given(call: &Call, answer: &Answer) -> Given {
+pub(crate) fn as_given(call: &Call, answer: Answer) -> Given {
     let mut sheet = sheet(call);
     for (place, line) in sheet.chunks_exact_mut(12).zip(&answer.lines) {
         place.copy_from_slice(&line.to_bytes());
     }
-    let Answer { code, state, value, total, gain, .. } = *answer;
-    Given { code: code.number(), state, value, total, gain, sheet }
+    Given { answer: Answer { lines: Vec::new(), ..answer }, sheet }
+}
+
+/// Whether a call has to leave the table as it is, accepted too.
+pub(crate) fn only_reads(call: &Call) -> bool {
+    matches!(call, Call::List { .. } | Call::Fill { .. } | Call::Preview { .. })
 }
 
 /// What is other than expected, in words.
 pub(crate) fn difference(given: &Given, expected: &Given) -> Option<String> {
-    let answer = |given: &Given| (given.code, given.state, given.value, given.total, given.gain);
-    let (found, right) = (answer(given), answer(expected));
-    if found != right {
-        return Some(format!("code, state, value, total and gain {found:?}, not {right:?}"));
+    if given.answer != expected.answer {
+        return Some(format!("gives {}, not {}", given.answer, expected.answer));
     }
     let at = first_difference(&given.sheet, &expected.sheet)?;
     Some(format!("byte {at} of the sheet is {}, not {}", given.sheet[at], expected.sheet[at]))

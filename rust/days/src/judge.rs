@@ -1,0 +1,117 @@
+//! Whether a check passes on days: a failed one tells the seed, what is wrong, and a short day that
+//! shows it.
+
+use calls::Call;
+
+use crate::sample::Sample;
+
+/// Judges every day, of which there must be one at least.
+///
+/// # Panics
+///
+/// If the check answers with a complaint. The message has it, and the shortest day found that the
+/// check still finds fault with.
+#[track_caller]
+pub fn must_pass(
+    days: impl IntoIterator<Item = Sample>,
+    check: impl Fn(&[Call]) -> Option<String>,
+) {
+    let mut judged = 0;
+    for day in days {
+        if let Some(complaint) = check(&day.calls) {
+            let length = day.calls.len();
+            panic!("{day}, {length} calls: {complaint}\n{}", shortest(&day.calls, &check));
+        }
+        judged += 1;
+    }
+    assert_ne!(judged, 0, "no day was judged");
+}
+
+/// Judges days on which something was made wrong.
+///
+/// # Panics
+///
+/// If the check finds no fault with five of them at least.
+#[track_caller]
+pub fn must_find(
+    wrong: &str,
+    days: impl IntoIterator<Item = Sample>,
+    check: impl Fn(&[Call]) -> Option<String>,
+) {
+    let complaints: Vec<_> = days.into_iter().map(|day| check(&day.calls)).collect();
+    let found = complaints.iter().flatten().count();
+    assert!(found >= 5, "{wrong}: found on {found} days of {}", complaints.len());
+}
+
+/// The shortest day found that a check finds fault with, and what it says of that.
+fn shortest(calls: &[Call], check: impl Fn(&[Call]) -> Option<String>) -> String {
+    let day = shrunk(calls, |day| check(day).is_some());
+    let complaint = check(&day).unwrap_or_default();
+    let steps: String = day.iter().map(|call| format!("    {call}\n")).collect();
+    format!("shortest day found: {complaint}\n{steps}")
+}
+
+/// How many calls are replayed at most in search of a shorter day.
+const EFFORT: usize = 1_000_000;
+
+/// Leaves out calls, many at once and then one by one, as long as the day still fails.
+fn shrunk(calls: &[Call], fails: impl Fn(&[Call]) -> bool) -> Vec<Call> {
+    let mut day = calls.to_vec();
+    let mut width = day.len().div_ceil(2);
+    let mut replayed = 0;
+    while width > 0 {
+        let mut start = 0;
+        while start < day.len() && replayed < EFFORT {
+            let mut shorter = day.clone();
+            shorter.drain(start..(start + width).min(day.len()));
+            replayed += shorter.len();
+            if fails(&shorter) {
+                day = shorter;
+            } else {
+                start += width;
+            }
+        }
+        width /= 2;
+    }
+    day
+}
+
+#[cfg(test)]
+mod tests {
+    use super::*;
+
+    #[test]
+    fn a_day_shrinks_to_what_fails() {
+        let calls: Vec<Call> = (0..100).map(|client| Call::Yield { client }).collect();
+        let kept = [17, 60, 99].map(|client| Call::Yield { client });
+        let fails = |day: &[Call]| kept.iter().all(|call| day.contains(call));
+        assert_eq!(shrunk(&calls, fails), kept);
+    }
+
+    fn day() -> Sample {
+        Sample { kind: "kind", seed: 5, calls: vec![Call::Yield { client: 0 }] }
+    }
+
+    #[test]
+    #[should_panic(expected = "day `kind`, seed 5, 1 calls: wrong")]
+    fn a_complaint_is_printed_with_its_seed() {
+        must_pass([day()], |_| Some("wrong".to_string()));
+    }
+
+    #[test]
+    #[should_panic(expected = "no day was judged")]
+    fn no_day_is_no_pass() {
+        must_pass([], |_| None);
+    }
+
+    #[test]
+    #[should_panic(expected = "name: found on 4 days of 5")]
+    fn what_is_wrong_must_be_found_often() {
+        let days = (0..5).map(|seed| Sample {
+            seed,
+            calls: vec![day().calls[0].clone(); seed as usize],
+            ..day()
+        });
+        must_find("name", days, |calls| (!calls.is_empty()).then(String::new));
+    }
+}

@@ -1,0 +1,35 @@
+//! The calls that only read, of every revision of a day: what small days are asked after each step.
+
+use calls::Call;
+use literal::Day;
+
+/// A fill of every revision, and of numbers that were not given out.
+pub fn every_fill(day: &Day) -> Vec<Call> {
+    numbers(day).chain([64, 255]).map(|revision| Call::Fill { revision }).collect()
+}
+
+/// A listing of every revision, and of the number after the last: with so many bytes more than it
+/// needs, with just enough, and with a byte less.
+pub fn every_list(day: &Day, more: usize) -> Vec<Call> {
+    let lists = |revision: u8| {
+        let number = usize::from(revision);
+        let visible = if number < day.revisions().len() { day.visible(number).len() } else { 0 };
+        let needed = 12 * visible;
+        let rooms = [needed.saturating_add(more), needed, needed.saturating_sub(1)];
+        rooms.map(|room| Call::List { revision, room })
+    };
+    numbers(day).flat_map(lists).collect()
+}
+
+/// A preview of every two revisions, and of the number after the last, of these bibs.
+pub fn every_preview(day: &Day, bibs: &[u16]) -> Vec<Call> {
+    let pairs = numbers(day).flat_map(|joiner| numbers(day).map(move |joinee| (joiner, joinee)));
+    let previews =
+        |(joiner, joinee)| bibs.iter().map(move |&bib| Call::Preview { joiner, joinee, bib });
+    pairs.flat_map(previews).collect()
+}
+
+/// Every revision's number, and the one after the last.
+fn numbers(day: &Day) -> impl Iterator<Item = u8> {
+    0..=day.revisions().len() as u8
+}

@@ -1,0 +1,50 @@
+//! Days to be judged, and which of them a test runs through.
+
+use std::fmt;
+use std::ops::Range;
+
+use calls::Call;
+
+use crate::generator::random_day;
+use crate::profile::Profile;
+
+/// A day, and what tells it from the others.
+#[derive(Clone, Debug, PartialEq, Eq)]
+pub struct Sample {
+    /// The name of its kind.
+    pub kind: &'static str,
+    /// Its seed; without one, its place among the days of its kind.
+    pub seed: u64,
+    /// Its calls.
+    pub calls: Vec<Call>,
+}
+
+impl fmt::Display for Sample {
+    fn fmt(&self, f: &mut fmt::Formatter<'_>) -> fmt::Result {
+        write!(f, "day `{}`, seed {}", self.kind, self.seed)
+    }
+}
+
+/// So many seeds from 0 on, times the number in the environment variable `DAYS_FACTOR`, if there is
+/// one: for longer runs by hand.
+///
+/// # Panics
+///
+/// If the variable is not a number.
+pub fn seeds(count: u64) -> Range<u64> {
+    let factor = std::env::var("DAYS_FACTOR")
+        .map_or(1, |factor| factor.parse().expect("DAYS_FACTOR is a number"));
+    0..count * factor
+}
+
+impl Profile {
+    /// The random days of this kind with these seeds.
+    pub fn days(self, seeds: Range<u64>) -> impl Iterator<Item = Sample> {
+        seeds.map(move |seed| Sample { kind: self.name, seed, calls: random_day(&self, seed) })
+    }
+}
+
+/// The random days of several kinds, with so many [`seeds`] of each.
+pub fn days_of(kinds: &[(Profile, u64)]) -> impl Iterator<Item = Sample> + '_ {
+    kinds.iter().flat_map(|&(profile, count)| profile.days(seeds(count)))
+}
