@@ -7,4 +7,5 @@ pub mod Counted
 pub mod History
 pub mod Theorem
 pub mod Constructed
+pub mod Rules
 pub mod Witness

@@ -3,10 +3,12 @@
 pub mod Sizes
 pub mod Diagram
 pub mod Effects
+pub mod RootPaths
 pub mod Construction
 pub mod Day
 pub mod Checks
 pub mod Steps
+pub mod Rules
 pub mod Counts
 pub mod Arbitration
 pub mod Witness
