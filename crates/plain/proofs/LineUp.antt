@@ -12,16 +12,18 @@ use Rattle.bundles.specs.Records.{entriesIn, entryAt}
 use Rattle.diagram.proofs.Days.Accepting.{meant-low}
 use Rattle.diagram.proofs.Days.Moves.{step-moves}
 use Rattle.diagram.proofs.Graph.Visible.{visible}
-use Rattle.diagram.proofs.Order.Growth.{Fine, extends, fine-fresh}
+use Rattle.diagram.proofs.Graph.Tables.{tabulate-newest}
+use Rattle.diagram.proofs.Order.Growth.{Fine, extends, fine-fresh, tabulate-stays}
 use Rattle.diagram.proofs.Order.Inherited.{entry-is}
-use Rattle.diagram.proofs.Order.Runs.{accepted-first, along, fine-run, fine-step, run-step}
+use Rattle.diagram.proofs.Order.Rules.{by-rules}
+use Rattle.diagram.proofs.Order.Runs.{accepted-first, along, fine-run, fine-step, older-from, run-step}
 use Rattle.diagram.proofs.Order.Theorem.{arbitration}
 use Rattle.diagram.proofs.Order.Witness.{witness}
 use Rattle.diagram.specs.Arbitration.{Arbitration, Extends, WholeAt}
 use Rattle.diagram.specs.Checks.{busy}
 use Rattle.diagram.specs.Construction.{entered}
 use Rattle.diagram.specs.Day.{Day, IsOut, meant}
-use Rattle.diagram.specs.Effects.{entry, number, view}
+use Rattle.diagram.specs.Effects.{entry, number, numberStep, view}
 use Rattle.diagram.specs.Steps as Steps
 use Rattle.diagram.specs.Steps.{Accepted, AcceptedFrom, Event, Step, after, run, runFrom}
 use Rattle.lists.proofs.Blocks.{flat-from}
@@ -35,7 +37,7 @@ use Rattle.plain.specs.Taken.{bundleSteps, ifTaken, onRevision, stepOf, 
 use Rattle.plain.specs.Answers.{called, dayAfter, dayFrom, shown, stepped}
 use Rattle.plain.specs.Calls.{Bundle, Call, Entry, Fill, Fork, Join, Query, Show, Update, Yield, Preview}
 use Rattle.plain.specs.Bundles.{AllTaken, Bundled, parts}
-use Rattle.plain.specs.LineUp.{Answers, GrowsEach, LineUp, Lists, Taken, endOf}
+use Rattle.plain.specs.LineUp.{AnsweredBy, GrowsEach, LineUp, ListedBy, Taken, endOf}
 use Rattle.plain.specs.Record.{PlainDay, freshDay, linesOf, noted, ofBib, pathResult, standingOf}
 use Rattle.updates.specs.Applied.{applied, freshStanding}
 use Rattle.updates.specs.Effect.{stateOf, valueIn}
@@ -147,7 +149,7 @@ module _ (cs : List Call) where
     entries-stay : (n : ℕ) → n < p .day .updates → p .entries n ≡ dayAfter cs .entries n
     entries-stay n h = sym (ap (λ z. z .entries n) day-is ∙ ran (c ∷ rest) p .kept n h)
 
-  queries : (before rest : List Call) (c n bib : ℕ) → Taken cs before (Query c n bib) rest → Answers cs (A .order) (length (endOf before .diagram)) bib (called (dayAfter before) (Query c n bib) .answer)
+  queries : (before rest : List Call) (c n bib : ℕ) → Taken cs before (Query c n bib) rest → AnsweredBy cs (A .order) (length (endOf before .diagram)) bib (called (dayAfter before) (Query c n bib) .answer)
   unfolding after
   queries before rest c n bib T = record { updates = shown; shown = rw (e, same before) (A .queries (stepsAfter before) more c r place); state = ap (λ o. o .answer .state) (h .is) ∙ ap stateOf stands; value = ap (λ o. o .answer .value) (h .is) ∙ ap valueIn stands }
     where
@@ -184,7 +186,7 @@ module _ (cs : List Call) where
       stands : pathResult (stepped q (Event c r false)) (length (q .day .diagram)) bib ≡ standingOf (dayAfter cs .entries) bib shown
       stands = ap (λ y. standingOf (q .entries) bib (view (after y (Event c r false) .diagram) (length (y .diagram)))) (same before) ∙ ap (λ us. applied us freshStanding) (ofBib-same (q .entries) (dayAfter cs .entries) bib shown kept)
 
-  listed : (before rest : List Call) (n room r : ℕ) → Taken cs before (Show n room) rest → meant (endOf before) n ≡ some r → Lists cs (A .order) (endOf before .terminal r) (called (dayAfter before) (Show n room) .answer)
+  listed : (before rest : List Call) (n room r : ℕ) → Taken cs before (Show n room) rest → meant (endOf before) n ≡ some r → ListedBy cs (A .order) (endOf before .terminal r) (called (dayAfter before) (Show n room) .answer)
   listed before rest n room r T m = record {
     updates = updates;
     shown = rw (e, same before) (A .ever (stepsAfter before) _ (after-steps before (Show n room) rest T) (y1 .terminal r) low);
@@ -218,6 +220,29 @@ module _ (cs : List Call) where
       let out : IsOut (endOf before) r = (meant-low (endOf before) n r m, rw z at (h .out)) in
       let idle : busy (endOf before) r ≡ false = rw z at (h .idle) in
       rw (same before) (A .lists (stepsAfter before) _ (after-steps before (Show n room) rest T) r (rw (same before) at out) (rw (same before) at idle))
+
+  number-at : (before rest : List Call) (c r k bib v : ℕ) → Taken cs before (Update c r k bib v) rest
+      → number (endOf cs .diagram) (length (endOf before .diagram)) ≡ some (called (dayAfter before) (Update c r k bib v) .answer .value)
+  unfolding dayFrom after
+  number-at before rest c r k bib v T =
+      ap (λ z. number (z .day .diagram) x) (day-is before (Update c r k bib v) rest T)
+      ∙ ap (λ o. number (dayFrom (o .next) rest .day .diagram) x) (h .is)
+      ∙ ap (λ y. number (y .diagram) x) (ran rest next .same)
+      ∙ tabulate-stays numberStep none (older-from (stepsFrom next rest) (next .day) (ran rest next .accepts)) x (omega arith)
+      ∙ tabulate-newest numberStep none _ (q .day .diagram)
+      ∙ ap some (sym (ap (λ o. o .answer .value) (h .is)))
+    where
+      q : PlainDay
+      q = dayAfter before
+
+      x : ℕ
+      x = length (q .day .diagram)
+
+      h : UpdateTaken q c r k bib v (called q (Update c r k bib v))
+      h = was-taken (update-ends q c r k bib v) (T .code)
+
+      next : PlainDay
+      next = noted q c (h .step .revision) (h .kind) bib v
 
   noted-is : (before rest : List Call) (c r k bib v : ℕ) (kind : Kind) → Taken cs before (Update c r k bib v) rest → kindCheck k ≡ Known kind
       → dayAfter cs .entries (called (dayAfter before) (Update c r k bib v) .answer .value) ≡ record { kind = kind; client = c; bib = bib; v = v }
@@ -256,11 +281,19 @@ module _ (cs : List Call) where
         value = ap (λ o. o .answer .value) (h .is) ∙ update-number q c n (e .kind) (e .bib) (e .v) first;
       }
 
+  unbundled : (before rest : List Call) (c n : ℕ) (records : List ℕ) → Taken cs before (Bundle c n records) rest → dayAfter cs ≡ dayAfter (before ++ (parts c n (entriesIn records) ++ rest))
+  unfolding dayFrom dayAfter
+  unbundled before rest c n records T =
+      day-is before (Bundle c n records) rest T
+      ∙ ap (λ p. dayFrom p rest) (bundles before rest c n records T .day)
+      ∙ sym (day-both before (parts c n (entriesIn records) ++ rest) freshDay ∙ day-both (parts c n (entriesIn records)) rest (dayAfter before))
+
   pub lined-up : LineUp cs
   lined-up = record {
     steps = same cs;
     accepted = accepts cs;
     witness = witness (stepsAfter cs) (accepts cs);
+    rules = by-rules (stepsAfter cs) (accepts cs);
     order = A .order;
     once = A .once;
     complete = λ t. rw e (A .complete t);
@@ -268,7 +301,10 @@ module _ (cs : List Call) where
     one-each = rw e (A .one-each);
     updates-once = rw e (A .updates-once);
     updates-all = λ n. rw e (A .updates-all n);
+    numbered = rw e (A .numbered);
+    number-at = number-at;
     noted = noted-is;
+    unbundled = unbundled;
     bundles = bundles;
     after-seen = rw e (A .after-seen);
     queries = queries;

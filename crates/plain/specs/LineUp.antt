@@ -11,17 +11,19 @@ use Rattle.lists.specs.Lists.{_∈_, _⊑_, flat}
 use Rattle.updates.specs.declared.kind.Kind.{Kind}
 use Rattle.updates.specs.declared.kind.KindCheck.the-variants.{Known}
 use Rattle.updates.specs.Kinds.{kindCheck}
+use Rattle.bundles.specs.Records.{entriesIn}
 use Rattle.updates.specs.Effect.{stateOf, valueIn}
-use Rattle.diagram.specs.Effects.{view, numbers}
+use Rattle.diagram.specs.Effects.{view, number, numbers}
 use Rattle.diagram.specs.Day.{Day, IsOut, meant}
 use Rattle.diagram.specs.Steps.{Accepted, run}
+use Rattle.diagram.specs.Rules.{ByRules}
 use Rattle.diagram.specs.Witness.{Witness}
-use Rattle.diagram.specs.Arbitration.{IsEvent, eventsOf, Sees, SeesTransaction, Shows, WholeAt, Extends}
+use Rattle.diagram.specs.Arbitration.{IsEvent, eventsOf, Numbered, Sees, SeesTransaction, Shows, WholeAt, Extends}
 use Rattle.plain.specs.Calls.{Call, Update, Query, Show, Bundle, Answer, Preview}
 use Rattle.plain.specs.Record.{PlainDay, freshDay, standingOf, linesOf}
 use Rattle.plain.specs.Answers.{called, dayAfter}
 use Rattle.plain.specs.Taken.{stepsAfter}
-use Rattle.plain.specs.Bundles.{Bundled}
+use Rattle.plain.specs.Bundles.{Bundled, parts}
 use Rattle.plain.specs.Previews.{Foresees}
 
 -- the day of revisions after a list of calls
@@ -34,14 +36,14 @@ pub record Taken (cs before : List Call) (c : Call) (rest : List Call) : Type 0 
   pub code : called (dayAfter before) c .answer .code ≡ 0
 
 -- what is shown at vertex x, in the order of a line-up, with the state and value of one bib
-pub record Answers (cs : List Call) (order : List ℕ) (x bib : ℕ) (answer : Answer) : Type 0 where
+pub record AnsweredBy (cs : List Call) (order : List ℕ) (x bib : ℕ) (answer : Answer) : Type 0 where
   pub updates : List ℕ
   pub shown : Shows (endOf cs) order x updates
   pub state : answer .state ≡ stateOf (standingOf (dayAfter cs .entries) bib updates)
   pub value : answer .value ≡ valueIn (standingOf (dayAfter cs .entries) bib updates)
 
 -- what a taken list wrote: the updates seen at vertex x, in the order of a line-up, each as it was entered
-pub record Lists (cs : List Call) (order : List ℕ) (x : ℕ) (answer : Answer) : Type 0 where
+pub record ListedBy (cs : List Call) (order : List ℕ) (x : ℕ) (answer : Answer) : Type 0 where
   pub updates : List ℕ
   pub shown : Shows (endOf cs) order x updates
   pub count : answer .value ≡ length updates
@@ -57,6 +59,8 @@ pub record LineUp (cs : List Call) : Type 0 where
   pub steps : endOf cs ≡ run (stepsAfter cs)
   pub accepted : Accepted (stepsAfter cs)
   pub witness : Witness (stepsAfter cs)
+  -- demand 2: they go by the rules of 002 and 01, and what a vertex lists are the effects along its root-path
+  pub rules : ByRules (stepsAfter cs)
   -- "A line-up has every transaction once, open ones and those of queries alone too."
   pub order : List ℕ
   pub once : List·Nodup order
@@ -66,21 +70,27 @@ pub record LineUp (cs : List Call) : Type 0 where
   -- every update once, as it was entered
   pub updates-once : List·Nodup (numbers (endOf cs .diagram) (flat (eventsOf (endOf cs)) order))
   pub updates-all : (n : ℕ) → (n ∈ numbers (endOf cs .diagram) (flat (eventsOf (endOf cs)) order)) ↔ (n < endOf cs .updates)
+  pub numbered : Numbered (endOf cs .diagram) (endOf cs .updates)
+  -- the vertex of an update has its number, which is the call's value, and under that number the update is kept as it was entered
+  pub number-at : (before rest : List Call) (c r k bib v : ℕ) → Taken cs before (Update c r k bib v) rest
+      → number (endOf cs .diagram) (length (endOf before .diagram)) ≡ some (called (dayAfter before) (Update c r k bib v) .answer .value)
   pub noted : (before rest : List Call) (c r k bib v : ℕ) (kind : Kind) → Taken cs before (Update c r k bib v) rest → kindCheck k ≡ Known kind
       → dayAfter cs .entries (called (dayAfter before) (Update c r k bib v) .answer .value) ≡ record { kind = kind; client = c; bib = bib; v = v }
-  -- 02, U4: a bundle is its updates and a yield
+  -- 02, U4: a bundle is its updates and a yield, and the day is the one of the calls with these in the bundle's place
+  pub unbundled : (before rest : List Call) (c n : ℕ) (records : List ℕ) → Taken cs before (Bundle c n records) rest
+      → dayAfter cs ≡ dayAfter (before ++ (parts c n (entriesIn records) ++ rest))
   pub bundles : (before rest : List Call) (c n : ℕ) (records : List ℕ) → Taken cs before (Bundle c n records) rest → Bundled before c n records
   -- 00: "each stands after all others that it sees"
   pub after-seen : (s t : ℕ) → s < endOf cs .transactions → t < endOf cs .transactions → (s ≡ t → ⊥) → SeesTransaction (endOf cs) t s → (s ∷ t ∷ []) ⊑ order
   -- "A taken query answers as its bib stands after the updates it sees, and no others, are applied to the fresh values, each
   -- once, in line-up order, and as entered within a transaction." Its vertex is the next one of the day before it.
   pub queries : (before rest : List Call) (c n bib : ℕ) → Taken cs before (Query c n bib) rest
-      → Answers cs order (length (endOf before .diagram)) bib (called (dayAfter before) (Query c n bib) .answer)
+      → AnsweredBy cs order (length (endOf before .diagram)) bib (called (dayAfter before) (Query c n bib) .answer)
   -- "The visible updates of a box are those its line end sees, in the listing's order, busy or not."
   pub visible : (r : ℕ) → IsOut (endOf cs) r → Shows (endOf cs) order (endOf cs .terminal r) (view (endOf cs .diagram) (endOf cs .terminal r))
   pub in-order : (r : ℕ) → IsOut (endOf cs) r → view (endOf cs .diagram) (endOf cs .terminal r) ⊑ numbers (endOf cs .diagram) (flat (eventsOf (endOf cs)) order)
   pub listed : (before rest : List Call) (n room r : ℕ) → Taken cs before (Show n room) rest → meant (endOf before) n ≡ some r
-      → Lists cs order (endOf before .terminal r) (called (dayAfter before) (Show n room) .answer)
+      → ListedBy cs order (endOf before .terminal r) (called (dayAfter before) (Show n room) .answer)
   -- "For a box that stays out, the list before a call begins the list after it."
   pub grows : GrowsEach freshDay cs
   -- "A vertex outside a transaction sees all its events or none, and any only if its yield came before the vertex."

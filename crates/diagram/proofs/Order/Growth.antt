@@ -20,7 +20,7 @@ use Rattle.diagram.proofs.Graph.Tables.{tabulate-newest, tabulate-older
 use Rattle.diagram.specs.Arbitration.{Extends, WholeAt, eventsOf}
 use Rattle.diagram.specs.Day.{Day, fresh}
 use Rattle.diagram.specs.Diagram.{Diagram, Vertex, event, fork, join, leads, start}
-use Rattle.diagram.specs.Effects.{entry, own, view, viewStep}
+use Rattle.diagram.specs.Effects.{entry, own, tabulate, view, viewStep}
 use Rattle.diagram.specs.Steps.{newUpdate, yield}
 use Rattle.lists.proofs.Cases.{cases}
 use Rattle.lists.specs.Lists.{_∈_}
@@ -90,9 +90,12 @@ pub older-trans : {d e f : Diagram} → Older d e → Older e f → Older d f
 older-trans o same = o
 older-trans o (next p) = next (older-trans o p)
 
+pub tabulate-stays : {A : Type 0} (step : Diagram → (ℕ → A) → Vertex → A) (outside : A) {d e : Diagram} → Older d e → (x : ℕ) → x < length d → tabulate step outside e x ≡ tabulate step outside d x
+tabulate-stays step outside same x h = refl
+tabulate-stays step outside (next {v} {e} o) x h = tabulate-older step outside v e x (omega (arith, older-length o)) ∙ tabulate-stays step outside o x h
+
 pub view-stays : {d e : Diagram} → Older d e → (x : ℕ) → x < length d → view e x ≡ view d x
-view-stays same x h = refl
-view-stays (next {v} {e} o) x h = tabulate-older viewStep [] v e x (omega (arith, older-length o)) ∙ view-stays o x h
+view-stays = tabulate-stays viewStep []
 
 pub older-moves : (y z : Day) → Moves y z → Older (y .diagram) (z .diagram)
 older-moves y z (enters c r u E) = next same
