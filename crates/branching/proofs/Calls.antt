@@ -8,26 +8,26 @@ use Rattle.cells.specs.Decode.{cells}
 use Rattle.cells.specs.Steps.{forkBytes}
 use Rattle.cells.specs.Checks.{noneLeft}
 use Rattle.fields.specs.declared.table.Revision.{Revision}
-use Rattle.revisions.specs.Checks.{leftCheck}
-use Rattle.revisions.specs.declared.checks.LeftCheck.the-variants as left
+use Rattle.revisions.specs.Checks.{nextCheck}
+use Rattle.revisions.specs.declared.checks.NextCheck.the-variants as left
 use Rattle.table.specs.Halves.{low, high, isTable}
 use Rattle.table.specs.Answers.{refused, taken}
 use Rattle.table.specs.Calls.{forkOut}
-use Rattle.table.specs.Found.{onLeft, onQuiet, onPair}
+use Rattle.table.specs.Found.{onNext, onQuiet, onPair}
 use Rattle.table.specs.Checks.{quietCheck}
 use Rattle.table.specs.declared.pair.PairCheck.{PairCheck}
 use Rattle.table.proofs.Calls.{given-is, quiet-cond, pair-cond}
 use Rattle.branching.specs.Checks.{forkCheck}
 
 -- the check's answer taken apart is a test
-left-by : {A : Type 0} (b : Bool) (x : Revision) (end : A) (rest : Revision → A) → onLeft (cond b left.Exhausted (left.Next x)) end rest ≡ cond b end (rest x)
-unfolding onLeft
+left-by : {A : Type 0} (b : Bool) (x : Revision) (end : A) (rest : Revision → A) → onNext (cond b left.Exhausted (left.Next x)) end rest ≡ cond b end (rest x)
+unfolding onNext
 left-by true x end rest = refl
 left-by false x end rest = refl
 
 left-is : {A : Type 0} (d : List ℕ) (end : A) (rest : Revision → A)
-    → onLeft (leftCheck d) end rest ≡ cond (noneLeft (cells d)) end (rest (record { 0 = cells d .given }))
-unfolding leftCheck
+    → onNext (nextCheck d) end rest ≡ cond (noneLeft (cells d)) end (rest (record { 0 = cells d .given }))
+unfolding nextCheck
 left-is d end rest = left-by (noneLeft (cells d)) (record { 0 = cells d .given }) end rest
 
 -- the call on bytes that are no table

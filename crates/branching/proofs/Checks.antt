@@ -9,13 +9,13 @@ use Rattle.cells.specs.Sizes.{revisions}
 use Rattle.cells.specs.Decode.{cells}
 use Rattle.cells.specs.Checks.{noneLeft}
 use Rattle.fields.specs.declared.table.Revision.{Revision}
-use Rattle.revisions.specs.Checks.{leftCheck}
-use Rattle.revisions.specs.declared.checks.LeftCheck.the-variants as left
+use Rattle.revisions.specs.Checks.{nextCheck}
+use Rattle.revisions.specs.declared.checks.NextCheck.the-variants as left
 use Rattle.table.proofs.Checks.{failed}
 
 -- code 10
-pub next : (d : List ℕ) (x : Revision) → leftCheck d ≡ left.Next x → (x .0 ≡ cells d .given) × (x .0 < revisions)
-unfolding leftCheck
+pub next : (d : List ℕ) (x : Revision) → nextCheck d ≡ left.Next x → (x .0 ≡ cells d .given) × (x .0 < revisions)
+unfolding nextCheck
 next d x e =
     let p = failed (noneLeft (cells d)) _ _ _ (λ d. let z : _≡_ {A = ℕ} 0 1 = cc in omega arith) e in
     let v : x .0 ≡ cells d .given = cc (p .1) in

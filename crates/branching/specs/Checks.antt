@@ -5,8 +5,8 @@ use mathlib.Core.List.{List}
 use mathlib.Core.Path.{_≡_}
 use Rattle.cells.specs.Sizes.{revisions}
 use Rattle.cells.specs.Decode.{cells}
-use Rattle.revisions.specs.Checks.{leftCheck}
-use Rattle.table.specs.Found.{onLeft, onQuiet}
+use Rattle.revisions.specs.Checks.{nextCheck}
+use Rattle.table.specs.Found.{onNext, onQuiet}
 use Rattle.table.specs.Checks.{quietCheck}
 use Rattle.table.specs.declared.pair.PairCheck.{PairCheck}
 use Rattle.table.specs.declared.pair.PairCheck.the-variants as pair
@@ -15,7 +15,7 @@ use Rattle.table.specs.declared.pair.PairCheck.the-variants as pair
 unfoldable pub forkCheck : List ℕ → ℕ → PairCheck
 forkCheck d n =
     onQuiet (quietCheck d n) pair.Refused (λ p.
-    onLeft (leftCheck d) (pair.Refused 10) (λ c.
+    onNext (nextCheck d) (pair.Refused 10) (λ c.
     pair.Allowed p c))
 
 -- what is found is in range

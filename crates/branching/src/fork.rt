@@ -1,4 +1,4 @@
-// Fork: a revision forks another, whose number is the value.
+// The call fork: a revision forks another, whose number is the value.
 ghost use mathlib.Core.Path.{_≡_};
 ghost use mathlib.Core.Bool.{true};
 ghost use mathlib.Core.List.{_++_};
@@ -14,7 +14,7 @@ ghost use Rattle.table.specs.Calls.{forkOut};
 ghost use Rattle.branching.specs.Checks.{forkCheck, forkIn};
 use fields::table::Revision;
 use revisions::checks;
-use revisions::checks::LeftCheck;
+use revisions::checks::NextCheck;
 use table::answer::Answer;
 use table::pair::PairCheck;
 use table::quiet;
@@ -39,7 +39,7 @@ fn check_fork(d: &[u8], revision: u8) -> PairCheck
     match found {
         QuietCheck::Refused(code) => PairCheck::Refused(code),
         QuietCheck::Quiet(p) => {
-            let LeftCheck::Next(c) = checks::check_left(d) else {
+            let NextCheck::Next(c) = checks::check_next(d) else {
                 return PairCheck::Refused(10);
             };
             PairCheck::Allowed(p, c)

@@ -1,4 +1,4 @@
-// Fresh: a new day, whatever the bytes were.
+// The call fresh: a new day, whatever the bytes were.
 ghost use mathlib.Core.Path.{_≡_};
 ghost use mathlib.Core.List.{_++_};
 ghost use lib.ListN.{length, replicate};

@@ -1,4 +1,4 @@
-// Join: a revision joins another; how many updates the joinee had of its own is the value.
+// The call join: a revision joins another; how many updates the joinee had of its own is the value.
 ghost use mathlib.Core.Path.{_≡_};
 ghost use mathlib.Core.Bool.{true};
 ghost use mathlib.Core.List.{_++_};
@@ -18,7 +18,7 @@ use table::sound;
 use table::sound::TableCheck;
 
 // b is joined into a. How many updates a gained is the answer.
-fn gain(t: &mut [u8], a: Revision, b: Revision) -> u32
+fn join_lower(t: &mut [u8], a: Revision, b: Revision) -> u32
     requires { ⌜ (length (now t) ≡ bytes) × (inRange (low (now t)) ≡ true) × (a .0 < revisions) × (b .0 < revisions) ⌝ }
     ensures { λ n. ⌜ (n ≡ cellsOf (now (t .entry)) .count (b .0)) × (now (t .exit) ≡ joinBytes (low (now (t .entry))) (a .0) (b .0) ++ high (now (t .entry))) ⌝ }
 {
@@ -35,7 +35,7 @@ fn join_sound(t: &mut [u8], joiner: u8, joinee: u8) -> Answer
     match found {
         PairCheck::Refused(code) => Answer { code, value: 0 },
         PairCheck::Allowed(a, b) => {
-            let value = gain(t, a, b);
+            let value = join_lower(t, a, b);
             Answer { code: 0, value }
         }
     }

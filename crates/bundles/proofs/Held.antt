@@ -1,6 +1,6 @@
 -- The records of entries hold those entries, and are a bundle if there are 1 to 64.
 use Prim.Native.Nat.{ℕ, suc, _+_, _*_, _/_, _%_}
-use mathlib.Core.Bool.{cond, _||_}
+use mathlib.Core.Bool.{_||_}
 use mathlib.Core.Path.{_≡_, refl, sym, _∙_, ap}
 use mathlib.Core.List.{List, [], _∷_, _++_, append-assoc}
 use native.Mathlib.Omega.{arith}
@@ -10,8 +10,7 @@ use lib.Seq.{take-at, drop-at}
 use Rattle.records.specs.Numbers.{word}
 use Rattle.records.proofs.Widths.{number-two, number-word}
 use Rattle.bundles.specs.declared.entry.Entry.{Entry}
-use Rattle.bundles.specs.declared.check.BundleCheck.the-variants.{Count, Wrong}
-use Rattle.bundles.specs.Records.{entryIn, entriesFrom, entriesIn, isWrong, bundleCheck, recordOf, recordsOf}
+use Rattle.bundles.specs.Records.{entryIn, entriesFrom, entriesIn, isWrong, recordOf, recordsOf}
 
 -- "kind (1 byte), tablet (1), bib (2), v (4), update's number (4)": whatever client and number are, the entry is kind, bib and v
 pub entry-laid : (kind client bib v : ℕ) (number : List ℕ)
@@ -55,9 +54,9 @@ entries-of-records es =
     ap (entriesFrom (recordsOf es) 0) n ∙ from-records es [] 0 refl
 
 -- "if the count is 0 or above 64": the bytes of records are a multiple of 12
-pub check-records : (es : List Entry) → bundleCheck (recordsOf es) ≡ cond (eqb (length es) 0 || ltb 64 (length es)) Wrong (Count (length es))
-unfolding bundleCheck isWrong
-check-records es =
+pub wrong-records : (es : List Entry) → isWrong (recordsOf es) ≡ (eqb (length es) 0 || ltb 64 (length es))
+unfolding isWrong
+wrong-records es =
     let l = records-length es in
     let n : length (recordsOf es) / 12 ≡ length es = omega arith in
     let r : length (recordsOf es) % 12 ≡ 0 = omega arith in

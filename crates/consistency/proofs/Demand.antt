@@ -53,7 +53,7 @@ same-calls (c ∷ cs) = let first = same-call c in let rest = same-calls cs in �
 said-from : (qs : List Request) (p : PlainDay) → saidOn (replies qs (answersFrom p (calls qs))) ≡ Edges.said (answersFrom p (calls qs))
 unfolding replies answersFrom
 said-from [] p = refl
-said-from (q ∷ qs) p = let a = called p (onPaper q) .answer in ap (λ z. record { code = a .code; state = a .state; value = a .value; gain = a .gain } ∷ z) (said-from qs (called p (onPaper q) .next))
+said-from (q ∷ qs) p = let a = called p (onPaper q) .answer in ap (λ z. record { code = a .code; state = a .state; value = a .value; total = a .total; gain = a .gain } ∷ z) (said-from qs (called p (onPaper q) .next))
 
 module _ (t : List ℕ) (h : length t ≡ bytes) where
   same-computed : (es : List Edge) → computedOn t es ≡ computed es

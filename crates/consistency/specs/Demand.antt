@@ -50,7 +50,7 @@ asking (c ∷ cs) = asked c ∷ asking cs
 
 abbrev pub saidOn : List Reply → List Said
 saidOn [] = []
-saidOn (r ∷ rs) = record { code = r .code; state = r .state; value = r .value; gain = r .gain } ∷ saidOn rs
+saidOn (r ∷ rs) = record { code = r .code; state = r .state; value = r .value; total = r .total; gain = r .gain } ∷ saidOn rs
 
 abbrev pub computedOn : List ℕ → List Edge → List (List Said)
 computedOn t [] = []

@@ -1,5 +1,5 @@
 -- The table agrees with the plain day: any buffer of the right length is made fresh, and from then on, through every list of calls
--- with any arguments, refused ones included, every code, every value and every sheet is the plain day's.
+-- with any arguments, refused ones included, every code, state, value, total, gain and sheet is the plain day's.
 use Prim.Native.Nat.{ℕ, _*_}
 use mathlib.Core.Path.{_≡_}
 use mathlib.Core.List.{List, [], _∷_, _++_}

@@ -1,5 +1,5 @@
 -- 01, "Codes of the desk": each check that the day alone decides, as a test that is true where its code applies.
--- Code 3 is `meant`, and code 4 the day's `joined`; 5 and 12 need what this crate does not know.
+-- Code 3 is `meant`, and code 4 the day's `joined`; 5, 12 and 14 need what this crate does not know.
 use Prim.Native.Nat.{ℕ, zero, suc}
 use mathlib.Core.Bool.{Bool, false, not, _||_, _&&_}
 use mathlib.Core.Option.{Option, none, some}

@@ -51,7 +51,7 @@ pub data Edge (from : Vertex → List ℕ) (x y : ℕ) : Diagram → Type 0 wher
   newest : {v : Vertex} {d : Diagram} → y ≡ length d → List·Memᴰ x (from v) → Edge from x y (v ∷ d)
   older : {v : Vertex} {d : Diagram} → Edge from x y d → Edge from x y (v ∷ d)
 
--- 01, "Words": "Path: as in 002, along any edges; from a vertex to itself there always is one"
+-- 01, "Words": "Path: as in 002, along any edges; from a vertex to itself there always is one". Not the library's `Path`, which is equality.
 pub data Path (d : Diagram) (x : ℕ) : ℕ → Type 0 where
   stay : {y : ℕ} → x ≡ y → x < length d → Path d x y
   go : {y z : ℕ} → Path d x y → Edge sources y z d → Path d x z

@@ -18,7 +18,7 @@ pub data Step : Type 0 where
   Fork : (revision : ℕ) → Step
   Join : (joiner joinee : ℕ) → Step
 
--- 3, of a revision
+-- 3 "box number not yet given out"
 abbrev pub notGiven : Day → ℕ → Bool
 notGiven y r = not (ltb r (y .revisions))
 

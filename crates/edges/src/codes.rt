@@ -1,4 +1,4 @@
-// Each code from 1 to 12 at least once; 9 and 10 are in log.rt and forks.rt.
+// Codes 1 to 8, 11 and 12, each at least once; 9 is in log.rt, 10 in forks.rt.
 use crate::calls::fork;
 use crate::calls::fresh;
 use crate::calls::join;

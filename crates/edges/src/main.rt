@@ -4,6 +4,7 @@ mod codes; // codes.rt: each code
 mod forks; // forks.rt: 64 revisions, and no more
 mod listings; // listings.rt: lists before and after joins
 mod log; // log.rt: 4,096 updates, and no more
+mod sent; // sent.rt: bundles of entries
 mod say; // say.rt: lines on standard output
 
 fn log_full() {
@@ -41,9 +42,15 @@ fn each_code() {
     codes::eight_to_twelve(&mut t, &mut sheet);
 }
 
+fn bundles_of_entries() {
+    let mut t = io::large_buffer();
+    sent::all(&mut t);
+}
+
 fn main() {
     log_full();
     all_forks();
     around_a_join();
     each_code();
+    bundles_of_entries();
 }

@@ -1,4 +1,4 @@
-// Yield: a client's open transaction, if any, is closed.
+// The call yield: a client's open transaction, if any, is closed.
 ghost use mathlib.Core.Path.{_≡_};
 ghost use mathlib.Core.List.{_++_};
 ghost use Prim.Native.Nat.{_<_};

@@ -1,4 +1,4 @@
--- What an export hands back: the answer in one number, beside the lent bytes as the call leaves them.
+-- What an export returns: the answer in one number, beside the lent bytes as the call leaves them.
 use Prim.Native.Nat.{ℕ, _+_, _*_}
 use mathlib.Core.List.{List}
 use Rattle.updates.specs.declared.standing.State.{State}
@@ -7,7 +7,7 @@ use Rattle.table.specs.Answers.{Out}
 use Rattle.table.specs.declared.answer.Level.{Level}
 use Rattle.table.specs.declared.answer.Prospect.{Prospect}
 
--- the code in the upper 32 bits, the value in the lower
+-- the value in the lower 32 bits, the code in the eight above them
 abbrev pub packed : ℕ → ℕ → ℕ
 packed code value = code * 4294967296 + value
 
@@ -33,7 +33,7 @@ pub record Returned : Type 0 where
 abbrev pub returned : ℕ → List ℕ → Returned
 returned result lent = record { result = result; lent = lent }
 
--- an answer of 01 as its export hands it back
+-- an answer of 01 as its export returns it
 unfoldable pub exported : Out → Returned
 exported o = returned (packedState (o .code) (o .state) (o .value)) (o .lent)
 

@@ -6,7 +6,7 @@ ghost use Rattle.table.specs.Calls.{bundleOut, fillOut, forkOut, freshOut, join
 ghost use Rattle.exports.specs.Packed.{exported, exportedLevel, exportedProspect, returned, packed, packedGain, packedState, stateNumber};
 use updates::standing::State;
 
-// The code in the upper 32 bits, the value in the lower.
+// The value in the lower 32 bits, the code in the eight above them.
 fn pack(code: u8, value: u32) -> u64
     ensures { λ r. ⌜ r ≡ packed code value ⌝ }
 {

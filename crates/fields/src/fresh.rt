@@ -56,5 +56,5 @@ pub fn sign(d: &mut [u8])
     ensures { λ _. ⌜ now (d .exit) ≡ wrote (now (d .entry)) signaturePart signature ⌝ }
 {
     let signature = Table::signature();
-    copy(&mut d[SIGNATURE..Table::BYTES], &signature);
+    copy(&mut d[SIGNATURE..Table::LOWER], &signature);
 }

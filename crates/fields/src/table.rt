@@ -4,6 +4,7 @@ ghost use lib.ListN.{replicate};
 ghost use Rattle.cells.specs.Sizes.{clients, closed};
 ghost use Rattle.cells.specs.Range.{signature};
 ghost use Rattle.fields.specs.Numbers.{revisionCheck};
+use crate::numbers::wide;
 
 // The table: its sizes, and the parts of a fresh day that are rows or lists and not 0.
 pub struct Table;
@@ -23,7 +24,7 @@ pub enum RevisionCheck {
 pub fn check_revision(n: u8) -> RevisionCheck
     ensures { λ r. ⌜ r ≡ revisionCheck n ⌝ }
 {
-    if n < 64 {
+    if wide(n) < Table::REVISIONS {
         RevisionCheck::Known(Revision(n))
     } else {
         RevisionCheck::Strange
@@ -84,7 +85,8 @@ impl Table {
     // Bytes of a revision's row: a bit for each update.
     pub const ROW: usize = 512;
 
-    pub const BYTES: usize = 40960;
+    // The bytes of the lower half, which is all that this crate knows of the table.
+    pub const LOWER: usize = 40960;
 
     // A client without events may start anywhere: every caught-up mark, eight to a byte.
     pub fn fresh_caught() -> [[u8; Table::REVISIONS / 8]; Table::CLIENTS]

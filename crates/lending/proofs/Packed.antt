@@ -6,16 +6,15 @@ use mathlib.Core.List.{List, []}
 use native.Mathlib.Omega.{arith}
 use lib.Dec.{eqb, ltb}
 use lib.ListN.{length, take}
-use borrow.Author.Tests.{le-ltb, lt-ltb, ltb-false}
+use borrow.Author.Tests.{lt-ltb, ltb-false}
 use Rattle.lists.proofs.Cases.{cases}
 use Rattle.bundles.specs.declared.entry.Entry.{Entry}
 use Rattle.bundles.specs.Records.{isWrong, recordsOf}
 use Rattle.bundles.specs.Packed.{among, packedOf, recordsIn}
 use Rattle.bundles.proofs.Filled.{packed-records}
-use Rattle.bundles.proofs.First.{uncounted}
-use Rattle.bundles.proofs.Held.{check-records}
+use Rattle.bundles.proofs.Held.{entries-of-records, wrong-records}
 use Rattle.table.specs.Answers.{check, refused}
-use Rattle.table.specs.Calls.{bundleOut}
+use Rattle.table.specs.Calls.{bundleOut, entriesOut}
 use Rattle.table.specs.Halves.{isTable}
 
 -- what is passed on has room
@@ -35,7 +34,7 @@ unfolding isWrong
 none-wrong = refl
 
 many-wrong : (es : List Entry) → ltb 64 (length es) ≡ true → isWrong (recordsOf es) ≡ true
-many-wrong es h = uncounted (recordsOf es) (check-records es ∙ rw (h, or-true (eqb (length es) 0)))
+many-wrong es h = wrong-records es ∙ rw (h, or-true (eqb (length es) 0))
 
 none-passed : (es : List Entry) → ltb 64 (length es) ≡ true → recordsIn (packedOf es) ≡ []
 unfolding recordsIn packedOf
@@ -45,16 +44,21 @@ all-passed : (es : List Entry) → ltb 64 (length es) ≡ false → recordsIn (p
 unfolding recordsIn packedOf
 all-passed es h = rw h (packed-records es (ltb-false 64 (length es) h))
 
-pub packed-is : (t : List ℕ) (c n : ℕ) (es : List Entry) → bundleOut t c n (recordsIn (packedOf es)) ≡ bundleOut t c n (recordsOf es)
-packed-is t c n es =
+packed-records-are : (t : List ℕ) (c n : ℕ) (es : List Entry) → bundleOut t c n (recordsIn (packedOf es)) ≡ bundleOut t c n (recordsOf es)
+packed-records-are t c n es =
     cases (ltb 64 (length es))
     (λ h. ap (bundleOut t c n) (none-passed es h) ∙ wrong-same t c n [] (recordsOf es) none-wrong (many-wrong es h))
     (λ h. ap (bundleOut t c n) (all-passed es h))
 
--- a count of no more than 64, and one above 64
-pub not-many : (count : ℕ) (es : List Entry) → count ≤ 64 → take (among count) es ≡ take count es
-not-many count es h = rw (le-ltb 64 count h)
+-- a lent list is the bundle of its records
+pub records-are : (t : List ℕ) (c n : ℕ) (es : List Entry) → bundleOut t c n (recordsOf es) ≡ entriesOut t c n es
+unfolding bundleOut entriesOut
+records-are t c n es = rw (wrong-records es, entries-of-records es)
 
-pub too-many : (t : List ℕ) (c n count : ℕ) (es : List Entry) → 64 < count → bundleOut t c n (recordsOf (take (among count) es)) ≡ check (not (isTable t)) 1 t (refused t 14)
-unfolding bundleOut recordsOf
-too-many t c n count es h = rw (lt-ltb 64 count h, none-wrong)
+pub packed-is : (t : List ℕ) (c n : ℕ) (es : List Entry) → bundleOut t c n (recordsIn (packedOf es)) ≡ entriesOut t c n es
+packed-is t c n es = packed-records-are t c n es ∙ records-are t c n es
+
+-- a count above 64
+pub too-many : (t : List ℕ) (c n count : ℕ) (es : List Entry) → 64 < count → entriesOut t c n (take (among count) es) ≡ check (not (isTable t)) 1 t (refused t 14)
+unfolding entriesOut
+too-many t c n count es h = rw (lt-ltb 64 count h)

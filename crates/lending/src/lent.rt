@@ -3,15 +3,14 @@ ghost use mathlib.Core.Path.{_≡_};
 ghost use Prim.Native.Nat.{_≤_};
 ghost use lib.ListN.{take};
 ghost use Rattle.bundles.specs.Packed.{among, recordsIn};
-ghost use Rattle.bundles.specs.Records.{recordsOf};
 ghost use Rattle.table.specs.Answers.{left};
-ghost use Rattle.table.specs.Calls.{bundleOut};
+ghost use Rattle.table.specs.Calls.{bundleOut, entriesOut};
 use bundles::entry::Entry;
 use bundles::pack::Packed;
 use sending::bundle::bundle;
 use table::answer::Answer;
 
-// How many of so many entries are passed on: of more than 64 none, since none is 14 too.
+// How many entries are passed on. Of more than 64 none is: a bundle of no entries has code 14 too.
 fn among(count: usize) -> usize
     ensures { λ n. ⌜ n ≡ among count ⌝ }
 {
@@ -28,10 +27,10 @@ pub fn bundle_packed(t: &mut [u8], client: u8, revision: u8, p: Packed) -> Answe
     bundle(t, client, revision, &all[..end])
 }
 
-// The call on a lent list of entries. It says the same of the list as `bundle` of its records, and those hold the entries that are lent
-// (`entries-of-records`, `bundles`). Its proof is a walk by hand, so it does no more than call.
+// The call on a lent list of entries. It is the bundle of their records (`records-are`, proofs/Packed.antt). Its proof is a walk by hand, so it does no
+// more than call.
 pub fn bundle_of(t: &mut [u8], client: u8, revision: u8, es: &[Entry]) -> Answer
-    ensures { λ a. ⌜ left a (now (t .exit)) ≡ bundleOut (now (t .entry)) client revision (recordsOf (now (es .entry))) ⌝ }
+    ensures { λ a. ⌜ left a (now (t .exit)) ≡ entriesOut (now (t .entry)) client revision (now (es .entry)) ⌝ }
 {
     let p = bundles::pack::pack(es);
     bundle_packed(t, client, revision, p)
@@ -40,12 +39,12 @@ pub fn bundle_of(t: &mut [u8], client: u8, revision: u8, es: &[Entry]) -> Answer
 // The first n entries of an array, lent. Its proof is a walk by hand too.
 fn bundle_first(t: &mut [u8], client: u8, revision: u8, entries: [Entry; 64], n: usize) -> Answer
     requires { ⌜ n ≤ 64 ⌝ }
-    ensures { λ a. ⌜ left a (now (t .exit)) ≡ bundleOut (now (t .entry)) client revision (recordsOf (take n entries)) ⌝ }
+    ensures { λ a. ⌜ left a (now (t .exit)) ≡ entriesOut (now (t .entry)) client revision (take n entries) ⌝ }
 {
     bundle_of(t, client, revision, &entries[..n])
 }
 
-// The same for a caller that lends no entries: so many of 64. Of a count above 64 it is 14, after 1 (`too-many`, proofs/Packed.antt).
+// The same for a caller that lends no entries: the first `count` of 64. Of a count above 64 it is 14, after 1 (`too-many`, proofs/Packed.antt).
 pub fn bundle_entries(
     t: &mut [u8],
     client: u8,
@@ -53,7 +52,7 @@ pub fn bundle_entries(
     entries: [Entry; 64],
     count: usize,
 ) -> Answer
-    ensures { λ a. ⌜ left a (now (t .exit)) ≡ bundleOut (now (t .entry)) client revision (recordsOf (take (among count) entries)) ⌝ }
+    ensures { λ a. ⌜ left a (now (t .exit)) ≡ entriesOut (now (t .entry)) client revision (take (among count) entries) ⌝ }
 {
     let n = among(count);
     bundle_first(t, client, revision, entries, n)

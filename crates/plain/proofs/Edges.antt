@@ -21,7 +21,7 @@ use Rattle.diagram.specs.Examples.{withCounts}
 use Rattle.plain.specs.Calls.{Call, Update, Query, Yield, Fork, Join, Show, Fill, Bundle, Entry, Line}
 use Rattle.plain.specs.Record.{PlainDay, freshDay}
 use Rattle.plain.specs.Answers.{called, sent, dayFrom, dayAfter, answersFrom, answers}
-use Rattle.plain.specs.Edges.{edges, codes, said, expected, computed, ok, no, neither, small, strange}
+use Rattle.plain.specs.Edges.{edges, codes, said, expected, computed, ok, no, neither, filled, small, strange}
 
 pub edges-hold : computed edges ≡ expected edges
 unfolding called answersFrom answers after leads tabulate meant nextNumber unknownClient openElsewhere busyByOther busy stale logFull noneLeft notJoinable revisionLimit clientLimit updateLimit kindCheck effect earliest penalized stateOf valueIn applied sent entriesIn entriesFrom isWrong number
@@ -79,6 +79,6 @@ bundle-fills-log = refl
 
 -- 64 records are taken, 65 are 14, and so are bytes that are not a multiple of 12
 most-records : said (answersFrom freshDay (Bundle 0 0 (replicate 780 1) ∷ Bundle 0 0 (replicate 767 1) ∷ Bundle 0 0 (replicate 768 1) ∷ Fill 0 ∷ []))
-    ≡ no 14 ∷ no 14 ∷ ok 0 ∷ ok 64 ∷ []
+    ≡ no 14 ∷ no 14 ∷ ok 0 ∷ filled 64 64 ∷ []
 unfolding called answersFrom answers after leads tabulate meant nextNumber unknownClient openElsewhere busyByOther busy stale logFull noneLeft notJoinable revisionLimit clientLimit updateLimit kindCheck effect earliest penalized stateOf valueIn applied sent entriesIn entriesFrom isWrong number
 most-records = refl

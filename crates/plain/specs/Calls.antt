@@ -11,6 +11,7 @@ pub data Call : Type 0 where
   Yield : (client : ℕ) → Call
   Fork : (revision : ℕ) → Call
   Join : (joiner joinee : ℕ) → Call
+  -- 01: list
   Show : (revision room : ℕ) → Call
   Fill : (revision : ℕ) → Call
   Bundle : (client revision : ℕ) (records : List ℕ) → Call

@@ -11,6 +11,7 @@ pub record Said : Type 0 where
   pub code : ℕ
   pub state : State
   pub value : ℕ
+  pub total : ℕ
   pub gain : ℕ
 
 pub record Edge : Type 0 where
@@ -22,23 +23,27 @@ edge calls says = record { calls = calls; says = says }
 
 -- refused; a query that finds a bib timed, neither or struck; any other call that is taken
 abbrev pub no : ℕ → Said
-no code = record { code = code; state = state.Neither; value = 0; gain = 0 }
+no code = record { code = code; state = state.Neither; value = 0; total = 0; gain = 0 }
 
 abbrev timed : ℕ → Said
-timed value = record { code = 0; state = state.Timed; value = value; gain = 0 }
+timed value = record { code = 0; state = state.Timed; value = value; total = 0; gain = 0 }
 
 abbrev pub neither : Said
-neither = record { code = 0; state = state.Neither; value = 0; gain = 0 }
+neither = record { code = 0; state = state.Neither; value = 0; total = 0; gain = 0 }
 
 abbrev struck : Said
-struck = record { code = 0; state = state.Struck; value = 0; gain = 0 }
+struck = record { code = 0; state = state.Struck; value = 0; total = 0; gain = 0 }
 
 abbrev pub ok : ℕ → Said
-ok value = record { code = 0; state = state.Neither; value = value; gain = 0 }
+ok value = record { code = 0; state = state.Neither; value = value; total = 0; gain = 0 }
+
+-- a fill: a revision's own updates, and those of the whole table
+abbrev pub filled : ℕ → ℕ → Said
+filled own total = record { code = 0; state = state.Neither; value = own; total = total; gain = 0 }
 
 -- a preview, by what a query there would say, and its gain
-abbrev foreseen : Said → ℕ → Said
-foreseen s gain = record { code = s .code; state = s .state; value = s .value; gain = gain }
+abbrev previewed : Said → ℕ → Said
+previewed s gain = record { code = s .code; state = s .state; value = s .value; total = 0; gain = gain }
 
 -- the numbers of the kinds
 abbrev time : ℕ
@@ -125,18 +130,18 @@ codes =
     ∷ edge
     (Update 0 0 time 7 5 ∷ Yield 0 ∷ Fork 0 ∷ Fork 1 ∷ Update 1 1 time 7 6 ∷ Update 2 2 time 7 7 ∷ Fill 0 ∷ Fill 1 ∷ Fill 2 ∷ Fill 3
     ∷ Yield 1 ∷ Yield 2 ∷ Join 1 2 ∷ Fill 1 ∷ Fill 2 ∷ Join 0 1 ∷ Fill 0 ∷ Fill 1 ∷ [])
-    (ok 0 ∷ ok 0 ∷ ok 1 ∷ ok 2 ∷ ok 1 ∷ ok 2 ∷ ok 1 ∷ ok 1 ∷ ok 1 ∷ no 3
-    ∷ ok 0 ∷ ok 0 ∷ ok 1 ∷ ok 2 ∷ no 4 ∷ ok 2 ∷ ok 3 ∷ no 4 ∷ [])
+    (ok 0 ∷ ok 0 ∷ ok 1 ∷ ok 2 ∷ ok 1 ∷ ok 2 ∷ filled 1 3 ∷ filled 1 3 ∷ filled 1 3 ∷ no 3
+    ∷ ok 0 ∷ ok 0 ∷ ok 1 ∷ filled 2 3 ∷ no 4 ∷ ok 2 ∷ filled 3 3 ∷ no 4 ∷ [])
     -- bundle (02, U4): an open transaction is continued and closed; the value is the first entry's number
     ∷ edge
     (Update 0 0 time 8 9 ∷ Bundle 0 0 (small time 7 50 ++ small earliest 7 40 ++ small strike 8 1) ∷ Fork 0 ∷ Query 1 0 7 ∷ Query 1 0 8 ∷ Fill 0 ∷ Bundle 0 1 (small time 7 1) ∷ [])
-    (ok 0 ∷ ok 1 ∷ ok 1 ∷ timed 40 ∷ struck ∷ ok 4 ∷ ok 4 ∷ [])
+    (ok 0 ∷ ok 1 ∷ ok 1 ∷ timed 40 ∷ struck ∷ filled 4 4 ∷ ok 4 ∷ [])
     -- 14 before 2; then all checks of the first entry, 5 of it before 7, then of the next; the earliest refusal is given and nothing is taken
     ∷ edge
     (Bundle 16 9 [] ∷ Bundle 16 9 (1 ∷ small time 7 5) ∷ Bundle 16 9 (small time 7 5) ∷ Bundle 0 9 strange ∷ Bundle 0 0 (small time 7 5 ++ small 5 7 5 ++ small time 7 5)
     ∷ Bundle 0 0 (small time 7 5 ++ strange) ∷ Fill 0 ∷ Query 1 0 7 ∷ Bundle 0 0 (strange ++ small time 7 5) ∷ Bundle 0 0 (small time 7 5 ++ strange) ∷ Bundle 1 0 (small time 7 5) ∷ Bundle 0 0 (small time 7 6) ∷ [])
     (no 14 ∷ no 14 ∷ no 2 ∷ no 3 ∷ no 5
-    ∷ no 5 ∷ ok 0 ∷ neither ∷ no 5 ∷ no 7 ∷ ok 0 ∷ ok 1 ∷ [])
+    ∷ no 5 ∷ filled 0 0 ∷ neither ∷ no 5 ∷ no 7 ∷ ok 0 ∷ ok 1 ∷ [])
     ∷ edge (Update 0 0 time 7 5 ∷ Update 0 0 time 8 6 ∷ Query 0 0 7 ∷ Query 0 0 8 ∷ Query 0 0 9 ∷ []) (ok 0 ∷ ok 1 ∷ timed 5 ∷ timed 6 ∷ neither ∷ [])
     -- preview (02, U6) on the day of E1: 7 of either box; then, before the join, what the query after it gives, with the join's gain;
     -- of another bib neither, with the same gain; nothing is moved by it
@@ -144,7 +149,7 @@ codes =
     (Update 0 0 time 7 61000 ∷ Yield 0 ∷ Fork 0 ∷ Update 1 1 penalty 7 5000 ∷ Preview 0 1 7 ∷ Yield 1 ∷ Update 0 0 time 7 60000 ∷ Preview 0 1 7
     ∷ Yield 0 ∷ Preview 0 1 7 ∷ Preview 0 1 8 ∷ Query 0 0 7 ∷ Yield 0 ∷ Preview 0 1 7 ∷ Join 0 1 ∷ Query 1 0 7 ∷ [])
     (ok 0 ∷ ok 0 ∷ ok 1 ∷ ok 1 ∷ no 7 ∷ ok 0 ∷ ok 2 ∷ no 7
-    ∷ ok 0 ∷ foreseen (timed 65000) 1 ∷ foreseen neither 1 ∷ timed 60000 ∷ ok 0 ∷ foreseen (timed 65000) 1 ∷ ok 1 ∷ timed 65000 ∷ [])
+    ∷ ok 0 ∷ previewed (timed 65000) 1 ∷ previewed neither 1 ∷ timed 60000 ∷ ok 0 ∷ previewed (timed 65000) 1 ∷ ok 1 ∷ timed 65000 ∷ [])
     -- its refusals are those of the join, in the join's order, and 5 comes last
     ∷ edge
     (Fork 0 ∷ Preview 0 2 1000 ∷ Preview 2 0 7 ∷ Preview 1 0 1000 ∷ Preview 0 0 7 ∷ Preview 0 1 1000 ∷ Preview 0 1 999 ∷ Query 3 0 7 ∷ Preview 0 0 1000 ∷ Yield 3
@@ -156,12 +161,12 @@ codes =
     (Update 0 0 time 7 100 ∷ Update 0 0 penalty 7 10 ∷ Yield 0 ∷ Fork 0 ∷ Fork 1 ∷ Update 0 0 penalty 7 5 ∷ Yield 0 ∷ Update 1 1 penalty 7 1 ∷ Yield 1
     ∷ Update 2 2 strike 8 0 ∷ Yield 2 ∷ Preview 0 1 7 ∷ Preview 0 1 8 ∷ Preview 1 2 8 ∷ Join 1 2 ∷ Preview 0 1 7 ∷ Preview 0 1 8 ∷ [])
     (ok 0 ∷ ok 1 ∷ ok 0 ∷ ok 1 ∷ ok 2 ∷ ok 2 ∷ ok 0 ∷ ok 3 ∷ ok 0
-    ∷ ok 4 ∷ ok 0 ∷ foreseen (timed 116) 1 ∷ foreseen neither 1 ∷ foreseen struck 1 ∷ ok 1 ∷ foreseen (timed 116) 2 ∷ foreseen struck 2 ∷ [])
+    ∷ ok 4 ∷ ok 0 ∷ previewed (timed 116) 1 ∷ previewed neither 1 ∷ previewed struck 1 ∷ ok 1 ∷ previewed (timed 116) 2 ∷ previewed struck 2 ∷ [])
     ∷ []
 
 abbrev pub said : List Answer → List Said
 said [] = []
-said (a ∷ more) = record { code = a .code; state = a .state; value = a .value; gain = a .gain } ∷ said more
+said (a ∷ more) = record { code = a .code; state = a .state; value = a .value; total = a .total; gain = a .gain } ∷ said more
 
 abbrev pub expected : List Edge → List (List Said)
 expected [] = []

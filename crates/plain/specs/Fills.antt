@@ -1,5 +1,5 @@
 -- 02, U1: "own updates, summed over all boxes out, always equal the updates accepted since fresh, that number being counted
--- from the history". The bench calls what a fill tells the lid of a box.
+-- from the history". 02's "lids" are what fills tell.
 use Prim.Native.Nat.{ℕ, _+_}
 use mathlib.Core.Bool.{cond}
 use mathlib.Core.Path.{_≡_}

@@ -19,7 +19,7 @@ use Rattle.table.specs.declared.event.EventCheck.the-variants as event
 use Rattle.table.proofs.Calls.{client-is, given-is, event-cond}
 use Rattle.reading.specs.Checks.{queryCheck}
 
--- a refusal is handed on
+-- a refusal is passed on
 pub event-ends : (f q : EventCheck) (k : ℕ) (rest : Client → Revision → EventCheck) → f ≡ q → f ≡ event.Refused k → f ≡ onEvent q event.Refused rest
 unfolding onEvent
 event-ends f q k rest e h = h ∙ rw (sym e ∙ h)

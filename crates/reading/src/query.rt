@@ -27,7 +27,7 @@ use table::sound::TableCheck;
 use updates::standing::State;
 
 // The query is r's last event, and opens or continues its client's transaction.
-fn ask(t: &mut [u8], c: Client, r: Revision)
+fn record(t: &mut [u8], c: Client, r: Revision)
     requires { ⌜ (length (now t) ≡ bytes) × (c .0 < clients) × (r .0 < revisions) ⌝ }
     ensures { λ _. ⌜ now (t .exit) ≡ queryBytes (low (now (t .entry))) (c .0) (r .0) ++ high (now (t .entry)) ⌝ }
 {
@@ -71,7 +71,7 @@ fn query_sound(t: &mut [u8], client: u8, revision: u8, bib: u16) -> Reading
         },
         EventCheck::Allowed(c, r) => {
             let standing = standing_at(t, r, bib);
-            ask(t, c, r);
+            record(t, c, r);
             tell(standing)
         }
     }

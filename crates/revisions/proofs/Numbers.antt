@@ -11,9 +11,9 @@ use Rattle.fields.specs.declared.table.Client.{Client}
 use Rattle.fields.specs.declared.table.Revision.{Revision}
 use Rattle.fields.specs.declared.table.RevisionCheck.the-variants as revision
 use Rattle.fields.proofs.InRange.{below, known-revision, not-below, strange-revision}
-use Rattle.revisions.specs.Checks.{clientCheck, givenCheck, leftCheck}
+use Rattle.revisions.specs.Checks.{clientCheck, givenCheck, nextCheck}
 use Rattle.revisions.specs.declared.checks.GivenCheck.the-variants as given
-use Rattle.revisions.specs.declared.checks.LeftCheck.the-variants as left
+use Rattle.revisions.specs.declared.checks.NextCheck.the-variants as left
 use Rattle.revisions.specs.declared.checks.ClientCheck.the-variants.{Known, Strange}
 
 different : (c : Client) → Known c ≡ Strange → ⊥
@@ -52,10 +52,10 @@ module _ (d : List ℕ) (n : ℕ) (r : Revision) (e : revisionCheck n ≡ revisi
 
 -- 10
 module _ (d : List ℕ) (n : ℕ) (en : n ≡ cells d .given) where
-  pub none-left : revisionCheck n ≡ revision.Strange → left.Exhausted ≡ leftCheck d
-  unfolding leftCheck
+  pub none-left : revisionCheck n ≡ revision.Strange → left.Exhausted ≡ nextCheck d
+  unfolding nextCheck
   none-left e = rw (← en, le-ltb n revisions (strange-revision n e))
 
-  pub next-left : (r : Revision) → revisionCheck n ≡ revision.Known r → left.Next r ≡ leftCheck d
-  unfolding leftCheck
+  pub next-left : (r : Revision) → revisionCheck n ≡ revision.Known r → left.Next r ≡ nextCheck d
+  unfolding nextCheck
   next-left r e = rw (← en, lt-ltb n revisions (known-revision n r e .1)) (ap left.Next (sym (same-revision n r (known-revision n r e .0))))

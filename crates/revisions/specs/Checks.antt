@@ -21,10 +21,10 @@ use Rattle.revisions.specs.declared.checks.StaleCheck.{StaleCheck}
 use Rattle.revisions.specs.declared.checks.StaleCheck.the-variants as event
 use Rattle.revisions.specs.declared.checks.LogCheck.{LogCheck}
 use Rattle.revisions.specs.declared.checks.LogCheck.the-variants as log
-use Rattle.revisions.specs.declared.checks.LeftCheck.{LeftCheck}
-use Rattle.revisions.specs.declared.checks.LeftCheck.the-variants as left
-use Rattle.revisions.specs.declared.checks.JoinCheck.{JoinCheck}
-use Rattle.revisions.specs.declared.checks.JoinCheck.the-variants as join
+use Rattle.revisions.specs.declared.checks.NextCheck.{NextCheck}
+use Rattle.revisions.specs.declared.checks.NextCheck.the-variants as left
+use Rattle.revisions.specs.declared.checks.JoinableCheck.{JoinableCheck}
+use Rattle.revisions.specs.declared.checks.JoinableCheck.the-variants as join
 
 -- 1 "a cell is out of its range"
 unfoldable pub rangeCheck : List ℕ → RangeCheck
@@ -63,9 +63,9 @@ unfoldable pub logCheck : List ℕ → LogCheck
 logCheck d = cond (logFull (cells d)) log.Full log.Room
 
 -- 10 "64 boxes started"; else the next unused number
-unfoldable pub leftCheck : List ℕ → LeftCheck
-leftCheck d = cond (noneLeft (cells d)) left.Exhausted (left.Next (record { 0 = cells d .given }))
+unfoldable pub nextCheck : List ℕ → NextCheck
+nextCheck d = cond (noneLeft (cells d)) left.Exhausted (left.Next (record { 0 = cells d .given }))
 
 -- 11 "joinee is box 0, is the joiner, its fork isn't seen, or its start is"
-unfoldable pub joinableCheck : List ℕ → ℕ → ℕ → JoinCheck
+unfoldable pub joinableCheck : List ℕ → ℕ → ℕ → JoinableCheck
 joinableCheck d a b = cond (joinable (cells d) a b) join.Joinable join.Not

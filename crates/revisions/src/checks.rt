@@ -3,7 +3,7 @@ ghost use mathlib.Core.Path.{_≡_};
 ghost use Prim.Native.Nat.{_<_};
 ghost use lib.ListN.{length};
 ghost use Rattle.cells.specs.Sizes.{bytes, clients, revisions};
-ghost use Rattle.revisions.specs.Checks.{clientCheck, givenCheck, joinableCheck, joinedCheck, leftCheck, logCheck, openCheck, otherUseCheck, rangeCheck, staleCheck, useCheck};
+ghost use Rattle.revisions.specs.Checks.{clientCheck, givenCheck, joinableCheck, joinedCheck, nextCheck, logCheck, openCheck, otherUseCheck, rangeCheck, staleCheck, useCheck};
 use crate::range;
 use crate::transactions;
 use fields::numbers::wide;
@@ -11,6 +11,7 @@ use fields::read;
 use fields::table::Client;
 use fields::table::Revision;
 use fields::table::RevisionCheck;
+use fields::table::Table;
 use fields::table::check_revision;
 
 // Code 1: every cell in its range.
@@ -62,13 +63,13 @@ pub enum LogCheck {
 }
 
 // Code 10: the next revision number.
-pub enum LeftCheck {
+pub enum NextCheck {
     Next(Revision),
     Exhausted,
 }
 
 // Code 11: the joinee may be joined.
-pub enum JoinCheck {
+pub enum JoinableCheck {
     Joinable,
     Not,
 }
@@ -86,7 +87,7 @@ pub fn check_range(d: &[u8]) -> RangeCheck
 pub fn check_client(n: u8) -> ClientCheck
     ensures { λ r. ⌜ r ≡ clientCheck n ⌝ }
 {
-    if n < 16 {
+    if wide(n) < Table::CLIENTS {
         ClientCheck::Known(Client(n))
     } else {
         ClientCheck::Strange
@@ -165,34 +166,34 @@ pub fn check_log(d: &[u8]) -> LogCheck
     requires { ⌜ length (now d) ≡ bytes ⌝ }
     ensures { λ a. ⌜ a ≡ logCheck (now (d .entry)) ⌝ }
 {
-    if read::updates(d) < 4096 {
+    if read::updates(d) < Table::UPDATES {
         return LogCheck::Room;
     }
     LogCheck::Full
 }
 
-pub fn check_left(d: &[u8]) -> LeftCheck
+pub fn check_next(d: &[u8]) -> NextCheck
     requires { ⌜ length (now d) ≡ bytes ⌝ }
-    ensures { λ a. ⌜ a ≡ leftCheck (now (d .entry)) ⌝ }
+    ensures { λ a. ⌜ a ≡ nextCheck (now (d .entry)) ⌝ }
 {
     let RevisionCheck::Known(c) = check_revision(read::given(d) as u8) else {
-        return LeftCheck::Exhausted;
+        return NextCheck::Exhausted;
     };
-    LeftCheck::Next(c)
+    NextCheck::Next(c)
 }
 
-pub fn check_joinable(d: &[u8], a: Revision, b: Revision) -> JoinCheck
+pub fn check_joinable(d: &[u8], a: Revision, b: Revision) -> JoinableCheck
     requires { ⌜ (length (now d) ≡ bytes) × (a .0 < revisions) × (b .0 < revisions) ⌝ }
     ensures { λ r. ⌜ r ≡ joinableCheck (now (d .entry)) (a .0) (b .0) ⌝ }
 {
     if b.0 == 0 {
-        return JoinCheck::Not;
+        return JoinableCheck::Not;
     }
     if a.0 == b.0 {
-        return JoinCheck::Not;
+        return JoinableCheck::Not;
     }
     if read::seen(d, a, b) {
-        return JoinCheck::Joinable;
+        return JoinableCheck::Joinable;
     }
-    JoinCheck::Not
+    JoinableCheck::Not
 }

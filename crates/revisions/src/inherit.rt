@@ -34,7 +34,7 @@ fn forked_row(d: &[u8], p: Revision) -> [u8; Table::ROW]
     let mut marks = row::load(d, p);
     let mut i: usize = 0;
     while i < n {
-        // every link is below 4,096; the test spares its proof here
+        // every link is below 4,096, so the test never fails; with it no proof of that is needed here
         let u = number(own[i]);
         if u < 4096 {
             marks[u / 8] = bits::set(marks[u / 8], u % 8);

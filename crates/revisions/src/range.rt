@@ -1,5 +1,5 @@
 // Every cell in its range: fixed numbers, and no scan of rows, links or marks.
-// Nothing returns early, which lets the compiler take many cells at a time.
+// No loop returns early, so that the compiler can take many cells at a time.
 ghost use mathlib.Core.Path.{_≡_};
 ghost use Prim.Native.Nat.{_+_, _*_, _≤_};
 ghost use lib.ListN.{length};

@@ -31,7 +31,7 @@ use table::sound::TableCheck;
 use updates::kind;
 use updates::kind::KindCheck;
 
-// Whether the table takes what comes next.
+// Whether the next entry, or the yield, is refused.
 pub enum FitCheck {
     Fits,
     Refused(u8),
@@ -47,7 +47,7 @@ fn check_entry(number: u8, n: u16) -> KindCheck
     kind::check(number)
 }
 
-// 1 of the call after an update that made an own list longer than the log: on no day.
+// Code 1 of the next call, once an own list is longer than the log. No day makes such a list.
 fn check_own(own: usize) -> FitCheck
     ensures { λ r. ⌜ r ≡ ownCheck own ⌝ }
 {
@@ -102,7 +102,7 @@ fn enter(t: &mut [u8], c: Client, r: Revision, e: Entry)
     put(t, c, r, k, e.bib, e.v);
 }
 
-// All of them.
+// The first n entries, each as `enter` does it.
 fn enter_all(t: &mut [u8], c: Client, r: Revision, b: &[u8], n: usize)
     requires { ⌜ Going (now t) (c .0) (r .0) × (12 * n ≤ length (now b)) × (n ≤ 64) × (sentCheck (entriesFrom (now b) 0 n) (cellsOf (now t) .updates) (cellsOf (now t) .count (r .0)) ≡ fit.Fits) ⌝ }
     ensures { λ _. ⌜ now (t .exit) ≡ enteredAll (now (t .entry)) (c .0) (r .0) (entriesFrom (now (b .entry)) 0 n) ⌝ }

@@ -58,7 +58,7 @@ pub pair-cond : {A : Type 0} (b : Bool) (x y : PairCheck) (end : ℕ → A) (res
     → onPair (cond b x y) end rest ≡ cond b (onPair x end rest) (onPair y end rest)
 pair-cond b x y end rest = over (λ z. onPair z end rest) b x y
 
--- a refusal is handed on
+-- a refusal is passed on
 pub pair-ends : (f q : PairCheck) (k : ℕ) (rest : Revision → Revision → PairCheck) → f ≡ q → f ≡ pair.Refused k → f ≡ onPair q pair.Refused rest
 unfolding onPair
 pair-ends f q k rest e h = h ∙ rw (sym e ∙ h)

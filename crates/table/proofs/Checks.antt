@@ -21,7 +21,7 @@ use Rattle.revisions.specs.declared.checks.JoinedCheck.the-variants as out
 use Rattle.revisions.specs.declared.checks.OpenCheck.the-variants as transaction
 use Rattle.revisions.specs.declared.checks.UseCheck.the-variants as revision
 use Rattle.revisions.specs.declared.checks.StaleCheck.the-variants as event
-use Rattle.revisions.specs.declared.checks.JoinCheck.the-variants as join
+use Rattle.revisions.specs.declared.checks.JoinableCheck.the-variants as join
 use Rattle.table.specs.Checks.{bibCheck, quietCheck}
 use Rattle.table.specs.Found.{onGiven}
 use Rattle.table.specs.declared.bib.BibCheck.the-variants as bib

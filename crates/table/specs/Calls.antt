@@ -139,11 +139,19 @@ bundleOut t c n records =
     check (isWrong records) 14 t (
     settled t (sentOut t c n (entriesIn records))))
 
+-- the same of "a lent list of entries": of 14 only the count can apply
+unfoldable pub entriesOut : List ℕ → ℕ → ℕ → List Entry → Out
+entriesOut t c n es =
+    check (not (isTable t)) 1 t (
+    check (eqb (length es) 0 || ltb 64 (length es)) 14 t (
+    settled t (sentOut t c n es)))
+
 -- 02, U6: refusals are "with state neither and gain 0"
 abbrev pub noProspect : ℕ → Prospect
 noProspect code = record { code = code; state = Neither; value = 0; gain = 0 }
 
--- the standing of a bib once m is joined into n: what is visible at n, then what the join brings, m's own updates
+-- the standing of a bib once m is joined into n: what is visible at n, then what the join brings, m's own updates. On a day as in demand 3 it
+-- is what the joined copy shows (`previews-follow-joins`, `consistency`); on contents that no day made it follows from the cells as they are
 unfoldable pub standingAfter : List ℕ → ℕ → ℕ → ℕ → Standing
 standingAfter t n m bib = standingOf (entryAt (high t)) bib (order (cellsOf t) n ++ own (cellsOf t) m)
 

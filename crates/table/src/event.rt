@@ -2,7 +2,8 @@
 ghost use mathlib.Core.Path.{_≡_};
 ghost use Prim.Native.Nat.{_<_};
 ghost use lib.ListN.{length};
-ghost use Rattle.cells.specs.Sizes.{bytes, clients, revisions};
+ghost use Rattle.cells.specs.Sizes as Lower;
+ghost use Rattle.cells.specs.Sizes.{clients, revisions};
 ghost use Rattle.table.specs.Checks.{eventIn, placeCheck, turnCheck};
 use fields::table::Client;
 use fields::table::Revision;
@@ -21,7 +22,7 @@ pub enum EventCheck {
 
 // 2, 3, 4: a client, and a revision that is out.
 pub fn check_place(d: &[u8], client: u8, revision: u8) -> EventCheck
-    requires { ⌜ length (now d) ≡ bytes ⌝ }
+    requires { ⌜ length (now d) ≡ Lower.bytes ⌝ }
     ensures { λ a. ⌜ (a ≡ placeCheck (now (d .entry)) client revision) × eventIn a ⌝ }
 {
     let ClientCheck::Known(c) = checks::check_client(client) else {
@@ -38,7 +39,7 @@ pub fn check_place(d: &[u8], client: u8, revision: u8) -> EventCheck
 
 // 6, 7, 8: the client may have its next event on the revision.
 pub fn check_turn(d: &[u8], c: Client, r: Revision) -> EventCheck
-    requires { ⌜ (length (now d) ≡ bytes) × (c .0 < clients) × (r .0 < revisions) ⌝ }
+    requires { ⌜ (length (now d) ≡ Lower.bytes) × (c .0 < clients) × (r .0 < revisions) ⌝ }
     ensures { λ a. ⌜ (a ≡ turnCheck (now (d .entry)) c r) × eventIn a ⌝ }
 {
     let OpenCheck::Clear = checks::check_open(d, c, r) else {

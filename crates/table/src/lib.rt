@@ -6,5 +6,6 @@ pub mod event; // event.rt: the checks that update and query share
 pub mod meet; // meet.rt: the checks of a join
 pub mod pair; // pair.rt: what the checks of fork and join find
 pub mod quiet; // quiet.rt: the checks of a revision that must not be busy
+pub mod sizes; // sizes.rt: the sizes that the lower half does not know
 pub mod sound; // sound.rt: the check that the buffer is a table
 pub mod visible; // visible.rt: the updates visible at a revision

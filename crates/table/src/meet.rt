@@ -9,7 +9,7 @@ use crate::pair::PairCheck;
 use fields::table::Revision;
 use revisions::checks;
 use revisions::checks::GivenCheck;
-use revisions::checks::JoinCheck;
+use revisions::checks::JoinableCheck;
 use revisions::checks::JoinedCheck;
 use revisions::checks::UseCheck;
 
@@ -44,7 +44,7 @@ fn check_meet(d: &[u8], a: Revision, b: Revision) -> PairCheck
     let UseCheck::Free = checks::check_use(d, b) else {
         return PairCheck::Refused(7);
     };
-    let JoinCheck::Joinable = checks::check_joinable(d, a, b) else {
+    let JoinableCheck::Joinable = checks::check_joinable(d, a, b) else {
         return PairCheck::Refused(11);
     };
     PairCheck::Allowed(a, b)

@@ -1,7 +1,7 @@
 // Checks 3, 4 and 7 of a revision that must not be busy: for fork and list.
 ghost use mathlib.Core.Path.{_≡_};
 ghost use lib.ListN.{length};
-ghost use Rattle.cells.specs.Sizes.{bytes};
+ghost use Rattle.cells.specs.Sizes as Lower;
 ghost use Rattle.table.specs.Checks.{quietCheck};
 use fields::table::Revision;
 use revisions::checks;
@@ -15,7 +15,7 @@ pub enum QuietCheck {
 }
 
 pub fn check_quiet(d: &[u8], n: u8) -> QuietCheck
-    requires { ⌜ length (now d) ≡ bytes ⌝ }
+    requires { ⌜ length (now d) ≡ Lower.bytes ⌝ }
     ensures { λ r. ⌜ r ≡ quietCheck (now (d .entry)) n ⌝ }
 {
     let GivenCheck::Given(r) = checks::check_given(d, n) else {

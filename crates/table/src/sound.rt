@@ -1,6 +1,7 @@
 // Code 1: the buffer has the length of a table, and is a table.
 ghost use mathlib.Core.Path.{_≡_};
 ghost use Rattle.table.specs.Checks.{lengthCheck, tableCheck};
+use crate::sizes::Whole;
 use revisions::checks;
 use revisions::checks::RangeCheck;
 
@@ -17,7 +18,7 @@ pub enum TableCheck {
 pub fn check_length(t: &[u8]) -> LengthCheck
     ensures { λ r. ⌜ r ≡ lengthCheck (now (t .entry)) ⌝ }
 {
-    if t.len() == 65536 {
+    if t.len() == Whole::BYTES {
         return LengthCheck::Right;
     }
     LengthCheck::Wrong

@@ -7,6 +7,7 @@ use Rattle.updates.specs.declared.kind.Kind.the-variants.{Time, Earliest
 use Rattle.updates.specs.declared.kind.KindCheck.{KindCheck}
 use Rattle.updates.specs.declared.kind.KindCheck.the-variants.{Known, Unknown}
 
+-- "1. Time", "2. Earliest", "3. Penalty", "4. Strike"
 unfoldable pub kindNumber : Kind → ℕ
 kindNumber Time = 1
 kindNumber Earliest = 2
@@ -19,5 +20,6 @@ kindCheck n =
     cond (eqb n 1) (Known Time)
     (cond (eqb n 2) (Known Earliest) (cond (eqb n 3) (Known Penalty) (cond (eqb n 4) (Known Strike) Unknown)))
 
+-- "bib above 999"
 abbrev pub badBib : ℕ → Bool
 badBib bib = not (ltb bib 1000)

@@ -2,7 +2,7 @@
 use Prim.{tt}
 use mathlib.Core.Path.{sym, _∙_}
 use borrow.Author.Needs.{needs}
-use Rattle.table.specs.Found.{onLeft, onQuiet}
+use Rattle.table.specs.Found.{onNext, onQuiet}
 use Rattle.branching.specs.Checks.{forkCheck}
 use Rattle.table.proofs.Checks.{quiet-in}
 use Rattle.branching.proofs.Checks.{next}
@@ -10,22 +10,22 @@ use Rattle.branching.proofs.fork.check_fork.Statement.{statement}
 use Rattle.branching.proofs.fork.check_fork.Tie as tie
 
 returns : tie.Need-returns
-unfolding forkCheck onQuiet onLeft
+unfolding forkCheck onQuiet onNext
 returns c =
     let k = c .before .before .before in
     let e = sym (k .before .before .before .check-quiet .ensures) ∙ k .before .found2 .given .1 in
-    (rw (e, sym (c .before .before .check-left .ensures) ∙ c .enum-told .given .1), tt)
+    (rw (e, sym (c .before .before .check-next .ensures) ∙ c .enum-told .given .1), tt)
 
 returns-2 : tie.Need-returns-2
 unfolding forkCheck onQuiet
 returns-2 c = (rw (sym (c .before .before .before .check-quiet .ensures) ∙ c .before .found .given .1), tt)
 
 returns-3 : tie.Need-returns-3
-unfolding forkCheck onQuiet onLeft
+unfolding forkCheck onQuiet onNext
 returns-3 c =
     let k = c .before .before .before .before in
     let e = sym (k .before .before .before .check-quiet .ensures) ∙ k .before .found2 .given .1 in
-    let f = sym (c .before .before .before .check-left .ensures) ∙ c .before .c .given .1 in
+    let f = sym (c .before .before .before .check-next .ensures) ∙ c .before .c .given .1 in
     let n = next _ _ f in
     (rw (e, f), (quiet-in _ _ _ e, n .0, n .1))
 

@@ -9,8 +9,8 @@ use Rattle.branching.proofs.Calls.{same-taken}
 use Rattle.branching.proofs.join.join_sound.Statement.{statement}
 use Rattle.branching.proofs.join.join_sound.Tie as tie
 
-gain-requires : tie.Need-gain-requires
-gain-requires c κs =
+join-lower-requires : tie.Need-join-lower-requires
+join-lower-requires c κs =
     let at-found = c .before .before in
     let at-check = at-found .before .before in
     let start = at-check .before .before .before .before in
@@ -28,12 +28,12 @@ returns c =
 returns-2 : tie.Need-returns-2
 unfolding low onPair
 returns-2 c =
-    let at-gain = c .before .before in
-    let at-found = at-gain .before .before .before in
+    let at-join = c .before .before in
+    let at-found = at-join .before .before .before in
     let at-check = at-found .before .before in
     let start = at-check .before .before .before .before in
     let s = start .args in
-    same-taken _ _ _ _ (at-gain .gain .ensures .1) (at-gain .gain .ensures .0)
+    same-taken _ _ _ _ (at-join .join-lower .ensures .1) (at-join .join-lower .ensures .0)
     ∙ join-by (s .t .now) (start .pre .0) (s .joiner) (s .joinee) _ (sym (at-check .check-join .ensures .0) ∙ at-found .found2 .given .1)
 
 pub join-sound-spec : {M : Type 1} → statement M
@@ -44,7 +44,7 @@ join-sound-spec = tie.close (tie.spec
     (λ c κs. low-length (c .before .before .before .args .t .now) (c .before .before .before .pre .1))
     (λ c. search needs)
     (λ c. search needs)
-    gain-requires
+    join-lower-requires
     (λ c. search needs)
     returns
     (λ c. search needs)

@@ -1,4 +1,5 @@
 -- `fields::table::check_revision` meets its contract: the test decides. Assumes nothing.
+use borrow.Author.Needs.{needs}
 use borrow.Author.Tests.{le-ltb, lt-ltb}
 use Rattle.fields.specs.Numbers.{revisionCheck}
 use Rattle.fields.proofs.table.check_revision.Statement.{statement}
@@ -6,11 +7,11 @@ use Rattle.fields.proofs.table.check_revision.Tie as tie
 
 returns : tie.Need-returns
 unfolding revisionCheck
-returns c = simp (lt-ltb _ _ (c .if1 .taken))
+returns c = simp (lt-ltb _ _ (rw (c .before .wide .ensures .0) at (c .if1 .taken)))
 
 returns-2 : tie.Need-returns-2
 unfolding revisionCheck
-returns-2 c = simp (le-ltb _ _ (c .if1 .left))
+returns-2 c = simp (le-ltb _ _ (rw (c .before .wide .ensures .0) at (c .if1 .left)))
 
 pub check-revision-spec : {M : Type 1} → statement M
-check-revision-spec = tie.close (tie.spec returns returns-2)
+check-revision-spec = tie.close (tie.spec (λ c κs. search needs) returns returns-2)

@@ -3,8 +3,7 @@ use mathlib.Core.Path.{_∙_, ap}
 use native.Mathlib.Omega.{arith}
 use lib.ListN.{take}
 use borrow.Author.Needs.{needs}
-use Rattle.bundles.specs.Records.{recordsOf}
-use Rattle.table.specs.Calls.{bundleOut}
+use Rattle.table.specs.Calls.{entriesOut}
 use Rattle.lending.proofs.Packed.{among-most}
 use Rattle.lending.proofs.lent.bundle_entries.Statement.{statement}
 use Rattle.lending.proofs.lent.bundle_entries.Tie as tie
@@ -17,7 +16,7 @@ returns c =
     let at-call = c .before .before in
     let at-count = at-call .before .before in
     let s = at-count .before .before .args in
-    at-call .bundle-first .ensures ∙ ap (λ k. bundleOut (s .t .now) (s .client) (s .revision) (recordsOf (take k (s .entries)))) (at-count .among .ensures)
+    at-call .bundle-first .ensures ∙ ap (λ k. entriesOut (s .t .now) (s .client) (s .revision) (take k (s .entries))) (at-count .among .ensures)
 
 pub bundle-entries-spec : {M : Type 1} → statement M
 bundle-entries-spec = tie.close (tie.spec (λ c κs. search needs) bundle-first-requires (λ c. search needs) returns)

@@ -44,10 +44,9 @@ use denote.Triple.Walked.{says, needs, Stays, stay-none, gave-slice, walkOf, goe
 use denote.Exit.{yes}
 use denote.Triple.Clauses.{ensured, lasts}
 use Rattle.bundles.specs.declared.entry.Entry.{Entry}
-use Rattle.bundles.specs.Records.{recordsOf}
 use Rattle.table.specs.declared.answer.Answer.{Answer}
 use Rattle.table.specs.Answers.{left}
-use Rattle.table.specs.Calls.{bundleOut}
+use Rattle.table.specs.Calls.{entriesOut}
 use Rattle.bundles.proofs.entry.Entry as E
 use Rattle.bundles.proofs.entry.Entry.Laws as E′
 use Rattle.table.proofs.answer.Answer as R
@@ -55,9 +54,9 @@ use Rattle.table.proofs.answer.Answer.Laws as R′
 use Rattle.lending.proofs.Lend.{Owed, Rest, Shown, array, back, lends}
 use Rattle.lending.proofs.lent.bundle_of as onto
 use Rattle.lending.proofs.lent.bundle_of.Symbol as onto-def
-use Rattle.lending.proofs.lent.bundle_of.Symbol.{name as #sending·sent·bundle-of}
+use Rattle.lending.proofs.lent.bundle_of.Symbol.{name as #lending·lent·bundle-of}
 use Rattle.lending.proofs.lent.bundle_of.Met as onto-thm
-use Rattle.lending.proofs.lent.bundle_first.Key.{name as #sending·sent·bundle-first}
+use Rattle.lending.proofs.lent.bundle_first.Key.{name as #lending·lent·bundle-first}
 use Rattle.lending.proofs.lent.bundle_first as lent
 use Rattle.lending.proofs.lent.bundle_first.Statement as stated
 use Rattle.lending.proofs.lent.bundle_first.Code as code
@@ -108,7 +107,7 @@ module _ {M : Type 1} (𝓤 : URA M) (H : Heap 𝓤) (A : Atoms 𝓤) (W : Given
 
   -- what is said of the answer t and the last bytes zs
   abbrev Said : Answer → List ℕ → Type 0
-  Said t zs = left t zs ≡ bundleOut (x .now) c r (recordsOf (take n es))
+  Said t zs = left t zs ≡ entriesOut (x .now) c r (take n es)
 
   -- the call of `bundle_of`, for the lifetime ν, at the entries lent under the name γ from the local at b
   module _ (b ν : ℕ) (γ : GName) where
@@ -139,7 +138,7 @@ module _ {M : Type 1} (𝓤 : URA M) (H : Heap 𝓤) (A : Atoms 𝓤) (W : Given
       owned ! u8 (Is u8) (uint-makes 𝓤 H A W w8) r _ (refl, r-fits) $ fjoin ! $ owned ! u8 (Is u8) (uint-makes 𝓤 H A W w8) c _ (refl, c-fits) $ fjoin ! $
       move ! (2 ∷ 0 ∷ []) $ fjoin ! $ frame ! $ done !
 
-  module _ (C : Calls 𝓤 H) (Λ : Loops 𝓤 H) (fm : FmC 𝓤 H (W .laws) C) (known-onto : Triple 𝓤 (C #sending·sent·bundle-of) (Onto 𝓤 H A mem run)) where
+  module _ (C : Calls 𝓤 H) (Λ : Loops 𝓤 H) (fm : FmC 𝓤 H (W .laws) C) (known-onto : Triple 𝓤 (C #lending·lent·bundle-of) (Onto 𝓤 H A mem run)) where
     module _ (l₀ l₁ l₂ l₃ l₄ l₅ l₆ l₇ l₈ l₉ l₁₀ : ℕ) where
       abbrev byte : Ty
       byte = tyInt w8
@@ -212,7 +211,7 @@ module _ {M : Type 1} (𝓤 : URA M) (H : Heap 𝓤) (A : Atoms 𝓤) (W : Given
         move ! (2 ∷ []) $ called l₀ l₁ l₂ l₃ l₄ l₅ l₆ l₇ l₈ l₉ l₁₀ ν γ)))))))))))))
 
 module _ {M : Type 1} (𝓤 : URA M) (H : Heap 𝓤) (A : Atoms 𝓤) (W : Given 𝓤 H A) (mem : Memory → SProp 𝓤) (run : Routine → Fun 𝓤) where
-  lent-walks : (C : Calls 𝓤 H) (Λ : Loops 𝓤 H) → FmC 𝓤 H (W .laws) C → Triple 𝓤 (C #sending·sent·bundle-of) (Onto 𝓤 H A mem run)
+  lent-walks : (C : Calls 𝓤 H) (Λ : Loops 𝓤 H) → FmC 𝓤 H (W .laws) C → Triple 𝓤 (C #lending·lent·bundle-of) (Onto 𝓤 H A mem run)
       → Walks 𝓤 H A lent.ended stayed (WpFn 𝓤 H C Λ code.function) (lent.clauses 𝓤 H A mem run)
   lent-walks C Λ fm known-onto = walked 𝓤 H A lent.ended stayed (lent.clauses 𝓤 H A mem run) (WpFn 𝓤 H C Λ code.function)
       (λ κs. (slice-vals, (uint-vals w8, (uint-vals w8, (array-value, (uint-vals w64, tt))))))
@@ -225,7 +224,7 @@ module _ {M : Type 1} (𝓤 : URA M) (H : Heap 𝓤) (A : Atoms 𝓤) (W : Given
       (are .1 .1 .1 .0) long (length-take-le n es (omega (arith, most, long))) C Λ fm known-onto (are .0)))
 
 lent-meets : {M : Type 1} (𝓤 : URA M) (H : Heap 𝓤) (A : Atoms 𝓤) (W : Given 𝓤 H A) (mem : Memory → SProp 𝓤) (run : Routine → Fun 𝓤) (𝓣 : Tables 𝓤 H)
-    → Triple 𝓤 (𝓣 .C #sending·sent·bundle-of) (Onto 𝓤 H A mem run)
+    → Triple 𝓤 (𝓣 .C #lending·lent·bundle-of) (Onto 𝓤 H A mem run)
     → Meets 𝓤 H A lent.signature (WpFn 𝓤 H (𝓣 .C) (𝓣 .Λ) code.function) (lent.spec 𝓤 H A mem run)
 lent-meets 𝓤 H A W mem run 𝓣 known-onto =
     walk-meets 𝓤 H A lent.ended stayed W
@@ -236,6 +235,6 @@ pub bundle-first-spec : {M : Type 1} → stated.statement M
 unfolding code.routine tablesOf
 bundle-first-spec 𝓤 H 𝓜 𝓖 𝓡 =
     entered 𝓤 H (tripleOf 𝓤 H (𝓖 .A) lent.signature (lent.spec 𝓤 H (𝓖 .A) (𝓜 .mem) (𝓡 .run)))
-    (tables 𝓤 H 𝓜 𝓡 code.env .C) (tables 𝓤 H 𝓜 𝓡 code.env .Λ) #sending·sent·bundle-first code.function (code.unfolded 𝓤 H 𝓜 𝓡)
+    (tables 𝓤 H 𝓜 𝓡 code.env .C) (tables 𝓤 H 𝓜 𝓡 code.env .Λ) #lending·lent·bundle-first code.function (code.unfolded 𝓤 H 𝓜 𝓡)
     (lent-meets 𝓤 H (𝓖 .A) (givenOf 𝓤 H 𝓜 𝓖) (𝓜 .mem) (𝓡 .run) (tablesOf 𝓤 H 𝓜 (tables 𝓤 H 𝓜 𝓡 code.env))
-    (cited 𝓤 H (Onto 𝓤 H (𝓖 .A) (𝓜 .mem) (𝓡 .run)) 𝓜 𝓡 code.env #sending·sent·bundle-of onto-def.routine code.calls-lending·lent·bundle-of (onto-thm.met 𝓤 H 𝓜 𝓖 𝓡)))
+    (cited 𝓤 H (Onto 𝓤 H (𝓖 .A) (𝓜 .mem) (𝓡 .run)) 𝓜 𝓡 code.env #lending·lent·bundle-of onto-def.routine code.calls-lending·lent·bundle-of (onto-thm.met 𝓤 H 𝓜 𝓖 𝓡)))

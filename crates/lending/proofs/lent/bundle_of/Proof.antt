@@ -42,10 +42,9 @@ use denote.Triple.Clauses.{ensured, lasts}
 use Rattle.bundles.specs.declared.entry.Entry.{Entry}
 use Rattle.bundles.specs.declared.pack.Packed.{Packed}
 use Rattle.bundles.specs.Packed.{packedOf, recordsIn}
-use Rattle.bundles.specs.Records.{recordsOf}
 use Rattle.table.specs.declared.answer.Answer.{Answer}
 use Rattle.table.specs.Answers.{left}
-use Rattle.table.specs.Calls.{bundleOut}
+use Rattle.table.specs.Calls.{bundleOut, entriesOut}
 use Rattle.lending.proofs.Packed.{packed-is}
 use Rattle.bundles.proofs.entry.Entry as E
 use Rattle.bundles.proofs.pack.Packed as P
@@ -58,9 +57,9 @@ use Rattle.bundles.proofs.pack.pack.Symbol.{name as #bundles·pack·pack}
 use Rattle.bundles.proofs.pack.pack.Met as pack-thm
 use Rattle.lending.proofs.lent.bundle_packed as onto
 use Rattle.lending.proofs.lent.bundle_packed.Symbol as onto-def
-use Rattle.lending.proofs.lent.bundle_packed.Symbol.{name as #sending·sent·bundle-packed}
+use Rattle.lending.proofs.lent.bundle_packed.Symbol.{name as #lending·lent·bundle-packed}
 use Rattle.lending.proofs.lent.bundle_packed.Met as onto-thm
-use Rattle.lending.proofs.lent.bundle_of.Key.{name as #sending·sent·bundle-of}
+use Rattle.lending.proofs.lent.bundle_of.Key.{name as #lending·lent·bundle-of}
 use Rattle.lending.proofs.lent.bundle_of as sent
 use Rattle.lending.proofs.lent.bundle_of.Statement as stated
 use Rattle.lending.proofs.lent.bundle_of.Code as code
@@ -126,7 +125,7 @@ module _ {M : Type 1} (𝓤 : URA M) (H : Heap 𝓤) (A : Atoms 𝓤) (W : Given
       qed W (‵ (P.the-row .own p (u ∷ [])) ∷ ‵ (flft κ q) ∷ ‵ Table ∷ []) ∵ nothing ! $ move ! (1 ∷ 0 ∷ []) $ fjoin ! $ owned ! u8 (Is u8) (uint-makes 𝓤 H A W w8) r _ (refl, r-fits) $ fjoin ! $
       owned ! u8 (Is u8) (uint-makes 𝓤 H A W w8) c _ (refl, c-fits) $ fjoin ! $ move ! (2 ∷ 0 ∷ []) $ fjoin ! $ nothing ! $ move ! (2 ∷ 0 ∷ []) $ join ! $ join ! $ frame ! $ done !
 
-  exits : (t : Answer) (w : Val) (zs : List ℕ) → left t zs ≡ bundleOut (x .now) c r (recordsOf (y .now)) → length zs ≡ length (x .now)
+  exits : (t : Answer) (w : Val) (zs : List ℕ) → left t zs ≡ entriesOut (x .now) c r (y .now) → length zs ≡ length (x .now)
       → ent 𝓤 (⋆ 𝓤 H A (‵ (R.the-row .own t (w ∷ [])) ∷ ‵ (finally u8 (x .name) zs) ∷ ‵ (flft κ q) ∷ ‵ (flft κ′ q′) ∷ ‵ Lent ∷ [])) (Post w)
   exits t w zs e l =
       qed W (‵ (R.the-row .own t (w ∷ [])) ∷ ‵ (finally u8 (x .name) zs) ∷ ‵ (flft κ q) ∷ ‵ (flft κ′ q′) ∷ ‵ Lent ∷ []) ∵
@@ -137,7 +136,7 @@ module _ {M : Type 1} (𝓤 : URA M) (H : Heap 𝓤) (A : Atoms 𝓤) (W : Given
       nothing ! $ move ! (3 ∷ 0 ∷ []) $ fjoin ! $ owned ! u8 (Is u8) (uint-makes 𝓤 H A W w8) r _ (refl, r-fits) $ fjoin ! $ owned ! u8 (Is u8) (uint-makes 𝓤 H A W w8) c _ (refl, c-fits) $ fjoin ! $
       move ! (2 ∷ 0 ∷ []) $ fjoin ! $ frame ! $ done !
 
-  module _ (C : Calls 𝓤 H) (Λ : Loops 𝓤 H) (fm : FmC 𝓤 H (W .laws) C) (known-pack : Triple 𝓤 (C #bundles·pack·pack) (Pack 𝓤 H A mem run)) (known-onto : Triple 𝓤 (C #sending·sent·bundle-packed) (Onto 𝓤 H A mem run)) where
+  module _ (C : Calls 𝓤 H) (Λ : Loops 𝓤 H) (fm : FmC 𝓤 H (W .laws) C) (known-pack : Triple 𝓤 (C #bundles·pack·pack) (Pack 𝓤 H A mem run)) (known-onto : Triple 𝓤 (C #lending·lent·bundle-packed) (Onto 𝓤 H A mem run)) where
     module _ (l₀ l₁ l₂ l₃ l₄ l₅ l₆ l₇ : ℕ) where
       abbrev byte : Ty
       byte = tyInt w8
@@ -205,7 +204,7 @@ module _ {M : Type 1} (𝓤 : URA M) (H : Heap 𝓤) (A : Atoms 𝓤) (W : Given
         move ! (0 ∷ 2 ∷ 1 ∷ 3 ∷ []) $ packs l₀ l₁ l₂ l₃ l₄ l₅ l₆ l₇ (is-t .0 .1 .0)))))))))
 
 module _ {M : Type 1} (𝓤 : URA M) (H : Heap 𝓤) (A : Atoms 𝓤) (W : Given 𝓤 H A) (mem : Memory → SProp 𝓤) (run : Routine → Fun 𝓤) where
-  sent-walks : (C : Calls 𝓤 H) (Λ : Loops 𝓤 H) → FmC 𝓤 H (W .laws) C → Triple 𝓤 (C #bundles·pack·pack) (Pack 𝓤 H A mem run) → Triple 𝓤 (C #sending·sent·bundle-packed) (Onto 𝓤 H A mem run)
+  sent-walks : (C : Calls 𝓤 H) (Λ : Loops 𝓤 H) → FmC 𝓤 H (W .laws) C → Triple 𝓤 (C #bundles·pack·pack) (Pack 𝓤 H A mem run) → Triple 𝓤 (C #lending·lent·bundle-packed) (Onto 𝓤 H A mem run)
       → Walks 𝓤 H A sent.ended stayed (WpFn 𝓤 H C Λ code.function) (sent.clauses 𝓤 H A mem run)
   sent-walks C Λ fm known-pack known-onto = walked 𝓤 H A sent.ended stayed (sent.clauses 𝓤 H A mem run) (WpFn 𝓤 H C Λ code.function)
       (λ κs. (slice-vals, (uint-vals w8, (uint-vals w8, (slice-vals, tt))))) (λ κs. (mut-slice-tells (named 0) (κs .0) u8, (uint-tells w8, (uint-tells w8, (shr-slice-tells (named 1) (κs .1 .0) E.the-row, tt)))))
@@ -213,7 +212,7 @@ module _ {M : Type 1} (𝓤 : URA M) (H : Heap 𝓤) (A : Atoms 𝓤) (W : Given
       (walk 𝓤 H A W mem run (κs .0) (κs .1 .0) (qs .0) (qs .1 .0) (a .0) (a .1 .0) (a .1 .1 .0) (a .1 .1 .1 .0) (are .1 .0 .1) (are .1 .1 .0 .1) C Λ fm known-pack known-onto (are .0) (are .1 .1 .1 .0)))
 
 sent-meets : {M : Type 1} (𝓤 : URA M) (H : Heap 𝓤) (A : Atoms 𝓤) (W : Given 𝓤 H A) (mem : Memory → SProp 𝓤) (run : Routine → Fun 𝓤) (𝓣 : Tables 𝓤 H)
-    → Triple 𝓤 (𝓣 .C #bundles·pack·pack) (Pack 𝓤 H A mem run) → Triple 𝓤 (𝓣 .C #sending·sent·bundle-packed) (Onto 𝓤 H A mem run)
+    → Triple 𝓤 (𝓣 .C #bundles·pack·pack) (Pack 𝓤 H A mem run) → Triple 𝓤 (𝓣 .C #lending·lent·bundle-packed) (Onto 𝓤 H A mem run)
     → Meets 𝓤 H A sent.signature (WpFn 𝓤 H (𝓣 .C) (𝓣 .Λ) code.function) (sent.spec 𝓤 H A mem run)
 sent-meets 𝓤 H A W mem run 𝓣 known-pack known-onto =
     walk-meets 𝓤 H A sent.ended stayed W
@@ -224,7 +223,7 @@ pub bundle-of-spec : {M : Type 1} → stated.statement M
 unfolding code.routine tablesOf
 bundle-of-spec 𝓤 H 𝓜 𝓖 𝓡 =
     entered 𝓤 H (tripleOf 𝓤 H (𝓖 .A) sent.signature (sent.spec 𝓤 H (𝓖 .A) (𝓜 .mem) (𝓡 .run)))
-    (tables 𝓤 H 𝓜 𝓡 code.env .C) (tables 𝓤 H 𝓜 𝓡 code.env .Λ) #sending·sent·bundle-of code.function (code.unfolded 𝓤 H 𝓜 𝓡)
+    (tables 𝓤 H 𝓜 𝓡 code.env .C) (tables 𝓤 H 𝓜 𝓡 code.env .Λ) #lending·lent·bundle-of code.function (code.unfolded 𝓤 H 𝓜 𝓡)
     (sent-meets 𝓤 H (𝓖 .A) (givenOf 𝓤 H 𝓜 𝓖) (𝓜 .mem) (𝓡 .run) (tablesOf 𝓤 H 𝓜 (tables 𝓤 H 𝓜 𝓡 code.env))
     (cited 𝓤 H (Pack 𝓤 H (𝓖 .A) (𝓜 .mem) (𝓡 .run)) 𝓜 𝓡 code.env #bundles·pack·pack pack-def.routine code.calls-bundles·pack·pack (pack-thm.met 𝓤 H 𝓜 𝓖 𝓡))
-    (cited 𝓤 H (Onto 𝓤 H (𝓖 .A) (𝓜 .mem) (𝓡 .run)) 𝓜 𝓡 code.env #sending·sent·bundle-packed onto-def.routine code.calls-lending·lent·bundle-packed (onto-thm.met 𝓤 H 𝓜 𝓖 𝓡)))
+    (cited 𝓤 H (Onto 𝓤 H (𝓖 .A) (𝓜 .mem) (𝓡 .run)) 𝓜 𝓡 code.env #lending·lent·bundle-packed onto-def.routine code.calls-lending·lent·bundle-packed (onto-thm.met 𝓤 H 𝓜 𝓖 𝓡)))

@@ -12,8 +12,8 @@ standing-at-requires c κs =
     let i = rw (at-found .found2 .given .1) at (at-check .check-query .ensures .1) in
     (start .pre .1, start .pre .2, i .1)
 
-ask-requires : tie.Need-ask-requires
-ask-requires c κs =
+record-requires : tie.Need-record-requires
+record-requires c κs =
     let at-found = c .before .before .before .before in
     let at-check = at-found .before .before in
     let start = at-check .before .before .before in
@@ -29,13 +29,13 @@ returns c =
 
 returns-2 : tie.Need-returns-2
 returns-2 c =
-    let at-ask = c .before .before .before in
-    let at-value = at-ask .before .before in
+    let at-record = c .before .before .before in
+    let at-value = at-record .before .before in
     let at-found = at-value .before .before .before in
     let at-check = at-found .before .before in
     let start = at-check .before .before .before in
     let s = start .args in
-    query-answered (s .t .now) (start .pre .0) (s .client) (s .revision) (s .bib) (at-check .check-query .result) (at-check .check-query .ensures .0) (at-found .found2 .given .0 .0) (at-found .found2 .given .0 .1 .0) (at-found .found2 .given .1) (c .tell .ensures) (at-ask .ask .ensures) (at-value .standing-at .ensures)
+    query-answered (s .t .now) (start .pre .0) (s .client) (s .revision) (s .bib) (at-check .check-query .result) (at-check .check-query .ensures .0) (at-found .found2 .given .0 .0) (at-found .found2 .given .0 .1 .0) (at-found .found2 .given .1) (c .tell .ensures) (at-record .record .ensures) (at-value .standing-at .ensures)
 
 pub query-sound-spec : {M : Type 1} → statement M
 query-sound-spec = tie.close (tie.spec
@@ -43,7 +43,7 @@ query-sound-spec = tie.close (tie.spec
     (λ c. search needs)
     (λ c. search needs)
     standing-at-requires
-    ask-requires
+    record-requires
     (λ c κs. search needs)
     (λ c. search needs)
     returns

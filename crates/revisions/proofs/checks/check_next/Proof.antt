@@ -1,9 +1,9 @@
--- `revisions::checks::check_left` meets its contract: the count decides. Assumes nothing.
+-- `revisions::checks::check_next` meets its contract: the count decides. Assumes nothing.
 use mathlib.Core.Path.{sym, _∙_}
 use borrow.Author.Needs.{needs}
 use Rattle.revisions.proofs.Numbers.{none-left, next-left}
-use Rattle.revisions.proofs.checks.check_left.Statement.{statement}
-use Rattle.revisions.proofs.checks.check_left.Tie as tie
+use Rattle.revisions.proofs.checks.check_next.Statement.{statement}
+use Rattle.revisions.proofs.checks.check_next.Tie as tie
 
 returns : tie.Need-returns
 returns c =
@@ -15,8 +15,8 @@ returns-2 c =
     let at-check = c .before .before .before in
     next-left _ _ (at-check .before .given .ensures .0) _ (sym (at-check .check-revision .ensures) ∙ c .before .c .given .1)
 
-pub check-left-spec : {M : Type 1} → statement M
-check-left-spec = tie.close (tie.spec
+pub check-next-spec : {M : Type 1} → statement M
+check-next-spec = tie.close (tie.spec
     (λ c κs. search needs)
     (λ c. search needs)
     (λ c κs. search needs)

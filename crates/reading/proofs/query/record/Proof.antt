@@ -1,9 +1,9 @@
--- `reading::query::ask` meets its contract: the lower half is lent and comes back written. Assumes nothing.
+-- `reading::query::record` meets its contract: the lower half is lent and comes back written. Assumes nothing.
 use borrow.Author.Needs.{needs}
 use Rattle.cells.specs.Steps.{queryBytes}
 use Rattle.table.proofs.Halves.{low-lent}
-use Rattle.reading.proofs.query.ask.Statement.{statement}
-use Rattle.reading.proofs.query.ask.Tie as tie
+use Rattle.reading.proofs.query.record.Statement.{statement}
+use Rattle.reading.proofs.query.record.Tie as tie
 
 returns : tie.Need-returns
 returns c =
@@ -11,8 +11,8 @@ returns c =
     let s = at-query .before .before .before .args in
     low-lent (λ d. queryBytes d (s .c .0) (s .r .0)) (s .t .now) _ (at-query .query .ensures)
 
-pub ask-spec : {M : Type 1} → statement M
-ask-spec = tie.close (tie.spec
+pub record-spec : {M : Type 1} → statement M
+record-spec = tie.close (tie.spec
     (λ c. search needs)
     (λ c. search needs)
     (λ c. search needs)

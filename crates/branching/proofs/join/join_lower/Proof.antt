@@ -1,4 +1,4 @@
--- `branching::join::gain` meets its contract: the lower half is lent and comes back written. Assumes nothing.
+-- `branching::join::join_lower` meets its contract: the lower half is lent and comes back written. Assumes nothing.
 use mathlib.Core.Path.{_≡_}
 use native.Mathlib.Omega.{arith}
 use borrow.Author.Needs.{needs}
@@ -7,8 +7,8 @@ use Rattle.cells.specs.Steps.{joinBytes}
 use Rattle.cells.proofs.Range.{ranges}
 use Rattle.table.specs.Halves.{low}
 use Rattle.table.proofs.Halves.{low-lent}
-use Rattle.branching.proofs.join.gain.Statement.{statement}
-use Rattle.branching.proofs.join.gain.Tie as tie
+use Rattle.branching.proofs.join.join_lower.Statement.{statement}
+use Rattle.branching.proofs.join.join_lower.Tie as tie
 
 join-requires : tie.Need-join-requires
 unfolding low
@@ -30,8 +30,8 @@ returns c =
     let s = at-join .before .before .before .args in
     (at-join .join .ensures .0, low-lent (λ d. joinBytes d (s .a .0) (s .b .0)) (s .t .now) _ (at-join .join .ensures .1))
 
-pub gain-spec : {M : Type 1} → statement M
-gain-spec = tie.close (tie.spec
+pub join-lower-spec : {M : Type 1} → statement M
+join-lower-spec = tie.close (tie.spec
     (λ c. search needs)
     (λ c. search needs)
     (λ c. search needs)
