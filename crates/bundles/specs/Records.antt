@@ -1,9 +1,10 @@
 -- 02, U4: "Accept 1 to 64 updates .., first as 12-byte records, then as a lent list of entries."
-use Prim.Native.Nat.{ℕ, zero, suc, _+_, _*_, _/_, _%_}
+use Prim.Native.Nat.{ℕ, zero, suc, _*_, _/_, _%_}
 use mathlib.Core.Bool.{Bool, cond, not, _||_}
 use mathlib.Core.List.{List, [], _∷_, _++_}
 use lib.Dec.{eqb, ltb}
 use lib.ListN.{length, take, drop, getD}
+use Rattle.lists.specs.Lists.{replaced}
 use Rattle.records.specs.Numbers.{numberAt, word}
 use Rattle.bundles.specs.declared.entry.Entry.{Entry}
 use Rattle.bundles.specs.declared.check.BundleCheck.{BundleCheck}
@@ -43,4 +44,4 @@ recordsOf (e ∷ es) = recordOf e ++ recordsOf es
 
 -- record i is the entry's, and the other bytes stay
 abbrev pub withRecord : List ℕ → ℕ → Entry → List ℕ
-withRecord b i e = take (12 * i) b ++ (recordOf e ++ drop (12 * i + 12) b)
+withRecord b i e = replaced b (12 * i) 12 (recordOf e)

@@ -1,15 +1,16 @@
 -- Marks packed into bytes are read back: of one row replaced, and of all rows.
-use Prim.Native.Nat.{ℕ, zero, suc, _+_, _*_, _-_, _/_, _%_, _<_, _≤_}
+use Prim.Native.Nat.{ℕ, zero, suc, _+_, _*_, _/_, _%_, _<_, _≤_}
 use mathlib.Core.Bool.{Bool, true, false, cond, _&&_}
 use mathlib.Core.Path.{_≡_, refl, sym, _∙_, ap}
-use mathlib.Core.List.{List, [], _++_}
-use native.Mathlib.Nat.{mul-le-mul-left, mul-suc}
+use mathlib.Core.List.{List, []}
 use native.Mathlib.Omega.{arith}
 use lib.Dec.{eqb, ltb}
-use lib.ListN.{length, take, drop, length-append, length-drop, List·getD-append}
-use lib.Seq.{getD-take, getD-drop, getD-append-add, length-take-le}
-use borrow.Author.Tests.{eqb-true, eqb-false, ltb-true, ltb-false, lt-ltb}
+use lib.ListN.{length, take, drop}
+use lib.Seq.{getD-take, getD-drop}
+use borrow.Author.Tests.{eqb-true, eqb-false, ltb-true, lt-ltb}
+use Rattle.lists.specs.Lists.{replaced}
 use Rattle.lists.proofs.Cases.{cases, and-true}
+use Rattle.lists.proofs.Replaced.{replaced-length, replaced-here, replaced-other, next-row}
 use Rattle.cells.specs.Words.{byte}
 use Rattle.cells.specs.Marks.{bit, markIn, worth, byteOf, rowBytes, putRow, pack, markAt, rows, markOf}
 use Rattle.cells.proofs.Tables.{length-tab, getD-tab, tab-same}
@@ -60,28 +61,6 @@ module _ (f : ℕ → Bool) where
   bit-byte (suc (suc (suc (suc (suc (suc (suc zero))))))) h = ap (λ x. eqb x 1) (all .7) ∙ is-one (f 7)
   bit-byte (suc (suc (suc (suc (suc (suc (suc (suc m)))))))) h = absurd (omega arith)
 
--- the n bytes of q from a on in place of those of t
-module _ (t q : List ℕ) (a n : ℕ) (lq : length q ≡ n) (fits : a + n ≤ length t) where
-  abbrev pasted : List ℕ
-  pasted = take a t ++ (q ++ drop (a + n) t)
-
-  before : (i : ℕ) → i < a → byte pasted i ≡ byte t i
-  before i h = let e = length-take-le a t (omega arith) in List·getD-append (take a t) (q ++ drop (a + n) t) 0 i (omega arith) ∙ getD-take a t i 0 h
-
-  inside : (i : ℕ) → i < n → byte pasted (a + i) ≡ byte q i
-  inside i h =
-      let e = length-take-le a t (omega arith) in
-      ap (λ z. byte pasted (z + i)) (sym e) ∙ getD-append-add (take a t) (q ++ drop (a + n) t) i 0 ∙ List·getD-append q (drop (a + n) t) 0 i (omega arith)
-
-  behind : (i : ℕ) → byte pasted (a + (n + i)) ≡ byte t (a + n + i)
-  behind i =
-      let e = length-take-le a t (omega arith) in
-      ap (λ z. byte pasted (z + (n + i))) (sym e) ∙ getD-append-add (take a t) (q ++ drop (a + n) t) (n + i) 0
-      ∙ ap (λ z. byte (q ++ drop (a + n) t) (z + i)) (sym lq) ∙ getD-append-add q (drop (a + n) t) i 0 ∙ getD-drop (a + n) t i 0
-
-  pub pasted-length : length pasted ≡ length t
-  pasted-length = let e = length-take-le a t (omega arith) in rw (length-append, length-append, e, lq, length-drop) (omega arith)
-
 pub rowBytes-length : (w : ℕ) (f : ℕ → Bool) → length (rowBytes w f) ≡ w
 unfolding rowBytes
 rowBytes-length w f = length-tab (λ i. byteOf (λ j. f (8 * i + j))) w
@@ -93,9 +72,9 @@ mark-row-bytes w f y h =
     let e : 8 * (y / 8) + y % 8 ≡ y = omega arith in
     ap (λ b. bit b (y % 8)) (getD-tab (λ i. byteOf (λ j. f (8 * i + j))) w (y / 8) 0 (omega arith)) ∙ bit-byte (λ j. f (8 * (y / 8) + j)) (y % 8) (omega arith) ∙ ap f e
 
--- a row's place: rows of w bytes
-next-row : (w x r : ℕ) → x < r → w * x + w ≤ w * r
-next-row w x r h = let m = mul-le-mul-left w h in let e = mul-suc w x in omega arith
+-- byte i of row x
+in-row : (w : ℕ) (t : List ℕ) (x i : ℕ) → i < w → byte (take w (drop (w * x) t)) i ≡ byte t (w * x + i)
+in-row w t x i h = rw (getD-take, getD-drop)
 
 module _ (w n : ℕ) (t : List ℕ) (r : ℕ) (f : ℕ → Bool) (size : length t ≡ w * n) (rl : r < n) where
   fits : w * r + w ≤ length t
@@ -103,23 +82,18 @@ module _ (w n : ℕ) (t : List ℕ) (r : ℕ) (f : ℕ → Bool) (size : length 
 
   pub putRow-length : length (putRow w t r f) ≡ length t
   unfolding putRow
-  putRow-length = pasted-length t (rowBytes w f) (w * r) w (rowBytes-length w f) fits
+  putRow-length = replaced-length t (rowBytes w f) (w * r) w fits (rowBytes-length w f)
 
   other-byte : (x i : ℕ) → (x ≡ r → ⊥) → i < w → byte (putRow w t r f) (w * x + i) ≡ byte t (w * x + i)
   unfolding putRow
   other-byte x i d h =
-      cases (ltb x r)
-      (λ e. let m = next-row w x r (ltb-true x r e) in before t (rowBytes w f) (w * r) w (rowBytes-length w f) fits (w * x + i) (omega arith))
-      (λ e.
-      let l = ltb-false x r e in
-      let m = next-row w r x (omega arith) in
-      let j : ℕ = w * x + i - (w * r + w) in
-      let p : w * x + i ≡ w * r + (w + j) = omega arith in
-      ap (byte (putRow w t r f)) p ∙ behind t (rowBytes w f) (w * r) w (rowBytes-length w f) fits j ∙ ap (byte t) (omega arith))
+      sym (in-row w (putRow w t r f) x i h) ∙ ap (λ z. byte z i) (replaced-other t (rowBytes w f) w r x fits (rowBytes-length w f) d) ∙ in-row w t x i h
 
   row-bit : (y : ℕ) → y < 8 * w → bit (byte (putRow w t r f) (w * r + y / 8)) (y % 8) ≡ f y
   unfolding putRow
-  row-bit y h = ap (λ b. bit b (y % 8)) (inside t (rowBytes w f) (w * r) w (rowBytes-length w f) fits (y / 8) (omega arith)) ∙ mark-row-bytes w f y h
+  row-bit y h =
+      ap (λ b. bit b (y % 8)) (sym (in-row w (putRow w t r f) r (y / 8) (omega arith)) ∙ ap (λ z. byte z (y / 8)) (replaced-here t (rowBytes w f) (w * r) w fits (rowBytes-length w f)))
+      ∙ mark-row-bytes w f y h
 
   -- the marks after row r was replaced
   pub mark-row : (x y : ℕ) → markIn w n (putRow w t r f) x y ≡ cond (eqb x r) (ltb y (8 * w) && f y) (markIn w n t x y)
@@ -178,7 +152,7 @@ rowBytes-same w f g h = tab-same _ _ w (λ i l. byte-same (λ j. f (8 * i + j)) 
 
 pub putRow-same : (w : ℕ) (t : List ℕ) (x : ℕ) (f g : ℕ → Bool) → ((y : ℕ) → y < 8 * w → f y ≡ g y) → putRow w t x f ≡ putRow w t x g
 unfolding putRow
-putRow-same w t x f g h = ap (λ q. take (w * x) t ++ (q ++ drop (w * x + w) t)) (rowBytes-same w f g h)
+putRow-same w t x f g h = ap (replaced t (w * x) w) (rowBytes-same w f g h)
 
 -- rows by value
 pub mark-rows : (n : ℕ) (f : ℕ → ℕ → Bool) (x y : ℕ) → x < n → y < 64 → markOf (rows n f) x y ≡ f x y

@@ -11,7 +11,7 @@ use lib.Dec.{eqb}
 use lib.ListN.{length, set, take, drop, getD, length-append, length-set, take-append-drop, List·getD-append}
 use lib.Seq.{drop-cons, length-take-le, set-at, take-suc-set, take-all, getD-at, ext-getD, getD-set-same, getD-set-other}
 use borrow.Author.Tests.{eqb-true, eqb-false}
-use Rattle.lists.specs.Lists.{changed}
+use Rattle.lists.specs.Lists.{changed, replaced}
 use Rattle.lists.proofs.Cases.{cases, and-true, or-left, or-right, either}
 use Rattle.cells.specs.Tables.{tab, every, some}
 
@@ -70,7 +70,7 @@ set-tab f n a v h =
 
 -- a window of t filled from its front: k values stored from a on
 abbrev pub filled : {A : Type 0} → List A → ℕ → (ℕ → A) → ℕ → List A
-filled t a f k = take a t ++ (tab f k ++ drop (a + k) t)
+filled t a f k = replaced t a k (tab f k)
 
 pub filled-none : {A : Type 0} (t : List A) (a : ℕ) (f : ℕ → A) → t ≡ filled t a f 0
 unfolding tab

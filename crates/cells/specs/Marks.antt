@@ -1,9 +1,10 @@
 -- Marks in bytes: eight to a byte, the first of them lowest; rows of w bytes, so of 8 * w marks.
 use Prim.Native.Nat.{ℕ, _+_, _*_, _/_, _%_, _^_}
 use mathlib.Core.Bool.{Bool, true, false, _&&_}
-use mathlib.Core.List.{List, [], _++_}
+use mathlib.Core.List.{List, []}
 use lib.Dec.{eqb, ltb}
-use lib.ListN.{getD, take, drop}
+use lib.ListN.{getD}
+use Rattle.lists.specs.Lists.{replaced}
 use Rattle.cells.specs.Tables.{tab}
 use Rattle.cells.specs.Words.{byte}
 
@@ -28,7 +29,7 @@ rowBytes w f = tab (λ i. byteOf (λ j. f (8 * i + j))) w
 
 -- row x replaced
 unfoldable pub putRow : ℕ → List ℕ → ℕ → (ℕ → Bool) → List ℕ
-putRow w t x f = take (w * x) t ++ (rowBytes w f ++ drop (w * x + w) t)
+putRow w t x f = replaced t (w * x) w (rowBytes w f)
 
 -- n rows of 64 marks as bytes
 unfoldable pub pack : ℕ → (ℕ → ℕ → Bool) → List ℕ

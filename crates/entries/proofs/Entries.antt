@@ -4,18 +4,18 @@ use mathlib.Core.Path.{_≡_, _∙_, ap}
 use mathlib.Core.Logic.{_≢_}
 use mathlib.Core.List.{List, _++_}
 use native.Mathlib.Omega.{arith}
-use lib.Dec.{eqb, ltb}
+use lib.Dec.{eqb}
 use lib.ListN.{length, take, drop, drop-of-length-le}
 use lib.Seq.{drop-drop}
-use borrow.Author.Tests.{eqb-true, eqb-false, ltb-true, ltb-false}
+use borrow.Author.Tests.{eqb-true, eqb-false}
 use Rattle.lists.specs.Lists.{changed}
 use Rattle.lists.proofs.Cases.{cases}
+use Rattle.lists.proofs.Replaced.{replaced-length, replaced-here, replaced-other}
 use Rattle.updates.specs.declared.kind.Kind.the-variants.{Time}
 use Rattle.entries.specs.declared.entry.Entry.{Entry}
 use Rattle.entries.specs.Sizes.{updates, bytes, bibs}
 use Rattle.entries.specs.Stored.{entry, stored, kindAfter, decoded}
 use Rattle.entries.specs.Entries.{entryAt, wrote}
-use Rattle.entries.proofs.Replaced.{replaced-length, replaced-here, replaced-left, replaced-right}
 use Rattle.entries.proofs.Stored.{stored-length, decoded-stored}
 
 room : (t : List ℕ) (n : ℕ) → length t ≡ bytes → n < updates → 6 * n + 6 ≤ length t
@@ -33,10 +33,7 @@ module _ (t : List ℕ) (n : ℕ) (e : Entry) (h : length t ≡ bytes) (l : n < 
 module _ (t : List ℕ) (n : ℕ) (e : Entry) (m : ℕ) (h : length t ≡ bytes) (l : n < updates) where
   pub entry-other : m ≢ n → entryAt (wrote t n e) m ≡ entryAt t m
   unfolding entryAt wrote
-  entry-other o =
-      cases (ltb m n)
-      (λ q. let g = ltb-true m n q in ap decoded (replaced-left t (stored e) (6 * n) 6 (room t n h l) (stored-length e) (6 * m) 6 (omega arith)))
-      (λ q. let g = ltb-false m n q in let r : n < m = omega (arith, o) in ap (λ z. decoded (take 6 z)) (replaced-right t (stored e) (6 * n) 6 (room t n h l) (stored-length e) (6 * m) (omega arith)))
+  entry-other o = ap decoded (replaced-other t (stored e) 6 n m (room t n h l) (stored-length e) o)
 
   -- the two as one: the entries are the old ones changed at n
   pub entry-wrote : e .bib < bibs → entryAt (wrote t n e) m ≡ changed (entryAt t) n e m

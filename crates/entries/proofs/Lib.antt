@@ -1,5 +1,4 @@
 -- Laws that belong to no one function: an entry read after a write, a standing further numbers later; and examples.
-pub mod Replaced
 pub mod Stored
 pub mod Entries
 pub mod Folded

@@ -1,7 +1,8 @@
 -- The entries in a row, six bytes each: entry n read, and entry n replaced.
-use Prim.Native.Nat.{ℕ, _+_, _*_}
-use mathlib.Core.List.{List, _++_}
+use Prim.Native.Nat.{ℕ, _*_}
+use mathlib.Core.List.{List}
 use lib.ListN.{take, drop}
+use Rattle.lists.specs.Lists.{replaced}
 use Rattle.entries.specs.declared.entry.Entry.{Entry}
 use Rattle.entries.specs.Stored.{stored, decoded}
 
@@ -10,4 +11,4 @@ unfoldable pub entryAt : List ℕ → ℕ → Entry
 entryAt t n = decoded (take 6 (drop (6 * n) t))
 
 unfoldable pub wrote : List ℕ → ℕ → Entry → List ℕ
-wrote t n e = take (6 * n) t ++ (stored e ++ drop (6 * n + 6) t)
+wrote t n e = replaced t (6 * n) 6 (stored e)

@@ -8,3 +8,4 @@ pub mod Keep
 pub mod Counts
 pub mod Grown
 pub mod Sums
+pub mod Replaced

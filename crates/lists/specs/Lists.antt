@@ -1,8 +1,9 @@
--- Words for lists of numbers: membership, order, one element put in or taken out, what passes a test, blocks in a row.
-use Prim.Native.Nat.{ℕ}
+-- Words for lists of numbers: membership, order, one element put in or taken out, some replaced, what passes a test, blocks in a row.
+use Prim.Native.Nat.{ℕ, _+_}
 use mathlib.Core.Bool.{Bool, false, cond, _||_}
 use mathlib.Core.List.{List, [], _∷_, _++_, List·Memᴰ, Sublistᴰ}
 use lib.Dec.{eqb}
+use lib.ListN.{take, drop}
 
 infix 50 _∈_ _⊆_ _⊑_
 abbrev pub _∈_ : ℕ → List ℕ → Type 0
@@ -42,6 +43,10 @@ remove b (x ∷ l) = cond (eqb x b) l (x ∷ remove b l)
 unfoldable pub behind : ℕ → List ℕ → List ℕ
 behind r [] = []
 behind r (x ∷ l) = cond (eqb x r) l (behind r l)
+
+-- k elements from place a on replaced by s
+abbrev pub replaced : {A : Type 0} → List A → ℕ → ℕ → List A → List A
+replaced t a k s = take a t ++ (s ++ drop (a + k) t)
 
 -- the blocks of a list's elements in a row, first to last, and last to first
 abbrev pub flat : (ℕ → List ℕ) → List ℕ → List ℕ

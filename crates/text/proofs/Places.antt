@@ -1,12 +1,13 @@
 -- Text put behind text is one text put.
 use Prim.Native.Nat.{ℕ, _+_, _≤_}
-use mathlib.Core.Path.{_≡_, sym, _∙_, ap}
+use mathlib.Core.Path.{_≡_, refl, sym, _∙_, ap}
 use mathlib.Core.List.{List, [], _++_, append-assoc}
 use native.Mathlib.Nat.{add-zero}
 use native.Mathlib.Omega.{arith}
-use lib.ListN.{length, take, drop, length-append, length-drop, take-append-drop}
+use lib.ListN.{length, take, drop, length-append, take-append-drop}
 use lib.Seq.{length-take-le, take-at, drop-at, drop-drop, take-all, paste}
 use Rattle.io.specs.Counts.{Counts}
+use Rattle.lists.proofs.Replaced.{replaced-length}
 use Rattle.text.specs.Placed.{placed}
 
 module _ (out s : List ℕ) (at : ℕ) (fits : at + length s ≤ length out) where
@@ -15,7 +16,7 @@ module _ (out s : List ℕ) (at : ℕ) (fits : at + length s ≤ length out) whe
 
   pub placed-length : length (placed out at s) ≡ length out
   unfolding placed
-  placed-length = simp (length-append, length-drop, length-take-le at out (omega arith)) (omega arith)
+  placed-length = replaced-length out s at (length s) fits refl
 
   -- the buffer is what stands before the end of the text, and then what stood there
   split : placed out at s ≡ (take at out ++ s) ++ drop (at + length s) out
