@@ -1,12 +1,11 @@
 -- What is read after a write: the entry written, and every other entry as before.
-use Prim.Native.Nat.{ℕ, _+_, _*_, _-_, _<_, _≤_}
+use Prim.Native.Nat.{ℕ, _+_, _*_, _<_, _≤_}
 use mathlib.Core.Path.{_≡_, _∙_, ap}
 use mathlib.Core.Logic.{_≢_}
-use mathlib.Core.List.{List, _++_}
+use mathlib.Core.List.{List}
 use native.Mathlib.Omega.{arith}
 use lib.Dec.{eqb}
-use lib.ListN.{length, take, drop, drop-of-length-le}
-use lib.Seq.{drop-drop}
+use lib.ListN.{length, drop-of-length-le}
 use borrow.Author.Tests.{eqb-true, eqb-false}
 use Rattle.lists.specs.Lists.{changed}
 use Rattle.lists.proofs.Cases.{cases}
@@ -46,18 +45,3 @@ module _ (t : List ℕ) (n : ℕ) (e : Entry) (m : ℕ) (h : length t ≡ bytes)
 pub entry-past : (t : List ℕ) (n : ℕ) → length t ≡ bytes → updates ≤ n → entryAt t n ≡ entry Time 0 0 0
 unfolding entryAt decoded kindAfter
 entry-past t n h l = rw (drop-of-length-le t {i = 6 * n} (omega arith))
-
--- for code: the six bytes of entry n, lent as `&t[at..end]`, are decoded, or come back as q
-lent-size : (n : ℕ) → 6 * n + 6 - 6 * n ≡ 6
-lent-size n = omega arith
-
-pub lent-read : (t : List ℕ) (n : ℕ) → decoded (take (6 * n + 6 - 6 * n) (drop (6 * n) t)) ≡ entryAt t n
-unfolding entryAt
-lent-read t n = ap (λ k. decoded (take k (drop (6 * n) t))) (lent-size n)
-
-pub lent-wrote : (t q : List ℕ) (n : ℕ) (e : Entry) → q ≡ stored e
-    → take (6 * n) t ++ (q ++ drop (6 * n + 6 - 6 * n) (drop (6 * n) t)) ≡ wrote t n e
-unfolding wrote
-lent-wrote t q n e h =
-    let rest : drop (6 * n + 6 - 6 * n) (drop (6 * n) t) ≡ drop (6 * n + 6) t = ap (λ k. drop k (drop (6 * n) t)) (lent-size n) ∙ drop-drop 6 (6 * n) t in
-    rw (h, rest)

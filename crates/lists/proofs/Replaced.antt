@@ -1,4 +1,4 @@
--- k elements of a list from place a on, replaced by as many others; and the same in rows of k.
+-- k elements of a list from place a on, replaced by as many others; the same in rows of k; and k elements lent.
 use Prim.Native.Nat.{ℕ, _+_, _*_, _-_, _<_, _≤_}
 use mathlib.Core.Path.{_≡_, sym, _∙_, ap}
 use mathlib.Core.Logic.{_≢_}
@@ -54,3 +54,10 @@ replaced-other t s k n m fits size o =
     cases (ltb m n)
     (λ q. replaced-left t s (k * n) k fits size (k * m) k (next-row k m n (ltb-true m n q)))
     (λ q. let g = ltb-false m n q in ap (take k) (replaced-right t s (k * n) k fits size (k * m) (next-row k n m (omega (arith, o)))))
+
+-- for code: k elements lent as `&t[a..a + k]`, and lent elements that come back as s
+pub lent-size : (a k : ℕ) → a + k - a ≡ k
+lent-size a k = omega arith
+
+pub lent-replaced : {A : Type 0} (t q s : List A) (a k : ℕ) → q ≡ s → take a t ++ (q ++ drop (a + k - a) (drop a t)) ≡ replaced t a k s
+lent-replaced t q s a k h = rw (h, lent-size a k, drop-drop k a t)

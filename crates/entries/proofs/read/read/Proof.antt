@@ -1,12 +1,16 @@
 -- `entries::read::read` meets its contract: the entry's six bytes are lent, or there are none. Assumes nothing.
+use Prim.Native.Nat.{_*_}
 use mathlib.Core.Path.{_∙_, sym}
 use borrow.Author.Needs.{needs}
-use Rattle.entries.proofs.Entries.{entry-past, lent-read}
+use Rattle.lists.proofs.Replaced.{lent-size}
+use Rattle.entries.specs.Entries.{entryAt}
+use Rattle.entries.proofs.Entries.{entry-past}
 use Rattle.entries.proofs.read.read.Statement.{statement}
 use Rattle.entries.proofs.read.read.Tie as tie
 
 returns : tie.Need-returns
-returns c = c .load .ensures ∙ lent-read _ (c .before .before .before .before .args .n)
+unfolding entryAt
+returns c = c .load .ensures ∙ rw (lent-size (6 * c .before .before .before .before .args .n) 6)
 
 returns-2 : tie.Need-returns-2
 returns-2 c = sym (entry-past (c .before .before .args .t .now) (c .before .before .args .n) (c .before .before .pre) (c .if1 .left))

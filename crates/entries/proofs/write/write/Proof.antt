@@ -1,11 +1,14 @@
 -- `entries::write::write` meets its contract: the entry's six bytes are lent and come back stored. Assumes nothing.
+use Prim.Native.Nat.{_*_}
 use borrow.Author.Needs.{needs}
-use Rattle.entries.proofs.Entries.{lent-wrote}
+use Rattle.lists.proofs.Replaced.{lent-replaced}
+use Rattle.entries.specs.Entries.{wrote}
 use Rattle.entries.proofs.write.write.Statement.{statement}
 use Rattle.entries.proofs.write.write.Tie as tie
 
 returns : tie.Need-returns
-returns c = let s = c .before .before .before .before .before .args in lent-wrote (s .t .now) _ (s .n) _ (c .before .before .store .ensures)
+unfolding wrote
+returns c = let s = c .before .before .before .before .before .args in lent-replaced (s .t .now) _ _ (6 * s .n) 6 (c .before .before .store .ensures)
 
 pub write-spec : {M : Type 1} → statement M
 write-spec =

@@ -1,23 +1,14 @@
 -- `fields::row::put` meets its contract: the row's bytes are lent and come back written. Assumes nothing.
-use Prim.Native.Nat.{_*_, _+_, _-_}
-use mathlib.Core.Path.{_∙_, _≡_, ap}
-use mathlib.Core.List.{_++_}
-use native.Mathlib.Omega.{arith}
-use lib.ListN.{drop, take}
-use lib.Seq.{drop-drop}
+use Prim.Native.Nat.{_*_}
 use borrow.Author.Needs.{needs}
-use Rattle.cells.specs.Marks.{markAt, putRow, rowBytes}
+use Rattle.lists.proofs.Replaced.{lent-replaced}
+use Rattle.cells.specs.Marks.{putRow}
 use Rattle.fields.proofs.row.put.Statement.{statement}
 use Rattle.fields.proofs.row.put.Tie as tie
 
 returns : tie.Need-returns
 unfolding putRow
-returns c =
-    let s = c .before .before .before .before .before .args in
-    let t = s .t .now in
-    let at = 512 * s .x in
-    let e : at + (at + 512 - at) ≡ at + 512 = omega arith in
-    ap (λ q. take at t ++ (q ++ drop (at + 512 - at) (drop at t))) (c .before .before .store .ensures) ∙ ap (λ z. take at t ++ (rowBytes 512 (markAt (s .row)) ++ z)) (drop-drop (at + 512 - at) at t ∙ ap (λ n. drop n t) e)
+returns c = let s = c .before .before .before .before .before .args in lent-replaced (s .t .now) _ _ (512 * s .x) 512 (c .before .before .store .ensures)
 
 pub put-spec : {M : Type 1} → statement M
 put-spec = tie.close (tie.spec

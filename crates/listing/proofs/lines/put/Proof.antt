@@ -1,9 +1,10 @@
 -- `listing::lines::put` meets its contract: the line's twelve bytes are lent and come back written. Assumes nothing.
+use Prim.Native.Nat.{_*_}
 use mathlib.Core.Path.{_∙_, ap}
 use borrow.Author.Needs.{needs}
 use Rattle.entries.specs.declared.entry.Entry.{Entry}
 use Rattle.listing.specs.Lines.{line}
-use Rattle.bundles.proofs.Written.{lent-record}
+use Rattle.lists.proofs.Replaced.{lent-replaced}
 use Rattle.listing.proofs.lines.put.Statement.{statement}
 use Rattle.listing.proofs.lines.put.Tie as tie
 
@@ -11,7 +12,7 @@ returns : tie.Need-returns
 returns c =
     let at-read = c .before .before .before .before in
     let s = at-read .before .before .before .args in
-    lent-record (s .s .now) _ _ (s .i) (c .before .before .write .ensures ∙ ap (λ (e : Entry). line e (s .n)) (at-read .read .ensures))
+    lent-replaced (s .s .now) _ _ (12 * s .i) 12 (c .before .before .write .ensures ∙ ap (λ (e : Entry). line e (s .n)) (at-read .read .ensures))
 
 pub put-spec : {M : Type 1} → statement M
 put-spec =
