@@ -3,8 +3,8 @@ use Prim.Native.Nat.{ℕ}
 use mathlib.Core.Bool.{true, false}
 use mathlib.Core.Path.{_≡_, refl}
 use mathlib.Core.List.{[], _∷_}
+use Rattle.lists.specs.Sums.{anyBelow}
 use Rattle.lists.specs.Lists.{insert, remove, behind}
-use Rattle.cells.specs.Tables.{some}
 use Rattle.cells.specs.Parts.{offset, size, rowsPart, lowPart, highPart, seenPart, caughtPart, statePart, usedPart, lastPart, firstPart, countPart}
 use Rattle.cells.specs.Parts.{basePart, layoutPart, queuePart, openedPart, countersPart, keptPart, signaturePart}
 use Rattle.cells.specs.Cells.{Cells, chain, outs, marked}
@@ -47,17 +47,17 @@ seen-marks = refl
 
 -- client 1 was on revision 1 last: with 0 it has caught up after the joins; its transaction is still open
 caught-marks : stale before 1 0 ∷ stale after 1 0 ∷ busy after 1 ∷ busyByOther after 1 1 ∷ openElsewhere after 1 0 ∷ busy (closeCells after 1) 1 ∷ joined after 1 ∷ [] ≡ true ∷ false ∷ true ∷ false ∷ true ∷ false ∷ true ∷ []
-unfolding before after some
+unfolding before after anyBelow
 caught-marks = refl
 
 -- the checks on a fresh day: clients 15 and 16; revisions 0 and 1 given out; nobody joined, busy or open elsewhere
 fresh-checks : isClient 15 ∷ isClient 16 ∷ givenOut freshCells 0 ∷ givenOut freshCells 1 ∷ joined freshCells 0 ∷ busy freshCells 0 ∷ busy freshCells 63 ∷ openElsewhere freshCells 0 5 ∷ [] ≡ true ∷ false ∷ true ∷ false ∷ false ∷ false ∷ false ∷ false ∷ []
-unfolding some
+unfolding anyBelow
 fresh-checks = refl
 
 -- a joined revision was given out; the last client has the main revision busy
 later-checks : givenOut after 1 ∷ busy (updateCells freshCells 15 0) 0 ∷ busyByOther (updateCells freshCells 15 0) 1 0 ∷ [] ≡ true ∷ true ∷ true ∷ []
-unfolding before after some
+unfolding before after anyBelow
 later-checks = refl
 
 -- cells that no day made: every mark set and no row in use

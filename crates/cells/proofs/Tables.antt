@@ -1,6 +1,6 @@
 -- Tables of a function's values: their entries, and what a loop that fills one from the front has done at i. Tests over numbers.
 use Prim.Native.Nat.{ℕ, zero, suc, _+_, _<_}
-use mathlib.Core.Bool.{Bool, true, false}
+use mathlib.Core.Bool.{Bool, true}
 use mathlib.Core.Path.{_≡_, refl, sym, ap, _∙_}
 use mathlib.Core.Logic.{_⊎_, inl, inr}
 use mathlib.Core.List.{List, [], _∷_, _++_, append-assoc, append-nil}
@@ -12,8 +12,8 @@ use lib.ListN.{length, set, take, drop, getD, length-append, length-set, take-ap
 use lib.Seq.{drop-cons, length-take-le, set-at, take-suc-set, take-all, getD-at, ext-getD, getD-set-same, getD-set-other}
 use borrow.Author.Tests.{eqb-true, eqb-false}
 use Rattle.lists.specs.Lists.{changed, replaced}
-use Rattle.lists.proofs.Cases.{cases, and-true, or-left, or-right, either}
-use Rattle.cells.specs.Tables.{tab, every, some}
+use Rattle.lists.proofs.Cases.{cases, and-true, either}
+use Rattle.cells.specs.Tables.{tab, every}
 
 pub tab-none : {A : Type 0} (f : ℕ → A) → [] ≡ tab f 0
 unfolding tab
@@ -95,7 +95,7 @@ getD-changed l i v d x h =
     (λ e. rw (e, eqb-true x i e) (getD-set-same l i v d h))
     (λ e. rw e (getD-set-other l i x v d (eqb-false x i e)))
 
--- a test of every number, and of some number
+-- a test of every number
 pub every-at : (f : ℕ → Bool) (n i : ℕ) → every f n ≡ true → i < n → f i ≡ true
 unfolding every
 every-at f zero i e h = absurd (not-suc-le-zero h)
@@ -107,15 +107,3 @@ pub every-all : (f : ℕ → Bool) (n : ℕ) → ((i : ℕ) → i < n → f i �
 unfolding every
 every-all f zero h = refl
 every-all f (suc n) h = rw (every-all f n (λ i l. h i (omega arith)), h n (omega arith))
-
-pub some-more : (f : ℕ → Bool) (i : ℕ) → some f i ≡ false → f i ≡ false → some f (i + 1) ≡ false
-unfolding some
-some-more f i e g = rw (add-one, e, g)
-
-pub some-at : (f : ℕ → Bool) (n i : ℕ) → i < n → f i ≡ true → some f n ≡ true
-unfolding some
-some-at f zero i h e = absurd (not-suc-le-zero h)
-some-at f (suc n) i h e =
-    either (last-or i n h)
-    (λ l. or-left (some f n) (f n) (some-at f n i l e))
-    (λ q. or-right (some f n) (f n) (ap f (sym q) ∙ e))

@@ -2,8 +2,8 @@
 use Prim.Native.Nat.{ℕ}
 use mathlib.Core.Bool.{Bool, not, _&&_}
 use lib.Dec.{eqb, ltb}
+use Rattle.lists.specs.Sums.{anyBelow}
 use Rattle.cells.specs.Sizes.{revisions, clients, updates, main, closed, neverGiven, isJoined}
-use Rattle.cells.specs.Tables.{some}
 use Rattle.cells.specs.Cells.{Cells}
 
 -- a client number; else 2 applies, "tablet above 15"
@@ -24,11 +24,11 @@ openElsewhere k c r = not (eqb (k .opened c) closed) && not (eqb (k .opened c) r
 
 -- 7 "the box, or either box, is busy"
 abbrev pub busy : Cells → ℕ → Bool
-busy k r = some (λ x. eqb (k .opened x) r) clients
+busy k r = anyBelow clients (λ x. eqb (k .opened x) r)
 
 -- 7 for update and query: "another tablet has the box busy"
 abbrev pub busyByOther : Cells → ℕ → ℕ → Bool
-busyByOther k c r = some (λ x. not (eqb x c) && eqb (k .opened x) r) clients
+busyByOther k c r = anyBelow clients (λ x. not (eqb x c) && eqb (k .opened x) r)
 
 -- 8 "the path from the tablet's last event is missing"
 abbrev pub stale : Cells → ℕ → ℕ → Bool

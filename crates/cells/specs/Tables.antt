@@ -1,6 +1,6 @@
--- A function's values in a row, and tests over numbers from 0 on.
+-- A function's values in a row, and a test of every number from 0 on.
 use Prim.Native.Nat.{ℕ, zero, suc}
-use mathlib.Core.Bool.{Bool, true, false, _&&_, _||_}
+use mathlib.Core.Bool.{Bool, true, _&&_}
 use mathlib.Core.List.{List, [], _∷_, _++_}
 
 -- f 0, f 1, .., f (n - 1)
@@ -12,8 +12,3 @@ tab f (suc n) = tab f n ++ (f n ∷ [])
 unfoldable pub every : (ℕ → Bool) → ℕ → Bool
 every f zero = true
 every f (suc n) = every f n && f n
-
--- whether f holds of some number below n
-unfoldable pub some : (ℕ → Bool) → ℕ → Bool
-some f zero = false
-some f (suc n) = some f n || f n

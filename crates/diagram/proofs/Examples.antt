@@ -4,6 +4,7 @@ use mathlib.Core.Bool.{true, false}
 use mathlib.Core.Path.{_≡_, refl}
 use mathlib.Core.Option.{none, some}
 use mathlib.Core.List.{List·Memᴰ·head, [], _∷_}
+use Rattle.lists.specs.Sums.{anyBelow}
 use Rattle.diagram.specs.Sizes.{revisionLimit, clientLimit, updateLimit}
 use Rattle.diagram.proofs.Graph.Paths.{leads-path}
 use Rattle.diagram.specs.Diagram.{event, fork, join, leads, newest, root, start}
@@ -15,11 +16,11 @@ use Rattle.diagram.specs.Steps.{accepted, after, Event, Yield, Fork, Joi
 use Rattle.diagram.specs.Examples.{triedAll, answers, e1, examples, expected, computed, e1List, beforeJoin, childJoinsParent, withCounts}
 
 examples-hold : computed examples ≡ expected examples
-unfolding accepted after leads tabulate unknownClient openElsewhere busyByOther busy stale logFull noneLeft notJoinable revisionLimit clientLimit updateLimit
+unfolding accepted after leads tabulate unknownClient openElsewhere busyByOther busy anyBelow stale logFull noneLeft notJoinable revisionLimit clientLimit updateLimit
 examples-hold = refl
 
 e1-list : view (triedAll fresh e1 .diagram) (triedAll fresh e1 .terminal 0) ≡ e1List
-unfolding accepted after leads tabulate unknownClient openElsewhere busyByOther busy stale logFull noneLeft notJoinable revisionLimit clientLimit updateLimit
+unfolding accepted after leads tabulate unknownClient openElsewhere busyByOther busy anyBelow stale logFull noneLeft notJoinable revisionLimit clientLimit updateLimit
 e1-list = refl
 
 -- steps that one check alone refuses: 2 and 3; 7 of the joiner, then of the joinee, two clients being at work; 4 of the joinee, then of
@@ -37,7 +38,7 @@ checks-alone :
     ∷ (true ∷ true ∷ true ∷ false ∷ true ∷ [])
     ∷ (true ∷ false ∷ false ∷ [])
     ∷ []
-unfolding accepted after leads tabulate unknownClient openElsewhere busyByOther busy stale logFull noneLeft notJoinable revisionLimit clientLimit updateLimit
+unfolding accepted after leads tabulate unknownClient openElsewhere busyByOther busy anyBelow stale logFull noneLeft notJoinable revisionLimit clientLimit updateLimit
 checks-alone = refl
 
 -- a short day whole: client 3's transaction of two events, a fork, client 1's transaction on it, and the join
@@ -45,33 +46,33 @@ shortDay : Day
 shortDay = triedAll fresh (Event 3 0 true ∷ Event 3 0 false ∷ Yield 3 ∷ Fork 0 ∷ Event 1 1 true ∷ Yield 1 ∷ Join 0 1 ∷ [])
 
 short-diagram : shortDay .diagram ≡ join 3 5 ∷ event 4 1 (some 1) ∷ start 3 ∷ fork 2 ∷ event 1 3 none ∷ event 0 3 (some 0) ∷ root ∷ []
-unfolding shortDay accepted after leads tabulate unknownClient openElsewhere busyByOther busy stale logFull noneLeft notJoinable revisionLimit clientLimit updateLimit
+unfolding shortDay accepted after leads tabulate unknownClient openElsewhere busyByOther busy anyBelow stale logFull noneLeft notJoinable revisionLimit clientLimit updateLimit
 short-diagram = refl
 
 short-transactions :
     (shortDay .transactions ≡ 2)
     × (shortDay .transaction 0 ≡ record { client = 3; revision = 0; events = 1 ∷ 2 ∷ []; closed = some 3 })
     × (shortDay .transaction 1 ≡ record { client = 1; revision = 1; events = 5 ∷ []; closed = some 6 })
-unfolding shortDay accepted after leads tabulate unknownClient openElsewhere busyByOther busy stale logFull noneLeft notJoinable revisionLimit clientLimit updateLimit
+unfolding shortDay accepted after leads tabulate unknownClient openElsewhere busyByOther busy anyBelow stale logFull noneLeft notJoinable revisionLimit clientLimit updateLimit
 short-transactions = (refl, refl, refl)
 
 -- the code of E4's first join is 11 and not 7, that of its second is 7
 e4-first : (busy fresh 0 ≡ false) × (notJoinable fresh 0 0 ≡ true)
-unfolding leads busy notJoinable clientLimit
+unfolding leads busy anyBelow notJoinable clientLimit
 e4-first = (refl, refl)
 
 e4-second : busy (after fresh (Event 3 0 false)) 0 ≡ true
-unfolding after busy clientLimit
+unfolding after busy anyBelow clientLimit
 e4-second = refl
 
 -- 9: the 4,096th update is taken, no further one; queries go on
 log-room : (accepted (withCounts 4095 1) (Event 0 0 true) ≡ true) × (accepted (withCounts 4096 1) (Event 0 0 true) ≡ false) × (accepted (withCounts 4096 1) (Event 0 0 false) ≡ true)
-unfolding accepted leads tabulate unknownClient openElsewhere busyByOther stale logFull clientLimit updateLimit
+unfolding accepted leads tabulate unknownClient openElsewhere busyByOther anyBelow stale logFull clientLimit updateLimit
 log-room = (refl, refl, refl)
 
 -- 10: the 64th revision is started, no further one
 numbers-left : (accepted (withCounts 0 63) (Fork 0) ≡ true) × (accepted (withCounts 0 64) (Fork 0) ≡ false)
-unfolding accepted busy noneLeft clientLimit revisionLimit
+unfolding accepted busy anyBelow noneLeft clientLimit revisionLimit
 numbers-left = (refl, refl)
 
 -- the first half of the join rule holds of the child and its parent, the second does not, and the update is there twice

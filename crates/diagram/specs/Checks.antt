@@ -1,9 +1,10 @@
 -- 01, "Codes of the desk": each check that the day alone decides, as a test that is true where its code applies.
 -- Code 3 is `meant`, and code 4 the day's `joined`; 5, 12 and 14 need what this crate does not know.
-use Prim.Native.Nat.{ℕ, zero, suc}
+use Prim.Native.Nat.{ℕ}
 use mathlib.Core.Bool.{Bool, false, not, _||_, _&&_}
 use mathlib.Core.Option.{Option, none, some}
 use lib.Dec.{eqb, ltb}
+use Rattle.lists.specs.Sums.{anyBelow}
 use Rattle.diagram.specs.Sizes.{revisionLimit, clientLimit, updateLimit}
 use Rattle.diagram.specs.Diagram.{Diagram, leads}
 use Rattle.diagram.specs.Day.{Day}
@@ -20,10 +21,6 @@ isOn y (some t) r = eqb (y .transaction t .revision) r
 abbrev pub isElsewhere : Day → Option ℕ → ℕ → Bool
 isElsewhere y none r = false
 isElsewhere y (some t) r = not (eqb (y .transaction t .revision) r)
-
-abbrev pub anyBelow : ℕ → (ℕ → Bool) → Bool
-anyBelow zero f = false
-anyBelow (suc n) f = f n || anyBelow n f
 
 -- 6: "the tablet's open transaction is on another box"
 unfoldable pub openElsewhere : Day → ℕ → ℕ → Bool

@@ -1,11 +1,13 @@
--- Sums of the same values, of values that end, and with one value changed.
+-- Sums of the same values, of values that end, and with one value changed; and a test of the numbers below n.
 use Prim.Native.Nat.{_+_, _<_, _≤_, suc, zero, ℕ}
-use mathlib.Core.Path.{_≡_, refl, sym}
+use mathlib.Core.Bool.{Bool, false, false≢true, true}
+use mathlib.Core.Path.{_∙_, _≡_, refl, sym}
+use native.Mathlib.Numerals.{add-one}
 use native.Mathlib.Omega.{arith}
 use lib.Dec.{eqb}
 use borrow.Author.Tests.{eqb-false, eqb-true}
-use Rattle.lists.proofs.Cases.{cases}
-use Rattle.lists.specs.Sums.{sumBelow}
+use Rattle.lists.proofs.Cases.{cases, or-left, or-right}
+use Rattle.lists.specs.Sums.{anyBelow, sumBelow}
 
 pub sum-same : (n : ℕ) (f g : ℕ → ℕ) → ((x : ℕ) → x < n → f x ≡ g x) → sumBelow n f ≡ sumBelow n g
 sum-same zero f g h = refl
@@ -24,3 +26,23 @@ sum-changed (suc n) a f g l h =
     cases (eqb a n)
     (λ e. let z = eqb-true a n e in let s = sum-same n g f (λ x k. h x (omega arith) (λ q. omega arith)) in rw z (omega arith))
     (λ e. let z = eqb-false a n e in let s = sum-changed n a f g (omega arith) (λ x k. h x (omega arith)) in let b = h n (omega arith) (λ q. z (sym q)) in omega arith)
+
+pub any-same : (n : ℕ) (f g : ℕ → Bool) → ((x : ℕ) → x < n → f x ≡ g x) → anyBelow n f ≡ anyBelow n g
+unfolding anyBelow
+any-same zero f g h = refl
+any-same (suc n) f g h = rw (any-same n f g (λ x l. h x (omega arith)), h n (omega arith))
+
+pub any-more : (n : ℕ) (f : ℕ → Bool) → anyBelow n f ≡ false → f n ≡ false → anyBelow (n + 1) f ≡ false
+unfolding anyBelow
+any-more n f e g = rw (add-one, g, e)
+
+pub any-at : (n : ℕ) (f : ℕ → Bool) (x : ℕ) → x < n → f x ≡ true → anyBelow n f ≡ true
+unfolding anyBelow
+any-at zero f x h e = absurd (omega arith)
+any-at (suc n) f x h e =
+    cases (eqb x n)
+    (λ q. or-left (f n) (anyBelow n f) (rw (eqb-true x n q) at e))
+    (λ q. let d = eqb-false x n q in or-right (f n) (anyBelow n f) (any-at n f x (omega arith) e))
+
+pub any-none : (n : ℕ) (f : ℕ → Bool) → anyBelow n f ≡ false → (x : ℕ) → x < n → f x ≡ false
+any-none n f e x h = cases (f x) (λ q. absurd (false≢true (sym e ∙ any-at n f x h q))) (λ q. q)

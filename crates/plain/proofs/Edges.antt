@@ -4,6 +4,7 @@ use Prim.Native.Nat.{ℕ}
 use mathlib.Core.Path.{_≡_, refl}
 use mathlib.Core.List.{List, [], _∷_, _++_}
 use lib.ListN.{replicate}
+use Rattle.lists.specs.Sums.{anyBelow}
 use Rattle.updates.specs.declared.kind.Kind.the-variants.{Time, Penalty, Strike}
 use Rattle.updates.specs.Kinds.{kindCheck}
 use Rattle.updates.specs.Effect.{earliest, penalized, effect, stateOf, valueIn}
@@ -24,11 +25,11 @@ use Rattle.plain.specs.Answers.{called, sent, dayFrom, dayAfter, answers
 use Rattle.plain.specs.Edges.{edges, codes, said, expected, computed, ok, no, neither, filled, small, strange}
 
 pub edges-hold : computed edges ≡ expected edges
-unfolding called answersFrom answers after leads tabulate meant nextNumber unknownClient openElsewhere busyByOther busy stale logFull noneLeft notJoinable revisionLimit clientLimit updateLimit kindCheck effect earliest penalized stateOf valueIn applied sent entriesIn entriesFrom isWrong number
+unfolding called answersFrom answers after leads tabulate meant nextNumber unknownClient openElsewhere busyByOther busy anyBelow stale logFull noneLeft notJoinable revisionLimit clientLimit updateLimit kindCheck effect earliest penalized stateOf valueIn applied sent entriesIn entriesFrom isWrong number
 edges-hold = refl
 
 pub codes-hold : computed codes ≡ expected codes
-unfolding called answersFrom answers after leads tabulate meant nextNumber unknownClient openElsewhere busyByOther busy stale logFull noneLeft notJoinable revisionLimit clientLimit updateLimit kindCheck effect earliest penalized stateOf valueIn applied sent entriesIn entriesFrom isWrong number
+unfolding called answersFrom answers after leads tabulate meant nextNumber unknownClient openElsewhere busyByOther busy anyBelow stale logFull noneLeft notJoinable revisionLimit clientLimit updateLimit kindCheck effect earliest penalized stateOf valueIn applied sent entriesIn entriesFrom isWrong number
 codes-hold = refl
 
 -- the fresh day, but with this many updates taken and boxes sent
@@ -38,13 +39,13 @@ counted updates revisions = record { day = withCounts updates revisions; entries
 -- 9 once 4,096 updates are taken, after 8; and not before
 log-full : said (answersFrom (counted 4095 1) (Fork 0 ∷ Update 0 0 1 7 5 ∷ Yield 0 ∷ Update 0 1 1 7 5 ∷ Update 0 0 1 7 5 ∷ Query 0 0 8 ∷ []))
     ≡ ok 1 ∷ ok 4095 ∷ ok 0 ∷ no 8 ∷ no 9 ∷ neither ∷ []
-unfolding called answersFrom answers after leads tabulate meant nextNumber unknownClient openElsewhere busyByOther busy stale logFull noneLeft notJoinable revisionLimit clientLimit updateLimit kindCheck effect earliest penalized stateOf valueIn applied sent entriesIn entriesFrom isWrong number
+unfolding called answersFrom answers after leads tabulate meant nextNumber unknownClient openElsewhere busyByOther busy anyBelow stale logFull noneLeft notJoinable revisionLimit clientLimit updateLimit kindCheck effect earliest penalized stateOf valueIn applied sent entriesIn entriesFrom isWrong number
 log-full = refl
 
 -- 10 once 64 boxes are started, after 3 and 7; and not before
 none-left : said (answersFrom (counted 0 63) (Fork 0 ∷ Fork 64 ∷ Query 0 0 7 ∷ Fork 0 ∷ Yield 0 ∷ Fork 0 ∷ []))
     ≡ ok 63 ∷ no 3 ∷ neither ∷ no 7 ∷ ok 0 ∷ no 10 ∷ []
-unfolding called answersFrom answers after leads tabulate meant nextNumber unknownClient openElsewhere busyByOther busy stale logFull noneLeft notJoinable revisionLimit clientLimit updateLimit kindCheck effect earliest penalized stateOf valueIn applied sent entriesIn entriesFrom isWrong number
+unfolding called answersFrom answers after leads tabulate meant nextNumber unknownClient openElsewhere busyByOther busy anyBelow stale logFull noneLeft notJoinable revisionLimit clientLimit updateLimit kindCheck effect earliest penalized stateOf valueIn applied sent entriesIn entriesFrom isWrong number
 none-left = refl
 
 -- the joinee's update 1 is listed behind the joiner's update 2, each with its number and as it was entered
@@ -62,23 +63,23 @@ lines-listed : called (dayAfter joining) (Show 0 36) .answer .lines
     ∷ entered (record { kind = Strike; client = 3; bib = 8; v = 6 }) 2
     ∷ entered (record { kind = Penalty; client = 1; bib = 999; v = 5 }) 1
     ∷ []
-unfolding called answersFrom answers after leads tabulate meant nextNumber unknownClient openElsewhere busyByOther busy stale logFull noneLeft notJoinable revisionLimit clientLimit updateLimit kindCheck effect earliest penalized stateOf valueIn applied dayFrom dayAfter
+unfolding called answersFrom answers after leads tabulate meant nextNumber unknownClient openElsewhere busyByOther busy anyBelow stale logFull noneLeft notJoinable revisionLimit clientLimit updateLimit kindCheck effect earliest penalized stateOf valueIn applied dayFrom dayAfter
 lines-listed = refl
 
 -- before that join: each box's own updates, and those of the whole table
 fills-told : (called (dayAfter apart) (Fill 0) .answer ≡ record { code = 0; state = Neither; value = 2; total = 3; gain = 0; lines = [] })
     × (called (dayAfter apart) (Fill 1) .answer ≡ record { code = 0; state = Neither; value = 1; total = 3; gain = 0; lines = [] })
-unfolding called answersFrom answers after leads tabulate meant nextNumber unknownClient openElsewhere busyByOther busy stale logFull noneLeft notJoinable revisionLimit clientLimit updateLimit kindCheck effect earliest penalized stateOf valueIn applied dayFrom dayAfter
+unfolding called answersFrom answers after leads tabulate meant nextNumber unknownClient openElsewhere busyByOther busy anyBelow stale logFull noneLeft notJoinable revisionLimit clientLimit updateLimit kindCheck effect earliest penalized stateOf valueIn applied dayFrom dayAfter
 fills-told = (refl, refl)
 
 -- a bundle on a log that has room for one more: 9 of its second entry, before 5 of its third, after 5 of the second itself
 bundle-fills-log : said (answersFrom (counted 4095 1) (Bundle 0 0 (small 1 7 5 ++ small 1 7 5 ++ strange) ∷ Bundle 0 0 (small 1 7 5 ++ strange) ∷ Bundle 0 0 (small 1 7 5) ∷ Bundle 0 0 (small 1 7 5) ∷ []))
     ≡ no 9 ∷ no 5 ∷ ok 4095 ∷ no 9 ∷ []
-unfolding called answersFrom answers after leads tabulate meant nextNumber unknownClient openElsewhere busyByOther busy stale logFull noneLeft notJoinable revisionLimit clientLimit updateLimit kindCheck effect earliest penalized stateOf valueIn applied sent entriesIn entriesFrom isWrong number
+unfolding called answersFrom answers after leads tabulate meant nextNumber unknownClient openElsewhere busyByOther busy anyBelow stale logFull noneLeft notJoinable revisionLimit clientLimit updateLimit kindCheck effect earliest penalized stateOf valueIn applied sent entriesIn entriesFrom isWrong number
 bundle-fills-log = refl
 
 -- 64 records are taken, 65 are 14, and so are bytes that are not a multiple of 12
 most-records : said (answersFrom freshDay (Bundle 0 0 (replicate 780 1) ∷ Bundle 0 0 (replicate 767 1) ∷ Bundle 0 0 (replicate 768 1) ∷ Fill 0 ∷ []))
     ≡ no 14 ∷ no 14 ∷ ok 0 ∷ filled 64 64 ∷ []
-unfolding called answersFrom answers after leads tabulate meant nextNumber unknownClient openElsewhere busyByOther busy stale logFull noneLeft notJoinable revisionLimit clientLimit updateLimit kindCheck effect earliest penalized stateOf valueIn applied sent entriesIn entriesFrom isWrong number
+unfolding called answersFrom answers after leads tabulate meant nextNumber unknownClient openElsewhere busyByOther busy anyBelow stale logFull noneLeft notJoinable revisionLimit clientLimit updateLimit kindCheck effect earliest penalized stateOf valueIn applied sent entriesIn entriesFrom isWrong number
 most-records = refl

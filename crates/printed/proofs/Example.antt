@@ -2,6 +2,7 @@
 use Prim.Native.Nat.{ℕ, zero, suc}
 use mathlib.Core.Path.{_≡_, refl, _∙_}
 use mathlib.Core.List.{List, [], _∷_, _++_}
+use Rattle.lists.specs.Sums.{anyBelow}
 use Rattle.updates.specs.Kinds.{kindCheck}
 use Rattle.updates.specs.Effect.{earliest, effect, penalized, stateOf, valueIn}
 use Rattle.updates.specs.Applied.{applied}
@@ -36,7 +37,7 @@ unfolding crossing number stepAt stepOf
 as-named = refl
 
 on-paper : paper crossing ≡ given
-unfolding crossing given paper paperLines paperAfter fileCheck number stepAt stepOf line valueText decimal places called after leads tabulate meant nextNumber unknownClient openElsewhere busyByOther busy stale logFull noneLeft notJoinable revisionLimit clientLimit updateLimit kindCheck effect earliest penalized stateOf valueIn applied
+unfolding crossing given paper paperLines paperAfter fileCheck number stepAt stepOf line valueText decimal places called after leads tabulate meant nextNumber unknownClient openElsewhere busyByOther busy anyBelow stale logFull noneLeft notJoinable revisionLimit clientLimit updateLimit kindCheck effect earliest penalized stateOf valueIn applied
 on-paper = refl
 
 pub example-printed : printed crossing ≡ given

@@ -14,7 +14,6 @@ use Rattle.bundles.specs.declared.entry.Entry.{Entry}
 use Rattle.bundles.specs.Records.{bundleCheck, entriesFrom, entriesIn, entryAt}
 use Rattle.bundles.specs.declared.check.BundleCheck.the-variants.{Wrong}
 use Rattle.bundles.proofs.First.{Counted, some-of, uncounted}
-use Rattle.cells.specs.Tables.{some}
 use Rattle.cells.specs.Decode.{cells}
 use Rattle.cells.specs.Checks.{isClient, givenOut, joined, openElsewhere, busyByOther, stale, logFull}
 use Rattle.fields.specs.declared.table.Client.{Client}

@@ -8,6 +8,7 @@ use lib.Dec.{eqb, ltb}
 use lib.ListN.{length, length-append}
 use lib.Seq.{length-take-le}
 use borrow.Author.Tests.{eq-eqb, eqb-true, lt-ltb, ltb-true}
+use Rattle.lists.specs.Sums.{anyBelow}
 use Rattle.lists.proofs.Cases.{and-true, cases}
 use Rattle.lists.proofs.Changed.{changed-same}
 use Rattle.updates.specs.Kinds.{kindCheck}
@@ -17,7 +18,6 @@ use Rattle.bundles.specs.declared.entry.Entry.{Entry}
 use Rattle.cells.specs.Sizes as Lower
 use Rattle.cells.specs.Sizes.{clients, revisions, updates}
 use Rattle.cells.specs.Cells.{Cells}
-use Rattle.cells.specs.Tables.{some}
 use Rattle.cells.specs.Decode.{cells}
 use Rattle.cells.specs.Range.{inRange}
 use Rattle.cells.specs.Checks.{givenOut, joined, openElsewhere, busyByOther, stale}
@@ -108,7 +108,7 @@ module _ (t : List ℕ) (c n : ℕ) (G : Going t c n) where
         opened-here k = rw (eq-eqb c c refl) (rw (eq-eqb n n refl) (and-false (not (eqb n 64))))
 
         alone-still : (k : Cells) → busyByOther (updateCells k c n) c n ≡ busyByOther k c n
-        alone-still k = ap (λ f. some f clients) (fun-ext (λ x. cases (eqb x c) (λ q. rw q) (λ q. rw q)))
+        alone-still k = ap (anyBelow clients) (fun-ext (λ x. cases (eqb x c) (λ q. rw q) (λ q. rw q)))
 
         seen-now : (k : Cells) → stale (updateCells k c n) c n ≡ false
         seen-now k = rw (eq-eqb c c refl) (rw (eq-eqb n n refl))

@@ -1,6 +1,6 @@
 -- Cells that stand for the day's machine answer as the day does.
-use Prim.Native.Nat.{_<_, suc, zero, ℕ}
-use mathlib.Core.Bool.{Bool, Bool·not-not, _&&_, not, or-comm}
+use Prim.Native.Nat.{_<_, ℕ}
+use mathlib.Core.Bool.{Bool·not-not, _&&_, not}
 use mathlib.Core.Path.{_∙_, _≡_, ap, refl, sym}
 use mathlib.Core.Option.{Option, none, some}
 use native.Mathlib.Omega.{arith}
@@ -8,6 +8,7 @@ use lib.Dec.{eqb, ltb}
 use lib.ListN.{length}
 use borrow.Author.Tests.{eqb-false, lt-ltb, ltb-true, ne-eqb}
 use Rattle.lists.proofs.Cases.{cases}
+use Rattle.lists.proofs.Sums.{any-same}
 use Rattle.diagram.specs.Sizes.{clientLimit, revisionLimit, updateLimit}
 use Rattle.diagram.specs.Day.{Day, IsOut, nextNumber}
 use Rattle.diagram.specs.Checks as Day
@@ -15,19 +16,12 @@ use Rattle.machine.specs.Machine.{Follows, Machine, revisionOf}
 use Rattle.diagram.specs.Steps.{notGiven}
 use Rattle.diagram.proofs.Days.Moves.{joinable}
 use Rattle.cells.specs.Sizes.{clients, closed, main, revisions}
-use Rattle.cells.specs.Tables as Tables
 use Rattle.cells.specs.Cells.{Cells}
 use Rattle.cells.specs.Checks as Asked
 use Rattle.consistency.specs.Follow.{CellsFollow}
 use Rattle.consistency.proofs.Cells.Laid.{Laid}
 use Rattle.consistency.proofs.Cells.Ordered.{order-is, shown-few}
 use Rattle.consistency.proofs.Cells.Represents.{Represents, count-is, openCell}
-
--- a test of the clients, from below as from above
-some-any : (f g : ℕ → Bool) (n : ℕ) → ((i : ℕ) → i < n → f i ≡ g i) → Tables.some f n ≡ Day.anyBelow n g
-unfolding Tables.some
-some-any f g zero h = refl
-some-any f g (suc n) h = rw (some-any f g n (λ i l. h i (omega arith)), h n (omega arith)) (or-comm (Day.anyBelow n g) (g n))
 
 module _ (y : Day) (m : Machine) (k : Cells) (D : Follows y m) (L : Laid m) (h : Represents k m) where
   -- a number that is given out
@@ -81,8 +75,8 @@ module _ (y : Day) (m : Machine) (k : Cells) (D : Follows y m) (L : Laid m) (h :
     same-given = given-out;
     same-joined = joined-is;
     same-elsewhere = elsewhere;
-    same-busyByOther = λ c r g. some-any _ _ clients (λ x l. ap (λ t. not (eqb x c) && t) (is-on x r l (low r g)));
-    same-busy = λ r g. some-any _ _ clients (λ x l. is-on x r l (low r g));
+    same-busyByOther = λ c r g. any-same clients _ _ (λ x l. ap (λ t. not (eqb x c) && t) (is-on x r l (low r g)));
+    same-busy = λ r g. any-same clients _ _ (λ x l. is-on x r l (low r g));
     same-stale = λ c r l o. ap not (h .caught-is c r l (low r (o .0)) ∙ D .same-caughtUp c r o) ∙ Bool·not-not (Day.stale y c r);
     same-full = rw (h .updates-is, D .same-updates);
     same-left = rw (h .given-is, D .same-revisions);

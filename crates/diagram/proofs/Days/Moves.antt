@@ -1,26 +1,17 @@
 -- What is known when a step is accepted, read off its checks.
-use Prim.Native.Nat.{ℕ, zero, suc, _<_}
+use Prim.Native.Nat.{ℕ, _<_}
 use mathlib.Core.Bool.{Bool, true, false, not, _&&_}
 use mathlib.Core.Path.{_≡_, refl}
-use mathlib.Core.Logic.{_⊎_, inl, inr}
 use mathlib.Core.Option.{Option, none, some}
-use native.Mathlib.Omega.{arith}
 use lib.Dec.{eqb}
 use borrow.Author.Tests.{eqb-true, eqb-false, ne-eqb, ltb-true, not-true, not-false}
-use Rattle.lists.proofs.Cases.{split, or-false, and-true}
+use Rattle.lists.proofs.Cases.{or-false, and-true}
+use Rattle.lists.proofs.Sums.{any-none}
 use Rattle.diagram.specs.Sizes.{clientLimit}
 use Rattle.diagram.specs.Diagram.{leads}
 use Rattle.diagram.specs.Day.{Day, IsOut}
-use Rattle.diagram.specs.Checks.{unknownClient, isOn, anyBelow, openElsewhere, busyByOther, busy, stale, notJoinable}
+use Rattle.diagram.specs.Checks.{unknownClient, isOn, openElsewhere, busyByOther, busy, stale, notJoinable}
 use Rattle.diagram.specs.Steps.{Step, Event, Yield, Fork, Join, notGiven, accepted, enter, yield, forkAt, joinInto, after}
-
-pub any-below : (n : ℕ) (f : ℕ → Bool) → anyBelow n f ≡ false → (c : ℕ) → c < n → f c ≡ false
-any-below zero f e c h = absurd (omega arith)
-any-below (suc n) f e c h = let q = or-false (f n) (anyBelow n f) e in pick (split (eqb c n)) (any-below n f (q .1) c)
-  where
-    pick : (eqb c n ≡ true) ⊎ (eqb c n ≡ false) → (c < n → f c ≡ false) → f c ≡ false
-    pick (inl p) k = let q = or-false (f n) (anyBelow n f) e in rw (eqb-true c n p) (q .0)
-    pick (inr p) k = let o = eqb-false c n p in k (omega arith)
 
 -- no transaction of a client that P names is open on r
 abbrev pub Idle : Day → (ℕ → Type 0) → ℕ → Type 0
@@ -79,12 +70,12 @@ module _ (y : Day) where
   idle-for : (c r : ℕ) → busyByOther y c r ≡ false → Idle y (λ o. o ≡ c → ⊥) r
   unfolding busyByOther
   idle-for c r e o h n =
-      let f = any-below clientLimit (λ o. not (eqb o c) && isOn y (y .openBy o) r) e o h in
+      let f = any-none clientLimit (λ o. not (eqb o c) && isOn y (y .openBy o) r) e o h in
       rw (ne-eqb o c n) at f
 
   pub idle-all : (r : ℕ) → busy y r ≡ false → Idle y (λ o. Unit {0}) r
   unfolding busy
-  idle-all r e o h n = any-below clientLimit (λ o. isOn y (y .openBy o) r) e o h
+  idle-all r e o h n = any-none clientLimit (λ o. isOn y (y .openBy o) r) e o h
 
   caught-up : (c r : ℕ) → stale y c r ≡ false → (l : ℕ) → y .lastEvent c ≡ some l → leads (y .diagram) l (y .terminal r) ≡ true
   unfolding stale
