@@ -5,7 +5,7 @@ use mathlib.Core.Path.{_∙_, _≡_, ap, refl, subst, sym}
 use mathlib.Core.Logic.{_⊎_, inl, inr}
 use mathlib.Core.Option.{Option, none, some}
 use mathlib.Core.List.{List, List·Memᴰ, List·Memᴰ·append-cases, List·Memᴰ·cases-cons, List·Memᴰ·eq-of-singleton, List·Memᴰ·head}
-use mathlib.Core.List.{List·Memᴰ·not-nil, List·Memᴰ·tail, Memᴰ·append-left, Memᴰ·append-right, Memᴰ·cast, Sublistᴰ·append}
+use mathlib.Core.List.{List·Memᴰ·not-nil, Memᴰ·append-left, Memᴰ·append-right, Memᴰ·cast, Sublistᴰ·append}
 use mathlib.Core.List.{Sublistᴰ·cons, Sublistᴰ·refl, Sublistᴰ·slnil, [], _++_, _∷_, nodup-cons, nodup-nil, not-mem-nil}
 use native.Mathlib.Omega.{arith}
 use lib.ListN.{length}
@@ -18,7 +18,7 @@ use Rattle.diagram.proofs.Arranged.Advance.{Linked, May, advance, conte
 use Rattle.diagram.proofs.Arranged.Advance.{on-bound, on-other, on-self, one-may, one-older, sees-before, sees-on, sees-other}
 use Rattle.diagram.proofs.Arranged.Advance.{true-may, unseen-before}
 use Rattle.diagram.proofs.Graph.Events.{inherited-from, inheritedStep, ownEventStep, ownEvents, view-split, viewEventStep, viewEvents}
-use Rattle.diagram.proofs.Graph.Paths.{Ordered, leads-path, no-vertex, one-more, path-start}
+use Rattle.diagram.proofs.Graph.Paths.{Ordered, both-older, leads-path, no-vertex, one-more, path-start}
 use Rattle.diagram.proofs.Graph.Tables.{tabulate-older}
 use Rattle.diagram.specs.Diagram.{Diagram, Vertex, event, fork, join, leads, root, sources, start}
 use Rattle.diagram.specs.Effects.{forkStep, forkVertex, tabulate}
@@ -100,14 +100,10 @@ module _ (d : Diagram) (layout : List ℕ) (tip starts : ℕ → ℕ) (L : Linke
 
   pub linked-join : Linked (join (tip a) (tip b) ∷ d) (remove b layout) (changed tip a (length d)) starts
   linked-join =
-      advance d layout tip starts L a jv refl (remove b layout) (grow js a (js b .own)) (joinJ (may d tip starts) a b) older (m .at, m .start-of, leads-path d (m .at) (tip a) (m .leads))
+      advance d layout tip starts L a jv refl (remove b layout) (grow js a (js b .own)) (joinJ (may d tip starts) a b) (both-older (length d) (tip a) (tip b) (L .bound a) (L .bound b)) (m .at, m .start-of, leads-path d (m .at) (tip a) (m .leads))
       (rw rest (Memᴰ·append-right (P .above) (Memᴰ·append-right (P .between) (List·Memᴰ·head refl)))) (changed-same js a _) (λ x i h. changed-other js a _ x h)
       (rw rest (join-inv (P .above) b (P .between) a (P .below) js (may d tip starts) whole (ordered-pair .1))) join-may held few
     where
-      older : (p : ℕ) → List·Memᴰ p (tip a ∷ tip b ∷ []) → p < length d
-      older p (List·Memᴰ·head e) = rw e (L .bound a)
-      older p (List·Memᴰ·tail i) = rw (List·Memᴰ·eq-of-singleton i) (L .bound b)
-
       held : (w : List ℕ) → Held layout js w → Held (remove b layout) (grow js a (js b .own)) w
       held w h = rw rest (held-join (P .above) b (P .between) a (P .below) js (may d tip starts) whole (ordered-pair .1) w (rw (P .eq) at h))
 

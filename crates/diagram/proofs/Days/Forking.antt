@@ -9,7 +9,7 @@ use native.Mathlib.Omega.{arith}
 use lib.ListN.{length}
 use lib.Dec.{eqb}
 use borrow.Author.Tests.{eqb-false, eqb-true}
-use Rattle.diagram.proofs.Days.Moves.{CanFork}
+use Rattle.diagram.proofs.Days.Moves.{CanFork, forked-out}
 use Rattle.diagram.proofs.Days.Outside.{Outside, Past, idle-far, idle-past, moved-runs, moved-sessions, moved-whole, outside-new}
 use Rattle.diagram.proofs.Days.Real.{real-fork}
 use Rattle.diagram.proofs.Days.Sound.{Filed, Sound, event-low}
@@ -75,10 +75,7 @@ module _ (y : Day) (layout : List ℕ) (hold : ℕ → List ℕ) (S : Sound y la
       pick : (eqb s n ≡ true) ⊎ (eqb s n ≡ false) → (eqb s r ≡ true) ⊎ (eqb s r ≡ false) → IsOut y s × (forkAt y r .terminal s ≡ y .terminal s)
       pick (inl e) g = let j : suc (length d) ∈ eventsOf y t = rw e at i in absurd (omega (arith, event-low y layout hold S t (suc (length d)) h j))
       pick (inr e) (inl g) = let j : length d ∈ eventsOf y t = rw (e, g) at i in absurd (omega (arith, event-low y layout hold S t (length d) h j))
-      pick (inr e) (inr g) =
-          let k = eqb-false s n e in
-          let b : s < n = omega (arith, o .0) in
-          ((b, rw e at (o .1)), terminal-old s b (eqb-false s r g))
+      pick (inr e) (inr g) = let b = forked-out y r s o e in (b, terminal-old s (b .0) (eqb-false s r g))
 
   up : (e x : ℕ) → x < length d → leads d e x ≡ true → leads (sv ∷ fv ∷ d) e x ≡ true
   up e x h q = leads-old sv (fv ∷ d) e x (omega arith) ∙ leads-old fv d e x h ∙ q

@@ -1,6 +1,6 @@
 -- A join keeps the day sound.
 use Prim.Native.Nat.{_<_, ℕ}
-use mathlib.Core.Bool.{false, false≢true, true}
+use mathlib.Core.Bool.{false, true}
 use mathlib.Core.Path.{_∙_, _≡_, ap, sym}
 use mathlib.Core.Logic.{_⊎_, inl, inr}
 use mathlib.Core.Option.{some}
@@ -10,12 +10,12 @@ use native.Mathlib.Omega.{arith}
 use lib.ListN.{length}
 use lib.Dec.{eqb}
 use borrow.Author.Tests.{eqb-false, eqb-true}
-use Rattle.diagram.proofs.Days.Moves.{CanJoin}
+use Rattle.diagram.proofs.Days.Moves.{CanJoin, joined-out}
 use Rattle.diagram.proofs.Days.Outside.{Outside, Past, idle-far, idle-past, moved-runs, moved-sessions, moved-whole, outside-new}
 use Rattle.diagram.proofs.Days.Real.{real-join}
 use Rattle.diagram.proofs.Days.Sound.{Filed, Sound, event-low}
 use Rattle.diagram.proofs.Graph.Events.{ownEventStep, ownEvents}
-use Rattle.diagram.proofs.Graph.Paths.{leads-old}
+use Rattle.diagram.proofs.Graph.Paths.{both-older, leads-old}
 use Rattle.diagram.proofs.Graph.Tables.{tabulate-newest, tabulate-older}
 use Rattle.diagram.specs.Arbitration.{eventsOf}
 use Rattle.diagram.specs.Day.{Day, IsOut}
@@ -72,22 +72,19 @@ module _ (y : Day) (layout : List ℕ) (hold : ℕ → List ℕ) (S : Sound y la
 
   -- a terminal that is an event is not the join vertex
   was : (s t : ℕ) → IsOut (joinInto y a b) s → t < y .transactions → joinInto y a b .terminal s ∈ eventsOf y t → IsOut y s × (joinInto y a b .terminal s ≡ y .terminal s)
-  was s t o h i = pick (split (eqb s b)) (split (eqb s a))
-    where
-      pick : (eqb s b ≡ true) ⊎ (eqb s b ≡ false) → (eqb s a ≡ true) ⊎ (eqb s a ≡ false) → IsOut y s × (joinInto y a b .terminal s ≡ y .terminal s)
-      pick (inl e) g = let f : true ≡ false = rw e at (o .1) in absurd (false≢true (sym f))
-      pick (inr e) (inl g) = let j : length d ∈ eventsOf y t = rw g at i in absurd (omega (arith, event-low y layout hold S t (length d) h j))
-      pick (inr e) (inr g) = ((o .0, rw e at (o .1)), changed-other (y .terminal) a (length d) s (eqb-false s a g))
+  was s t o h i = (
+    joined-out y a b s o .0,
+    cases (eqb s a)
+        (λ g. let j : length d ∈ eventsOf y t = rw g at i in absurd (omega (arith, event-low y layout hold S t (length d) h j)))
+        (λ g. changed-other (y .terminal) a (length d) s (eqb-false s a g)),
+  )
 
   up : (e x : ℕ) → x < length d → leads d e x ≡ true → leads (jv ∷ d) e x ≡ true
   up e x h q = leads-old jv d e x h ∙ q
 
   outside : Outside (jv ∷ d) (y .transactions) (y .transaction)
-  outside = outside-new d jv (y .transactions) (y .transaction) (event-low y layout hold S) older past (S .whole .outside)
+  outside = outside-new d jv (y .transactions) (y .transaction) (event-low y layout hold S) (both-older (length d) (y .terminal a) (y .terminal b) (low a) (low b)) past (S .whole .outside)
     where
-      older : (p : ℕ) → List·Memᴰ p (y .terminal a ∷ y .terminal b ∷ []) → p < length d
-      older p i = either (List·Memᴰ·cases-cons i) (λ e. rw e (low a)) (λ j. rw (List·Memᴰ·eq-of-singleton j) (low b))
-
       past : (p t : ℕ) → List·Memᴰ p (y .terminal a ∷ y .terminal b ∷ []) → t < y .transactions → p ∈ eventsOf y t → Past d (y .transaction t) p
       past p t i h j =
           either (List·Memᴰ·cases-cons i)

@@ -1,17 +1,30 @@
 -- What is known when a step is accepted, read off its checks.
-use Prim.Native.Nat.{ℕ, _<_}
-use mathlib.Core.Bool.{Bool, true, false, not, _&&_}
-use mathlib.Core.Path.{_≡_, refl}
+use Prim.Native.Nat.{ℕ, suc, _<_}
+use mathlib.Core.Bool.{Bool, true, false, false≢true, not, _&&_}
+use mathlib.Core.Path.{_≡_, refl, sym}
 use mathlib.Core.Option.{Option, none, some}
+use native.Mathlib.Omega.{arith}
 use lib.Dec.{eqb}
 use borrow.Author.Tests.{eqb-true, eqb-false, ne-eqb, ltb-true, not-true, not-false}
-use Rattle.lists.proofs.Cases.{or-false, and-true}
+use Rattle.lists.proofs.Cases.{cases, or-false, and-true}
 use Rattle.lists.proofs.Sums.{any-none}
 use Rattle.diagram.specs.Sizes.{clientLimit}
 use Rattle.diagram.specs.Diagram.{leads}
 use Rattle.diagram.specs.Day.{Day, IsOut}
 use Rattle.diagram.specs.Checks.{unknownClient, isOn, openElsewhere, busyByOther, busy, stale, notJoinable}
 use Rattle.diagram.specs.Steps.{Step, Event, Yield, Fork, Join, notGiven, accepted, enter, yield, forkAt, joinInto, after}
+
+-- a number given out that is not the last one
+pub not-last : (s n : ℕ) → s < suc n → eqb s n ≡ false → s < n
+not-last s n h e = let k = eqb-false s n e in omega arith
+
+-- what is out after a fork and is not the new revision was out before
+pub forked-out : (y : Day) (r s : ℕ) → IsOut (forkAt y r) s → eqb s (y .revisions) ≡ false → IsOut y s
+forked-out y r s o e = (not-last s (y .revisions) (o .0) e, rw e at (o .1))
+
+-- what is out after a join was out before, and is not the joinee
+pub joined-out : (y : Day) (a b s : ℕ) → IsOut (joinInto y a b) s → IsOut y s × (s ≡ b → ⊥)
+joined-out y a b s o = cases (eqb s b) (λ e. let f : true ≡ false = rw e at (o .1) in absurd (false≢true (sym f))) (λ e. ((o .0, rw e at (o .1)), eqb-false s b e))
 
 -- no transaction of a client that P names is open on r
 abbrev pub Idle : Day → (ℕ → Type 0) → ℕ → Type 0

@@ -1,13 +1,13 @@
 -- The day's revisions that are out have a layout: the diagram, terminals and start vertices of the day are linked to it.
-use Prim.Native.Nat.{ℕ, suc, _<_}
-use mathlib.Core.Bool.{Bool, true, false, false≢true}
+use Prim.Native.Nat.{ℕ, _<_}
+use mathlib.Core.Bool.{Bool, true, false}
 use mathlib.Core.Path.{_≡_, refl, sym, _∙_, ap}
 use mathlib.Core.Option.{none, some}
 use mathlib.Core.List.{List, [], _∷_, List·Memᴰ·eq-of-singleton, List·Memᴰ·head, Memᴰ·cast}
 use native.Mathlib.Omega.{arith}
 use lib.ListN.{length}
 use lib.Dec.{eqb}
-use borrow.Author.Tests.{eqb-false, eqb-true}
+use borrow.Author.Tests.{eqb-true}
 use Rattle.lists.specs.Lists.{_∈_, changed, insert, remove}
 use Rattle.lists.proofs.Cases.{cases, either}
 use Rattle.lists.proofs.Changed.{changed-other, changed-same}
@@ -17,9 +17,9 @@ use Rattle.diagram.specs.Effects.{forkStep, forkVertex, tabulate}
 use Rattle.diagram.specs.Day.{Day, IsOut, fresh}
 use Rattle.diagram.specs.Steps.{close, enter, newUpdate, forkAt, joinInto}
 use Rattle.diagram.proofs.Graph.Tables.{tabulate-newest, tabulate-older}
-use Rattle.diagram.proofs.Arranged.Advance.{Linked, May, linked-fork}
+use Rattle.diagram.proofs.Arranged.Advance.{Linked, May, linked-fork, on-bound}
 use Rattle.diagram.proofs.Arranged.Built.{linked-join, linked-root, linked-start, linked-update, lone}
-use Rattle.diagram.proofs.Days.Moves.{CanEnter, CanFork, CanJoin}
+use Rattle.diagram.proofs.Days.Moves.{CanEnter, CanFork, CanJoin, not-last, forked-out, joined-out}
 
 pub record Real (y : Day) (layout : List ℕ) : Type 0 where
   pub linked : Linked (y .diagram) layout (y .terminal) (y .startOf)
@@ -76,10 +76,10 @@ module _ (y : Day) (layout : List ℕ) (R : Real y layout) where
   pub real-fork : (r : ℕ) → CanFork y r → Real (forkAt y r) (insert r (y .revisions) layout)
   real-fork r N = record {
     linked = linked-start (fv ∷ d) layout (changed (y .terminal) r (length d)) (y .startOf) (linked-fork d layout (y .terminal) (y .startOf) (R .linked) r r-in) r r-in n n-new (length d) (changed-same (y .terminal) r (length d)) refl (lone d layout (y .terminal) (y .startOf) (R .linked) r);
-    out = λ s o. cases (eqb s n) (λ e. Memᴰ·cast (eqb-true s n e) (insert-new r n layout r-in)) (λ e. insert-old r n s layout (R .out s (was s (o .0) e, rw e at (o .1))));
+    out = λ s o. cases (eqb s n) (λ e. Memᴰ·cast (eqb-true s n e) (insert-new r n layout r-in)) (λ e. insert-old r n s layout (R .out s (forked-out y r s o e)));
     back = λ s i. either (insert-back r n s layout i) (λ e. rw e (omega arith, changed-same (y .joined) n false)) (λ j. let o = R .back s j in (omega (arith, o .0), changed-other (y .joined) n false s (λ e. omega (arith, o .0)) ∙ o .1));
-    forks = λ s h z. cases (eqb s n) (λ e. rw e (tabulate-newest forkStep none sv (fv ∷ d))) (λ e. rw e (tabulate-older forkStep none sv (fv ∷ d) (changed (y .terminal) r (length d) s) (fork-low s) ∙ forks-on fv r refl s (was s h e) z));
-    main = cases (eqb 0 n) (λ e. let k = eqb-true 0 n e in absurd (omega (arith, N .out .0))) (λ e. rw e (tabulate-older forkStep none sv (fv ∷ d) (changed (y .terminal) r (length d) 0) (fork-low 0) ∙ fork-stays fv r refl 0 ∙ R .main));
+    forks = λ s h z. cases (eqb s n) (λ e. rw e (tabulate-newest forkStep none sv (fv ∷ d))) (λ e. rw e (tabulate-older forkStep none sv (fv ∷ d) (changed (y .terminal) r (length d) s) (on-bound d fv (y .terminal) terminal-low r s) ∙ forks-on fv r refl s (not-last s n h e) z));
+    main = cases (eqb 0 n) (λ e. let k = eqb-true 0 n e in absurd (omega (arith, N .out .0))) (λ e. rw e (tabulate-older forkStep none sv (fv ∷ d) (changed (y .terminal) r (length d) 0) (on-bound d fv (y .terminal) terminal-low r 0) ∙ fork-stays fv r refl 0 ∙ R .main));
     starts-low = λ s. cases (eqb s n) (λ e. rw e (omega arith)) (λ e. rw e (omega (arith, R .starts-low s)));
     forks-low = λ s. cases (eqb s n) (λ e. rw e (omega arith)) (λ e. rw e (omega (arith, R .forks-low s)));
   }
@@ -99,16 +99,10 @@ module _ (y : Day) (layout : List ℕ) (R : Real y layout) where
       n-new : n ∈ layout → ⊥
       n-new i = omega (arith, R .back n i .0)
 
-      was : (s : ℕ) → s < suc n → eqb s n ≡ false → s < n
-      was s h e = let k = eqb-false s n e in omega arith
-
-      fork-low : (s : ℕ) → changed (y .terminal) r (length d) s < length (fv ∷ d)
-      fork-low s = cases (eqb s r) (λ e. rw e (omega arith)) (λ e. rw e (omega (arith, terminal-low s)))
-
   pub real-join : (a b : ℕ) → CanJoin y a b → Real (joinInto y a b) (remove b layout)
   real-join a b H = record {
     linked = linked-join d layout (y .terminal) (y .startOf) (R .linked) a b (R .out a (H .out-a)) (R .out b (H .out-b)) may;
-    out = λ s o. cases (eqb s b) (λ e. absurd (gone s o (eqb-true s b e))) (λ e. remove-keep b s layout (eqb-false s b e) (R .out s (o .0, rw e at (o .1))));
+    out = λ s o. let p = joined-out y a b s o in remove-keep b s layout (p .1) (R .out s (p .0));
     back = λ s i. let o = R .back s (remove-back b s layout i) in (o .0, changed-other (y .joined) b true s (λ e. remove-gone b layout (R .linked .inv .distinct) (Memᴰ·cast (sym e) i)) ∙ o .1);
     forks = forks-on (join (y .terminal a) (y .terminal b)) a refl;
     main = fork-stays (join (y .terminal a) (y .terminal b)) a refl 0 ∙ R .main;
@@ -118,6 +112,3 @@ module _ (y : Day) (layout : List ℕ) (R : Real y layout) where
     where
       may : May d (y .terminal) (y .startOf) a b
       may = record { outside = H .start-unseen; at = y .forkOf b; start-of = R .forks b (H .out-b .0) (H .not-main); leads = H .fork-seen }
-
-      gone : (s : ℕ) → IsOut (joinInto y a b) s → s ≡ b → ⊥
-      gone s o e = false≢true (sym (o .1) ∙ ap (changed (y .joined) b true) e ∙ changed-same (y .joined) b true)

@@ -3,7 +3,7 @@ use Prim.Native.Nat.{_<_, _≤_, ℕ}
 use mathlib.Core.Bool.{Bool, _||_, false, false≢true, true}
 use mathlib.Core.Path.{_∙_, _≡_, ap, refl, subst, sym}
 use mathlib.Core.Logic.{_↔_, _⊎_, inl, inr}
-use mathlib.Core.List.{List, List·Memᴰ, List·Memᴰ·head, List·Memᴰ·tail, [], _∷_}
+use mathlib.Core.List.{List, List·Memᴰ, List·Memᴰ·eq-of-singleton, List·Memᴰ·head, List·Memᴰ·tail, [], _∷_}
 use native.Mathlib.Omega.{arith}
 use lib.ListN.{length}
 use lib.Dec.{eqb}
@@ -35,6 +35,11 @@ leads-new v d x y e = rw (eq-eqb y (length d) e)
 pub leads-old : (v : Vertex) (d : Diagram) (x y : ℕ) → y < length d → leads (v ∷ d) x y ≡ leads d x y
 unfolding leads
 leads-old v d x y h = rw (ne-eqb y (length d) (λ e. omega arith))
+
+-- the two sources of a join are older
+pub both-older : (n p q : ℕ) → p < n → q < n → (x : ℕ) → List·Memᴰ x (p ∷ q ∷ []) → x < n
+both-older n p q h k x (List·Memᴰ·head e) = rw e h
+both-older n p q h k x (List·Memᴰ·tail i) = rw (List·Memᴰ·eq-of-singleton i) k
 
 pub edge-bounds : {x y : ℕ} {d : Diagram} → Ordered d → Edge sources x y d → (x < y) × (y < length d)
 edge-bounds (one-more f o) (newest e m) = let h = f _ m in (omega arith, omega arith)

@@ -4,15 +4,16 @@ use mathlib.Core.Bool.{Bool, false, false≢true, true}
 use mathlib.Core.Path.{_∙_, _≡_, ap, refl, subst, sym}
 use mathlib.Core.Logic.{_↔_, _⊎_, inl, inr}
 use mathlib.Core.Option.{Option, none, some}
-use mathlib.Core.List.{List, List·Memᴰ, List·Memᴰ·eq-of-singleton, List·Memᴰ·head, List·Memᴰ·not-nil, List·Memᴰ·tail, Memᴰ·append-left}
+use mathlib.Core.List.{List, List·Memᴰ, List·Memᴰ·eq-of-singleton, List·Memᴰ·not-nil, Memᴰ·append-left}
 use mathlib.Core.List.{Memᴰ·append-right, [], _++_, _∷_}
 use native.Mathlib.Omega.{arith}
 use lib.ListN.{length}
 use lib.Dec.{eqb}
 use borrow.Author.Tests.{eqb-false, eqb-true, ne-eqb}
-use Rattle.diagram.proofs.Days.Moves.{CanEnter, CanFork, CanJoin, can-enter, can-fork, can-join, joinable}
+use Rattle.diagram.proofs.Arranged.Advance.{on-bound}
+use Rattle.diagram.proofs.Days.Moves.{CanEnter, CanFork, CanJoin, can-enter, can-fork, can-join, not-last, forked-out, joined-out, joinable}
 use Rattle.diagram.proofs.Days.Sound.{same-some, some≢none}
-use Rattle.diagram.proofs.Graph.Paths.{Ordered, edge-bounds, leads-path, no-vertex, one-more, path-leads}
+use Rattle.diagram.proofs.Graph.Paths.{Ordered, both-older, edge-bounds, leads-path, no-vertex, one-more, path-leads}
 use Rattle.diagram.proofs.Graph.Tables.{start-leads, tabulate-newest, tabulate-older}
 use Rattle.diagram.proofs.Order.Growth.{Fine, fine-fresh}
 use Rattle.diagram.proofs.Order.Runs.{along, fine-run, fine-step}
@@ -25,7 +26,6 @@ use Rattle.diagram.specs.Effects.{forkVertex, startStep, startVertex, ta
 use Rattle.diagram.specs.Steps.{Accepted, Event, Fork, Join, Step, Yield, accepted, after, close, enter, forkAt, joinInto, newUpdate}
 use Rattle.diagram.specs.Steps.{run, yield}
 use Rattle.lists.proofs.Cases.{cases, split}
-use Rattle.lists.proofs.Changed.{changed-other, changed-same}
 use Rattle.lists.specs.Lists.{changed}
 
 -- an s- or j-edge is an edge
@@ -119,8 +119,8 @@ module _ (y : Day) (F : Fine y) (M : Made y) where
   made-fork r N = record {
     constructed = forked (M .constructed) (M .terminals r (N .out));
     distinct = distinct′;
-    starts = λ s h. cases (eqb s n) (λ e. rw e (tabulate-newest startStep 0 sv (fv ∷ d))) (λ e. rw e (starts′ s (was s h e)));
-    terminals = λ s o. cases (eqb s n) (λ e. rw e (terminal-newest ordered2)) (λ e. rw e (terminals′ s (was s (o .0) e, rw e at (o .1))));
+    starts = λ s h. cases (eqb s n) (λ e. rw e (tabulate-newest startStep 0 sv (fv ∷ d))) (λ e. rw e (starts′ s (not-last s n h e)));
+    terminals = λ s o. cases (eqb s n) (λ e. rw e (terminal-newest ordered2)) (λ e. rw e (terminals′ s (forked-out y r s o e)));
   }
     where
       n : ℕ
@@ -138,9 +138,6 @@ module _ (y : Day) (F : Fine y) (M : Made y) where
       ordered2 : Ordered (sv ∷ fv ∷ d)
       ordered2 = one-more {v = sv} {d = fv ∷ d} (λ p i. omega (arith, List·Memᴰ·eq-of-singleton i)) ordered1
 
-      was : (s : ℕ) → s < suc n → eqb s n ≡ false → s < n
-      was s h e = let k = eqb-false s n e in omega arith
-
       -- the new start vertex is none of the older ones
       distinct′ : (s t : ℕ) → s < suc n → t < suc n → changed (y .startOf) n (suc (length d)) s ≡ changed (y .startOf) n (suc (length d)) t → s ≡ t
       distinct′ s t h k e = pick (split (eqb s n)) (split (eqb t n))
@@ -149,13 +146,10 @@ module _ (y : Day) (F : Fine y) (M : Made y) where
           pick (inl p) (inl q) = eqb-true s n p ∙ sym (eqb-true t n q)
           pick (inl p) (inr q) = let f : suc (length d) ≡ y .startOf t = rw (p, q) at e in absurd (omega (arith, F .sound .real .starts-low t))
           pick (inr p) (inl q) = let f : y .startOf s ≡ suc (length d) = rw (p, q) at e in absurd (omega (arith, F .sound .real .starts-low s))
-          pick (inr p) (inr q) = M .distinct s t (was s h p) (was t k q) (rw (p, q) at e)
-
-      fork-low : (s : ℕ) → changed (y .terminal) r (length d) s < length (fv ∷ d)
-      fork-low s = cases (eqb s r) (λ e. rw e (omega arith)) (λ e. rw e (omega (arith, low s)))
+          pick (inr p) (inr q) = M .distinct s t (not-last s n h p) (not-last t n k q) (rw (p, q) at e)
 
       starts′ : (s : ℕ) → s < n → startVertex (sv ∷ fv ∷ d) (changed (y .terminal) r (length d) s) ≡ y .startOf s
-      starts′ s h = tabulate-older startStep 0 sv (fv ∷ d) (changed (y .terminal) r (length d) s) (fork-low s) ∙ starts-on fv r (N .out .0) refl s h
+      starts′ s h = tabulate-older startStep 0 sv (fv ∷ d) (changed (y .terminal) r (length d) s) (on-bound d fv (y .terminal) low r s) ∙ starts-on fv r (N .out .0) refl s h
 
       terminals′ : (s : ℕ) → IsOut y s → Terminal (sv ∷ fv ∷ d) (changed (y .terminal) r (length d) s)
       terminals′ s o =
@@ -196,24 +190,14 @@ module _ (y : Day) (F : Fine y) (M : Made y) where
     constructed = joined (M .constructed) (M .terminals a (H .out-a)) (M .terminals b (H .out-b)) (rule-holds a b (H .out-b) (H .not-main) (H .fork-seen) (H .start-unseen));
     starts = starts-on jv a (H .out-a .0) refl;
     distinct = M .distinct;
-    terminals = λ s o. let p = was s o in terminals-on jv a (H .out-a .0) refl two-sources refl s p (apart s b (p .0) (H .out-b .0) (not-b s o));
+    terminals = λ s o. let p = joined-out y a b s o in terminals-on jv a (H .out-a .0) refl two-sources refl s (p .0) (apart s b (p .0 .0) (H .out-b .0) (p .1));
   }
     where
       jv : Vertex
       jv = join (y .terminal a) (y .terminal b)
 
       two-sources : Ordered (jv ∷ d)
-      two-sources = one-more {v = jv} {d = d} older-both ordered
-        where
-          older-both : (p : ℕ) → List·Memᴰ p (y .terminal a ∷ y .terminal b ∷ []) → p < length d
-          older-both p (List·Memᴰ·head e) = rw e (low a)
-          older-both p (List·Memᴰ·tail i) = rw (List·Memᴰ·eq-of-singleton i) (low b)
-
-      not-b : (s : ℕ) → IsOut (joinInto y a b) s → s ≡ b → ⊥
-      not-b s o e = false≢true (sym (o .1) ∙ ap (changed (y .joined) b true) e ∙ changed-same (y .joined) b true)
-
-      was : (s : ℕ) → IsOut (joinInto y a b) s → IsOut y s
-      was s o = (o .0, sym (changed-other (y .joined) b true s (not-b s o)) ∙ o .1)
+      two-sources = one-more {v = jv} {d = d} (both-older (length d) (y .terminal a) (y .terminal b) (low a) (low b)) ordered
 
 made-after : (y : Day) (s : Step) → accepted y s ≡ true → Fine y → Made y → Made (after y s)
 unfolding after

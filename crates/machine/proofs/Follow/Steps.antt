@@ -1,6 +1,6 @@
 -- Each step keeps the agreement of the machine with the day.
-use Prim.Native.Nat.{_<_, suc, ℕ}
-use mathlib.Core.Bool.{Bool, _||_, cond, false, false≢true, true}
+use Prim.Native.Nat.{suc, ℕ}
+use mathlib.Core.Bool.{Bool, _||_, cond, false, true}
 use mathlib.Core.Path.{_∙_, _≡_, ap, refl, sym}
 use mathlib.Core.Logic.{_⊎_, inl, inr}
 use mathlib.Core.Option.{Option, none, some}
@@ -9,7 +9,8 @@ use native.Mathlib.Omega.{arith}
 use lib.ListN.{length}
 use lib.Dec.{eqb}
 use borrow.Author.Tests.{eqb-false, eqb-true, ne-eqb}
-use Rattle.diagram.proofs.Days.Moves.{CanEnter, CanFork, CanJoin, enters, joinsInto, forksAt}
+use Rattle.diagram.proofs.Arranged.Advance.{on-bound}
+use Rattle.diagram.proofs.Days.Moves.{CanEnter, CanFork, CanJoin, enters, forked-out, joined-out, joinsInto, forksAt}
 use Rattle.diagram.proofs.Days.Yielding.{sound-close}
 use Rattle.machine.proofs.Follow.Agrees.{Agree, inherited-step, ordered, terminal-low}
 use Rattle.diagram.proofs.Graph.Paths.{Ordered, one-more}
@@ -151,14 +152,8 @@ module _ (y : Day) (k : Machine) (A : Agree y k) where
       sv : Vertex
       sv = start (length d)
 
-      old : (s : ℕ) → IsOut (forkAt y r) s → eqb s n ≡ false → IsOut y s
-      old s o e = let z = eqb-false s n e in (omega (arith, o .0), rw e at (o .1))
-
       ordered1 : Ordered (fv ∷ d)
       ordered1 = one-more {v = fv} {d = d} (λ p i. rw (List·Memᴰ·eq-of-singleton i) (terminal-low y k A r)) (ordered y k A)
-
-      fork-low : (s : ℕ) → changed (y .terminal) r (length d) s < suc (length d)
-      fork-low s = cases (eqb s r) (λ q. rw q (omega arith)) (λ q. rw q (omega (arith, terminal-low y k A s)))
 
       -- the new revision inherits what the forker's terminal shows
       taken : k .inherited r ++ k .own r ≡ inherited (sv ∷ fv ∷ d) (suc (length d))
@@ -170,7 +165,7 @@ module _ (y : Day) (k : Machine) (A : Agree y k) where
       inherited′ s o =
           cases (eqb s n)
           (λ e. rw e taken)
-          (λ e. rw e (A .same-inherited s (old s o e) ∙ sym (inherited-step y k A fv r s refl) ∙ sym (inherited-older sv (fv ∷ d) ordered1 (changed (y .terminal) r (length d) s) (fork-low s))))
+          (λ e. rw e (A .same-inherited s (forked-out y r s o e) ∙ sym (inherited-step y k A fv r s refl) ∙ sym (inherited-older sv (fv ∷ d) ordered1 (changed (y .terminal) r (length d) s) (on-bound d fv (y .terminal) (terminal-low y k A) r s))))
 
       own-old : (s : ℕ) → IsOut y s → k .own s ≡ own (fv ∷ d) (changed (y .terminal) r (length d) s)
       own-old s o =
@@ -182,13 +177,13 @@ module _ (y : Day) (k : Machine) (A : Agree y k) where
       own′ s o =
           cases (eqb s n)
           (λ e. rw e (sym (tabulate-newest ownStep [] sv (fv ∷ d))))
-          (λ e. rw (e, tabulate-older ownStep [] sv (fv ∷ d) (changed (y .terminal) r (length d) s) (fork-low s)) (own-old s (old s o e)))
+          (λ e. rw (e, tabulate-older ownStep [] sv (fv ∷ d) (changed (y .terminal) r (length d) s) (on-bound d fv (y .terminal) (terminal-low y k A) r s)) (own-old s (forked-out y r s o e)))
 
       caught′ : (c x : ℕ) → IsOut (forkAt y r) x → cond (eqb x n) (k .caughtUp c r) (k .caughtUp c x) ≡ caught (forkAt y r) c x
       caught′ c x o =
           cases (eqb x n)
           (λ e. ap (λ t. cond t (k .caughtUp c r) (k .caughtUp c x)) e ∙ A .same-caughtUp c r (N .out) ∙ sym (caught-forked y F r c) ∙ ap (λ t. caught (forkAt y r) c t) (sym (eqb-true x n e)))
-          (λ e. ap (λ t. cond t (k .caughtUp c r) (k .caughtUp c x)) e ∙ A .same-caughtUp c x (old x o e) ∙ sym (caught-fork y F r c x (eqb-false x n e)))
+          (λ e. ap (λ t. cond t (k .caughtUp c r) (k .caughtUp c x)) e ∙ A .same-caughtUp c x (forked-out y r x o e) ∙ sym (caught-fork y F r c x (eqb-false x n e)))
 
       joinable′ : (a b : ℕ) → IsOut (forkAt y r) a → IsOut (forkAt y r) b → (eqb b n ≡ true) ⊎ (eqb b n ≡ false) → (eqb a n ≡ true) ⊎ (eqb a n ≡ false) → cond (eqb b n) (eqb a r) (cond (eqb a n) (k .joinable r b) (k .joinable a b)) ≡ J (forkAt y r) a b
       joinable′ a b oa ob (inl e) (inl g) =
@@ -196,10 +191,10 @@ module _ (y : Day) (k : Machine) (A : Agree y k) where
       joinable′ a b oa ob (inl e) (inr g) =
           ap (λ t. cond t (eqb a r) (cond (eqb a n) (k .joinable r b) (k .joinable a b))) e ∙ sym (J-fork-new y F r a (λ p. omega (arith, N .out .0)) (eqb-false a n g)) ∙ ap (λ t. J (forkAt y r) a t) (sym (eqb-true b n e))
       joinable′ a b oa ob (inr e) (inl g) =
-          ap (λ t. cond t (eqb a r) (cond (eqb a n) (k .joinable r b) (k .joinable a b))) e ∙ ap (λ t. cond t (k .joinable r b) (k .joinable a b)) g ∙ A .same-joinable r b (N .out) (old b ob e)
+          ap (λ t. cond t (eqb a r) (cond (eqb a n) (k .joinable r b) (k .joinable a b))) e ∙ ap (λ t. cond t (k .joinable r b) (k .joinable a b)) g ∙ A .same-joinable r b (N .out) (forked-out y r b ob e)
           ∙ sym (J-fork-copy y F (A .marked .marks) r N b (eqb-false b n e)) ∙ ap (λ t. J (forkAt y r) t b) (sym (eqb-true a n g))
       joinable′ a b oa ob (inr e) (inr g) =
-          ap (λ t. cond t (eqb a r) (cond (eqb a n) (k .joinable r b) (k .joinable a b))) e ∙ ap (λ t. cond t (k .joinable r b) (k .joinable a b)) g ∙ A .same-joinable a b (old a oa g) (old b ob e) ∙ sym (J-fork-old y F r a b (eqb-false a n g) (eqb-false b n e))
+          ap (λ t. cond t (eqb a r) (cond (eqb a n) (k .joinable r b) (k .joinable a b))) e ∙ ap (λ t. cond t (k .joinable r b) (k .joinable a b)) g ∙ A .same-joinable a b (forked-out y r a oa g) (forked-out y r b ob e) ∙ sym (J-fork-old y F r a b (eqb-false a n g) (eqb-false b n e))
 
   pub agree-join : (a b : ℕ) → CanJoin y a b → Agree (joinInto y a b) (joinOn k a b)
   unfolding marked-moves fine-moves
@@ -207,7 +202,7 @@ module _ (y : Day) (k : Machine) (A : Agree y k) where
     marked = marked-moves y (joinInto y a b) (A .marked) (joinsInto a b H);
     numbered = numbered-moves y (joinInto y a b) (A .numbered) (joinsInto a b H);
     same-layout = ap (remove b) (A .same-layout);
-    same-inherited = λ s o. A .same-inherited s (old s o) ∙ sym (inherited-step y k A jv a s refl);
+    same-inherited = λ s o. A .same-inherited s (joined-out y a b s o .0) ∙ sym (inherited-step y k A jv a s refl);
     same-revisions = A .same-revisions;
     same-joined = λ s. cases (eqb s b) (λ e. rw e) (λ e. rw e (A .same-joined s));
     same-joinable = joinable′;
@@ -220,22 +215,19 @@ module _ (y : Day) (k : Machine) (A : Agree y k) where
       jv : Vertex
       jv = join (y .terminal a) (y .terminal b)
 
-      old : (s : ℕ) → IsOut (joinInto y a b) s → IsOut y s
-      old s o = cases (eqb s b) (λ e. let f : true ≡ false = rw e at (o .1) in absurd (false≢true (sym f))) (λ e. (o .0, rw e at (o .1)))
-
       own′ : (s : ℕ) → IsOut (joinInto y a b) s → changed (k .own) a (k .own a ++ k .own b) s ≡ own (jv ∷ d) (changed (y .terminal) a (length d) s)
       own′ s o =
           cases (eqb s a)
           (λ e. rw (e, tabulate-newest ownStep [] jv d, A .same-own a (H .out-a), A .same-own b (H .out-b)))
-          (λ e. rw (e, tabulate-older ownStep [] jv d (y .terminal s) (terminal-low y k A s)) (A .same-own s (old s o)))
+          (λ e. rw (e, tabulate-older ownStep [] jv d (y .terminal s) (terminal-low y k A s)) (A .same-own s (joined-out y a b s o .0)))
 
       joinable′ : (x z : ℕ) → IsOut (joinInto y a b) x → IsOut (joinInto y a b) z → cond (eqb x a) (k .joinable a z || k .joinable b z) (k .joinable x z) ≡ J (joinInto y a b) x z
       joinable′ x z ox oz =
           cases (eqb x a)
           (λ e.
-          ap (λ t. cond t (k .joinable a z || k .joinable b z) (k .joinable x z)) e ∙ ap (λ t. t || k .joinable b z) (A .same-joinable a z (H .out-a) (old z oz)) ∙ ap (λ t. J y a z || t) (A .same-joinable b z (H .out-b) (old z oz))
+          ap (λ t. cond t (k .joinable a z || k .joinable b z) (k .joinable x z)) e ∙ ap (λ t. t || k .joinable b z) (A .same-joinable a z (H .out-a) (joined-out y a b z oz .0)) ∙ ap (λ t. J y a z || t) (A .same-joinable b z (H .out-b) (joined-out y a b z oz .0))
           ∙ sym (J-joiner y F (A .marked .marks) a b H z oz) ∙ ap (λ t. J (joinInto y a b) t z) (sym (eqb-true x a e)))
-          (λ e. ap (λ t. cond t (k .joinable a z || k .joinable b z) (k .joinable x z)) e ∙ A .same-joinable x z (old x ox) (old z oz) ∙ sym (J-join-other y F (A .marked .marks) a b H x z (eqb-false x a e)))
+          (λ e. ap (λ t. cond t (k .joinable a z || k .joinable b z) (k .joinable x z)) e ∙ A .same-joinable x z (joined-out y a b x ox .0) (joined-out y a b z oz .0) ∙ sym (J-join-other y F (A .marked .marks) a b H x z (eqb-false x a e)))
 
       caught′ : (c x : ℕ) → IsOut (joinInto y a b) x → cond (eqb x a) (k .caughtUp c a || k .caughtUp c b) (k .caughtUp c x) ≡ caught (joinInto y a b) c x
       caught′ c x o =
@@ -243,4 +235,4 @@ module _ (y : Day) (k : Machine) (A : Agree y k) where
           (λ e.
           ap (λ t. cond t (k .caughtUp c a || k .caughtUp c b) (k .caughtUp c x)) e ∙ ap (λ t. t || k .caughtUp c b) (A .same-caughtUp c a (H .out-a)) ∙ ap (λ t. caught y c a || t) (A .same-caughtUp c b (H .out-b))
           ∙ sym (caught-joiner y F a b c) ∙ ap (λ t. caught (joinInto y a b) c t) (sym (eqb-true x a e)))
-          (λ e. ap (λ t. cond t (k .caughtUp c a || k .caughtUp c b) (k .caughtUp c x)) e ∙ A .same-caughtUp c x (old x o) ∙ sym (caught-join y F a b c x (eqb-false x a e)))
+          (λ e. ap (λ t. cond t (k .caughtUp c a || k .caughtUp c b) (k .caughtUp c x)) e ∙ A .same-caughtUp c x (joined-out y a b x o .0) ∙ sym (caught-join y F a b c x (eqb-false x a e)))

@@ -10,7 +10,7 @@ use native.Mathlib.Omega.{arith}
 use lib.Dec.{eqb}
 use borrow.Author.Tests.{eqb-false, eqb-true, ne-eqb, not-true}
 use Rattle.diagram.proofs.Arranged.Advance.{May, may, true-may}
-use Rattle.diagram.proofs.Days.Moves.{CanFork, CanJoin, Moves, enters, joinsInto, joinable, forksAt, yields}
+use Rattle.diagram.proofs.Days.Moves.{CanFork, CanJoin, Moves, enters, joined-out, joinsInto, joinable, forksAt, yields}
 use Rattle.diagram.proofs.Days.Real.{Real}
 use Rattle.diagram.proofs.Graph.Paths.{leads-self}
 use Rattle.machine.proofs.Marks.Terminals.{enter-fork, enter-start, fork-by, forkSeen, join-fork, join-fork-joiner, join-start}
@@ -170,16 +170,13 @@ module _ (y : Day) (F : Fine y) where
       ab : J y a b ≡ true
       ab = rule-J y a b (record { not-main = H .not-main; not-self = H .not-self; fork-seen = H .fork-seen; start-unseen = H .start-unseen })
 
-      was : (s : ℕ) → IsOut yh s → IsOut y s × (s ≡ b → ⊥)
-      was s o = cases (eqb s b) (λ e. let f : true ≡ false = rw e at (o .1) in absurd (false≢true (sym f))) (λ e. ((o .0, rw e at (o .1)), eqb-false s b e))
-
       -- the join shows the joiner no start of a revision that is out
       starts-stay : (z x : ℕ) → IsOut yh z → startSeen yh z x ≡ startSeen y z x
       starts-stay z x oz =
           cases (eqb x a)
           (λ e.
           subst (λ w. startSeen yh z w ≡ startSeen y z w) (sym (eqb-true x a e))
-          (join-start-joiner y F a b z ∙ same-truth _ _ (λ t. either (or-cases (startSeen y z a) (startSeen y z b) t) (λ k. k) (λ k. K .through a b z (H .out-a) (H .out-b) (was z oz .0) ab k (was z oz .1))) (λ t. or-left _ _ t)))
+          (join-start-joiner y F a b z ∙ same-truth _ _ (λ t. either (or-cases (startSeen y z a) (startSeen y z b) t) (λ k. k) (λ k. K .through a b z (H .out-a) (H .out-b) (joined-out y a b z oz .0) ab k (joined-out y a b z oz .1))) (λ t. or-left _ _ t)))
           (λ e. join-start y F a b z x (eqb-false x a e))
 
       -- J after a join: of another joiner as it was
@@ -189,11 +186,11 @@ module _ (y : Day) (F : Fine y) where
 
       -- z stands right of b, and b right of a: a does not see z's start
       right : (z : ℕ) → IsOut yh z → J y b z ≡ true → (z ∷ a ∷ []) ⊑ F .layout
-      right z oz g = pair-trans z b a (F .layout) (R .linked .inv .distinct) (pair-order b z (H .out-b) (was z oz .0) g) (pair-order a b (H .out-a) (H .out-b) ab)
+      right z oz g = pair-trans z b a (F .layout) (R .linked .inv .distinct) (pair-order b z (H .out-b) (joined-out y a b z oz .0) g) (pair-order a b (H .out-a) (H .out-b) ab)
 
       hidden : (z : ℕ) → IsOut yh z → J y b z ≡ true → startSeen y z a ≡ true → ⊥
       hidden z oz g e =
-          either (K .left a z (H .out-a) (was z oz .0) e)
+          either (K .left a z (H .out-a) (joined-out y a b z oz .0) e)
           (λ q. pair-self z (F .layout) (R .linked .inv .distinct) (subst (λ s. (z ∷ s ∷ []) ⊑ F .layout) q (right z oz g)))
           (λ q. pair-self z (F .layout) (R .linked .inv .distinct) (pair-trans z a z (F .layout) (R .linked .inv .distinct) (right z oz g) q))
 
@@ -207,7 +204,7 @@ module _ (y : Day) (F : Fine y) where
               let u = or-false (startSeen y z a) (startSeen y z b) (sym (join-start-joiner y F a b z) ∙ h .start-unseen) in
               either (or-cases (forkSeen y z a) (forkSeen y z b) (sym (join-fork-joiner y F a b z) ∙ h .fork-seen))
               (λ k. or-left (J y a z) (J y b z) (rule-J y a z (record { not-main = h .not-main; not-self = h .not-self; fork-seen = k; start-unseen = u .0 })))
-              (λ k. or-right (J y a z) (J y b z) (rule-J y b z (record { not-main = h .not-main; not-self = was z oz .1; fork-seen = k; start-unseen = u .1 })))
+              (λ k. or-right (J y a z) (J y b z) (rule-J y b z (record { not-main = h .not-main; not-self = joined-out y a b z oz .1; fork-seen = k; start-unseen = u .1 })))
 
           back : (J y a z || J y b z) ≡ true → J yh a z ≡ true
           back e =
@@ -224,8 +221,8 @@ module _ (y : Day) (F : Fine y) where
 
       join-left : (x z : ℕ) → IsOut yh x → IsOut yh z → startSeen yh z x ≡ true → (x ≡ z) ⊎ ((x ∷ z ∷ []) ⊑ remove b (F .layout))
       join-left x z ox oz e =
-          either (K .left x z (was x ox .0) (was z oz .0) (sym (starts-stay z x oz) ∙ e)) (λ q. inl q)
-          (λ q. inr (remove-sub b (x ∷ z ∷ []) (F .layout) q (λ i. either (List·Memᴰ·cases-cons i) (λ s. was x ox .1 (sym s)) (λ j. was z oz .1 (sym (List·Memᴰ·eq-of-singleton j))))))
+          either (K .left x z (joined-out y a b x ox .0) (joined-out y a b z oz .0) (sym (starts-stay z x oz) ∙ e)) (λ q. inl q)
+          (λ q. inr (remove-sub b (x ∷ z ∷ []) (F .layout) q (λ i. either (List·Memᴰ·cases-cons i) (λ s. joined-out y a b x ox .1 (sym s)) (λ j. joined-out y a b z oz .1 (sym (List·Memᴰ·eq-of-singleton j))))))
 
       join-through : (x w z : ℕ) → IsOut yh x → IsOut yh w → IsOut yh z → J yh x w ≡ true → startSeen yh z w ≡ true → (z ≡ w → ⊥) → startSeen yh z x ≡ true
       join-through x w z ox ow oz h e k = starts-stay z x oz ∙ pick (split (eqb x a))
@@ -234,15 +231,15 @@ module _ (y : Day) (F : Fine y) where
           e′ = sym (starts-stay z w oz) ∙ e
 
           by : (p : ℕ) → IsOut y p → J y p w ≡ true → startSeen y z p ≡ true
-          by p op g = K .through p w z op (was w ow .0) (was z oz .0) g e′ k
+          by p op g = K .through p w z op (joined-out y a b w ow .0) (joined-out y a b z oz .0) g e′ k
 
           pick : (eqb x a ≡ true) ⊎ (eqb x a ≡ false) → startSeen y z x ≡ true
           pick (inl q) =
               let g = eqb-true x a q in
               subst (λ s. startSeen y z s ≡ true) (sym g)
               (either (or-cases (J y a w) (J y b w) (sym (J-joiner w ow) ∙ subst (λ s. J yh s w ≡ true) g h)) (by a (H .out-a))
-              (λ j. K .through a b z (H .out-a) (H .out-b) (was z oz .0) ab (by b (H .out-b) j) (was z oz .1)))
-          pick (inr q) = by x (was x ox .0) (sym (J-join-other x w (eqb-false x a q)) ∙ h)
+              (λ j. K .through a b z (H .out-a) (H .out-b) (joined-out y a b z oz .0) ab (by b (H .out-b) j) (joined-out y a b z oz .1)))
+          pick (inr q) = by x (joined-out y a b x ox .0) (sym (J-join-other x w (eqb-false x a q)) ∙ h)
 
       own-stays : (s : ℕ) → s < y .revisions → startSeen yh s s ≡ true
       own-stays s h =
