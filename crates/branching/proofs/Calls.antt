@@ -1,7 +1,7 @@
 -- A fork from what its checks find.
 use Prim.Native.Nat.{ℕ, _<_}
-use mathlib.Core.Bool.{Bool, true, false, cond}
-use mathlib.Core.Path.{_≡_, refl}
+use mathlib.Core.Bool.{true, false, cond}
+use mathlib.Core.Path.{_≡_}
 use mathlib.Core.List.{List, _++_}
 use native.Mathlib.Omega.{arith}
 use Rattle.cells.specs.Decode.{cells}
@@ -9,26 +9,20 @@ use Rattle.cells.specs.Steps.{forkBytes}
 use Rattle.cells.specs.Checks.{noneLeft}
 use Rattle.fields.specs.declared.table.Revision.{Revision}
 use Rattle.revisions.specs.Checks.{nextCheck}
-use Rattle.revisions.specs.declared.checks.NextCheck.the-variants as left
 use Rattle.table.specs.Halves.{low, high, isTable}
 use Rattle.table.specs.Answers.{refused, taken}
 use Rattle.table.specs.Calls.{forkOut}
 use Rattle.table.specs.Found.{onNext, onQuiet, onPair}
 use Rattle.table.specs.Checks.{quietCheck}
 use Rattle.table.specs.declared.pair.PairCheck.{PairCheck}
-use Rattle.table.proofs.Calls.{given-is, quiet-cond, pair-cond}
+use Rattle.table.proofs.Calls.{over, given-is, quiet-cond, pair-cond}
 use Rattle.branching.specs.Checks.{forkCheck}
 
 -- the check's answer taken apart is a test
-left-by : {A : Type 0} (b : Bool) (x : Revision) (end : A) (rest : Revision → A) → onNext (cond b left.Exhausted (left.Next x)) end rest ≡ cond b end (rest x)
-unfolding onNext
-left-by true x end rest = refl
-left-by false x end rest = refl
-
-left-is : {A : Type 0} (d : List ℕ) (end : A) (rest : Revision → A)
+next-is : {A : Type 0} (d : List ℕ) (end : A) (rest : Revision → A)
     → onNext (nextCheck d) end rest ≡ cond (noneLeft (cells d)) end (rest (record { 0 = cells d .given }))
-unfolding nextCheck
-left-is d end rest = left-by (noneLeft (cells d)) (record { 0 = cells d .given }) end rest
+unfolding nextCheck onNext
+next-is d end rest = over (λ z. onNext z end rest) (noneLeft (cells d)) _ _
 
 -- the call on bytes that are no table
 pub no-fork : (t : List ℕ) → isTable t ≡ false → (n : ℕ) → refused t 1 ≡ forkOut t n
@@ -39,7 +33,7 @@ no-fork t h n = rw h
 pub fork-by : (t : List ℕ) → isTable t ≡ true → (n : ℕ) (z : PairCheck) → forkCheck (low t) n ≡ z
     → onPair z (refused t) (λ p c. taken (forkBytes (low t) (p .0) (c .0) ++ high t) (c .0)) ≡ forkOut t n
 unfolding forkCheck quietCheck forkOut onQuiet onPair
-fork-by t h n z e = rw (← e) (simp (given-is, left-is, quiet-cond, pair-cond, h))
+fork-by t h n z e = rw (← e) (simp (given-is, next-is, quiet-cond, pair-cond, h))
 
 pub same-taken : (a b : List ℕ) (v w : ℕ) → a ≡ b → v ≡ w → taken a v ≡ taken b w
 same-taken a b v w e f = rw (e, f)

@@ -1,12 +1,12 @@
 -- A step on the parts is the step on the cells: query, update, close and join.
 use Prim.Native.Nat.{ℕ, suc, _+_, _-_, _<_}
-use mathlib.Core.Bool.{Bool, false, cond, _&&_}
-use mathlib.Core.Path.{_≡_, _∙_, fun-ext}
+use mathlib.Core.Bool.{Bool, true, false, cond, _&&_}
+use mathlib.Core.Path.{_≡_, refl, _∙_, fun-ext}
 use native.Mathlib.Omega.{arith}
 use lib.Dec.{eqb, ltb}
 use lib.ListN.{set}
 use lib.Seq.{getD-set-same, getD-set-other}
-use borrow.Author.Tests.{eqb-true, ne-eqb, ltb-false, lt-ltb}
+use borrow.Author.Tests.{eqb-true, lt-ltb}
 use Rattle.lists.specs.Lists.{changed}
 use Rattle.lists.proofs.Cases.{cases}
 use Rattle.cells.specs.Sizes.{revisions, clients, updates, closed}
@@ -22,18 +22,16 @@ use Rattle.cells.proofs.Words.{word-put, byte-put-other, word-set-other
 use Rattle.cells.proofs.Marks.{mark-row, Within, marks-within, mark-pack}
 
 -- a test that implies a bound
-pub bounded : (x r n : ℕ) → r < n → (ltb x n && eqb x r) ≡ eqb x r
-bounded x r n h =
-    cases (ltb x n)
-    (λ e. rw e)
-    (λ e. let l = ltb-false x n e in rw (e, ne-eqb x r (omega arith)))
+pub bounded : (b : Bool) (x n : ℕ) → (b ≡ true → x < n) → (ltb x n && b) ≡ b
+bounded true x n h = rw (lt-ltb x n (h refl))
+bounded false x n h = cases (ltb x n) (λ e. rw e) (λ e. rw e)
 
 module _ (p : Parts) (h : Sized p) (c r : ℕ) (cl : c < clients) (rl : r < revisions) where
   pub caught-only : (x y : ℕ) → markIn 8 clients (putRow 8 (p caughtPart) c (λ z. eqb z r)) x y ≡ onlyCaught (decode p .caught) c r x y
   unfolding size
   caught-only x y =
       mark-row 8 clients (p caughtPart) c (λ z. eqb z r) (h .of caughtPart) cl x y
-      ∙ cases (eqb x c) (λ e. rw e (bounded y r revisions rl)) (λ e. rw e)
+      ∙ cases (eqb x c) (λ e. rw e (bounded (eqb y r) y revisions (λ q. rw (eqb-true y r q) rl))) (λ e. rw e)
 
   pub opened-changed : (v x : ℕ) → byte (set (p openedPart) c v) x ≡ changed (decode p .opened) c v x
   unfolding size

@@ -112,9 +112,12 @@ gather-more link u (suc m) out p h =
     let g : m < length (set out m u) = simp length-set (omega arith) in
     rw (sub-one, drop-cons (set out m u) m 0 g, getD-set-same out m u 0 (omega arith), drop-set-lt (suc m) out m u (omega arith), append-assoc)
 
--- the first n places hold the own list
-pub gathered : (k : Cells) (x n : ℕ) (g rest : List ℕ) → n ≡ k .count x → g ≡ own k x ++ rest → take n g ≡ own k x
-gathered k x n g rest e q = ap (take n) q ∙ take-at (own k x) rest n (chain-length (k .link) (k .last x) (k .count x) ∙ sym e)
+-- what a list leaves in the first n places: itself, so the own list
+pub fits : (n : ℕ) (a b l : List ℕ) → n ≡ length a → l ≡ a ++ b → (n ≤ length l) × (take n l ≡ a)
+fits n a b l e h = (rw (h, length-append) (omega arith), rw h (take-at a b n (sym e)))
+
+pub gathered : (k : Cells) (x n : ℕ) (g rest : List ℕ) → n ≡ k .count x → g ≡ own k x ++ rest → (n ≤ length g) × (take n g ≡ own k x)
+gathered k x n g rest e q = fits n (own k x) rest g (e ∙ sym (chain-length (k .link) (k .last x) (k .count x))) q
 
 pub picks-all : (k : Cells) (x n : ℕ) (f : ℕ → Bool) → n ≡ k .count x → picks n f (own k x) ≡ own k x
 picks-all k x n f e =
@@ -136,4 +139,4 @@ module _ (b : List ℕ) (lb : length b ≡ updates) (n : ℕ) (h : n ≤ updates
   sift-end i after m g d = added-as (ap (picks base f) (take-all i l g)) d
 
 pub gathered-length : (k : Cells) (x n : ℕ) (g rest : List ℕ) → n ≡ k .count x → g ≡ own k x ++ rest → n ≡ length (take n g)
-gathered-length k x n g rest e q = e ∙ sym (ap length (gathered k x n g rest e q) ∙ chain-length (k .link) (k .last x) (k .count x))
+gathered-length k x n g rest e q = sym (length-take-le n g (gathered k x n g rest e q .0))

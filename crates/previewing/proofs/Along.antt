@@ -1,14 +1,13 @@
 -- The standing of a bib after a join, from the entries in the upper half.
-use Prim.Native.Nat.{ℕ, _≤_}
+use Prim.Native.Nat.{ℕ}
 use mathlib.Core.Bool.{true}
 use mathlib.Core.Path.{_≡_, sym, _∙_, ap}
-use mathlib.Core.List.{List, _++_}
+use mathlib.Core.List.{List}
 use lib.ListN.{length, take}
 use borrow.Rule.Slice.PartMut.{midOf}
-use Rattle.cells.proofs.Chain.{chain-length}
 use Rattle.updates.specs.Applied.{applied, freshStanding}
 use Rattle.updates.specs.declared.standing.Standing.{Standing}
-use Rattle.cells.specs.Cells.{Cells, own}
+use Rattle.cells.specs.Cells.{own}
 use Rattle.cells.specs.Order.{order}
 use Rattle.cells.specs.Range.{inRange}
 use Rattle.entries.specs.Sizes as Upper
@@ -17,16 +16,12 @@ use Rattle.entries.specs.Folded.{ofBib}
 use Rattle.entries.proofs.Folded.{applied-both}
 use Rattle.table.specs.Halves.{bytes, low, high, cellsOf}
 use Rattle.table.specs.Calls.{standingAt, standingAfter}
-use Rattle.table.proofs.Halves.{high-whole, fits}
+use Rattle.table.proofs.Halves.{high-whole}
 
 -- the lower half lent is in range
 pub low-range : (t : List ℕ) → inRange (low t) ≡ true → inRange (midOf 0 40960 t) ≡ true
 unfolding low
 low-range t e = e
-
--- an own list in the first places
-pub own-fits : (k : Cells) (r n : ℕ) (l rest : List ℕ) → n ≡ k .count r → l ≡ own k r ++ rest → (n ≤ length l) × (take n l ≡ own k r)
-own-fits k r n l rest e h = fits n (own k r) rest l (e ∙ sym (chain-length (k .link) (k .last r) (k .count r))) h
 
 -- on along an own list
 pub standing-own : (t l : List ℕ) (r bib : ℕ) (s z : Standing) → length t ≡ bytes → l ≡ own (cellsOf t) r

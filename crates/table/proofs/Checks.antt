@@ -12,7 +12,7 @@ use Rattle.fields.specs.declared.table.Client.{Client}
 use Rattle.fields.specs.declared.table.Revision.{Revision}
 use Rattle.cells.specs.Sizes.{clients, revisions}
 use Rattle.cells.specs.Decode.{cells}
-use Rattle.cells.specs.Checks.{isClient, givenOut, joined, openElsewhere, busy, busyByOther, stale, joinable}
+use Rattle.cells.specs.Checks.{givenOut, joined, openElsewhere, busy, busyByOther, stale, joinable}
 use Rattle.revisions.specs.Checks.{clientCheck, givenCheck, joinedCheck, openCheck, useCheck, otherUseCheck, staleCheck, joinableCheck}
 use Rattle.revisions.specs.declared.checks.ClientCheck.the-variants as client
 use Rattle.revisions.specs.declared.checks.GivenCheck.{GivenCheck}
@@ -22,6 +22,7 @@ use Rattle.revisions.specs.declared.checks.OpenCheck.the-variants as transactio
 use Rattle.revisions.specs.declared.checks.UseCheck.the-variants as revision
 use Rattle.revisions.specs.declared.checks.StaleCheck.the-variants as event
 use Rattle.revisions.specs.declared.checks.JoinableCheck.the-variants as join
+use Rattle.revisions.proofs.Numbers.{known-client}
 use Rattle.table.specs.Checks.{bibCheck, quietCheck}
 use Rattle.table.specs.Found.{onGiven}
 use Rattle.table.specs.declared.bib.BibCheck.the-variants as bib
@@ -38,12 +39,7 @@ failed false a b x never e = (refl, e)
 
 -- code 2
 pub known : (n : ℕ) (x : Client) → clientCheck n ≡ client.Known x → x .0 < clients
-unfolding clientCheck
-known n x e =
-    let p = held (isClient n) _ _ _ (λ d. let z : _≡_ {A = ℕ} 0 1 = cc in omega arith) e in
-    let v : x .0 ≡ n = cc (p .1) in
-    let l = ltb-true n clients (p .0) in
-    omega arith
+known n x e = let k = known-client n x e in omega arith
 
 -- code 5
 pub bib-known : (n : ℕ) → bibCheck n ≡ bib.Known → badBib n ≡ false

@@ -1,9 +1,9 @@
 -- The halves of a table: put together from them, and each one lent.
-use Prim.Native.Nat.{ℕ, _+_, _≤_}
-use mathlib.Core.Path.{_≡_, ap, sym}
+use Prim.Native.Nat.{ℕ, _+_}
+use mathlib.Core.Path.{_≡_, ap}
 use mathlib.Core.List.{List, _++_}
 use native.Mathlib.Omega.{arith}
-use lib.ListN.{length, take, drop, length-take, length-drop, length-append}
+use lib.ListN.{length, take, drop, length-take, length-drop}
 use lib.Seq.{take-at, take-all, drop-at}
 use borrow.Rule.Slice.PartMut.{midOf, putMid}
 use Rattle.cells.specs.Sizes as Lower
@@ -38,10 +38,6 @@ low-length t h = first-length 40960 24576 t h
 
 pub high-length : (t : List ℕ) → length t ≡ bytes → length (midOf 40960 24576 t) ≡ Upper.bytes
 high-length t h = last-length 40960 24576 t h
-
--- what the listing leaves in the first places
-pub fits : (n : ℕ) (a b l : List ℕ) → n ≡ length a → l ≡ a ++ b → (n ≤ length l) × (take n l ≡ a)
-fits n a b l e h = (rw (h, length-append) (omega arith), rw h (take-at a b n (sym e)))
 
 to-end : (a k : ℕ) (t : List ℕ) → length t ≡ a + k → take k (drop a t) ≡ drop a t
 to-end a k t h = take-all k (drop a t) (rw length-drop (omega arith))

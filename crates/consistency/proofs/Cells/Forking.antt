@@ -1,6 +1,6 @@
 -- A fork: the cells follow.
 use Prim.Native.Nat.{_≤_, _<_, suc, ℕ}
-use mathlib.Core.Bool.{Bool, _&&_, _||_, cond, false, or-assoc, or-false, true}
+use mathlib.Core.Bool.{_&&_, _||_, cond, false, or-assoc, or-false, true}
 use mathlib.Core.Path.{_∙_, _≡_, ap, refl, subst, sym}
 use mathlib.Core.List.{List, _++_, _∷_}
 use native.Mathlib.Omega.{arith}
@@ -17,14 +17,11 @@ use Rattle.cells.specs.Sizes.{main, revisions, updates}
 use Rattle.cells.specs.Cells.{Cells, chain, marked, own}
 use Rattle.cells.specs.CellSteps.{forkCells, forkRow}
 use Rattle.cells.proofs.Places.{fork-outs, insert-length}
+use Rattle.cells.proofs.Follow.{bounded}
 use Rattle.consistency.proofs.Cells.Laid.{Laid}
 use Rattle.consistency.proofs.Cells.Represents.{Represents, count-is, out-low, stateCell}
 
--- a test that implies a bound; a number that is not the next
-bounded : (b : Bool) (v n : ℕ) → (b ≡ true → v < n) → (ltb v n && b) ≡ b
-bounded true v n h = rw (lt-ltb v n (h refl))
-bounded false v n h = cases (ltb v n) (λ e. rw e) (λ e. rw e)
-
+-- a number that is not the next
 next-given : (r n : ℕ) → (r ≡ n → ⊥) → ltb r (suc n) ≡ ltb r n
 next-given r n d = cases (ltb r n) (λ e. let l = ltb-true r n e in lt-ltb r (suc n) (omega arith) ∙ sym e) (λ e. let l = ltb-false r n e in le-ltb r (suc n) (omega arith) ∙ sym e)
 

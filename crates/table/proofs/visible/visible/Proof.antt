@@ -2,8 +2,9 @@
 use native.Mathlib.Omega.{arith}
 use borrow.Author.Needs.{needs}
 use Rattle.cells.specs.Order.{order}
+use Rattle.order.proofs.Laws.{fits}
 use Rattle.table.specs.Halves.{low, cellsOf}
-use Rattle.table.proofs.Halves.{fits, low-length}
+use Rattle.table.proofs.Halves.{low-length}
 use Rattle.table.proofs.visible.visible.Statement.{statement}
 use Rattle.table.proofs.visible.visible.Tie as tie
 
