@@ -4,6 +4,7 @@ pub mod Accepting
 pub mod Real
 pub mod Sound
 pub mod Outside
+pub mod Entry
 pub mod Entering
 pub mod Yielding
 pub mod Forking

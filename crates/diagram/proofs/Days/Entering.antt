@@ -1,121 +1,44 @@
--- An event keeps the day sound.
+-- An event keeps the day sound: the transactions, the sessions and what is whole, with the event's vertex added.
 use Prim.Native.Nat.{_<_, _≤_, suc, ℕ}
 use mathlib.Core.Bool.{Bool, cond, false, false≢true, true}
 use mathlib.Core.Path.{_∙_, _≡_, ap, refl, subst, sym}
 use mathlib.Core.Logic.{_⊎_, inl, inr}
 use mathlib.Core.Option.{Option, none, some}
-use mathlib.Core.List.{List, List·Memᴰ·append-cases, List·Memᴰ·eq-of-singleton, List·Memᴰ·head, List·Memᴰ·not-nil, Memᴰ·append-left}
+use mathlib.Core.List.{List, List·Memᴰ·append-cases, List·Memᴰ·eq-of-singleton, List·Memᴰ·head, Memᴰ·append-left}
 use mathlib.Core.List.{Memᴰ·append-right, Memᴰ·cast, [], _++_, _∷_, append-assoc, append-nil}
 use native.Mathlib.Omega.{arith}
 use lib.ListN.{length}
 use lib.Dec.{eqb}
 use borrow.Author.Tests.{eq-eqb, eqb-false, eqb-true}
+use Rattle.diagram.proofs.Days.Entry.{Entry, facts, mine-sees}
 use Rattle.diagram.proofs.Days.Moves.{CanEnter}
 use Rattle.diagram.proofs.Days.Real.{real-enter}
-use Rattle.diagram.proofs.Days.Sound.{Filed, Runs, Seal, Sessions, Sound, Whole, event-low, leads-low, link, order-once, some≢none}
+use Rattle.diagram.proofs.Days.Sound.{Filed, Runs, Seal, Sessions, Sound, Whole, event-low, leads-low, link, some≢none}
 use Rattle.diagram.proofs.Graph.Events.{ownEventStep, ownEvents}
-use Rattle.diagram.proofs.Graph.Paths.{leads-down, leads-newest, leads-old, leads-start, leads-trans, leads-up}
+use Rattle.diagram.proofs.Graph.Paths.{leads-down, leads-newest, leads-old, leads-start, leads-up}
 use Rattle.diagram.proofs.Graph.Tables.{tabulate-newest, tabulate-older}
 use Rattle.diagram.specs.Arbitration.{eventsOf}
 use Rattle.diagram.specs.Day.{Day, IsOut, Transaction}
 use Rattle.diagram.specs.Diagram.{Diagram, Vertex, event, leads}
 use Rattle.diagram.specs.Steps.{countedWith, enter, entersInto, eventsBefore}
-use Rattle.lists.proofs.Blocks.{flat-++, flat-same, flatBack-nodup, flatBack-one}
+use Rattle.lists.proofs.Blocks.{flat-++, flat-same}
 use Rattle.lists.proofs.Cases.{cases, either, split}
 use Rattle.lists.proofs.Changed.{changed-other, changed-same}
-use Rattle.lists.proofs.Sublists.{mem?, nodup-apart}
+use Rattle.lists.proofs.Sublists.{mem?}
 use Rattle.lists.specs.Lists.{_∈_, changed, flat}
 
 module _ (y : Day) (layout : List ℕ) (hold : ℕ → List ℕ) (S : Sound y layout hold) (c r : ℕ) (u : Bool) (E : CanEnter y c r) where
   abbrev d : Diagram
   d = y .diagram
 
-  r-in : r ∈ layout
-  r-in = S .real .out r (E .out)
-
   terminal-low : y .terminal r < length d
   terminal-low = S .real .linked .bound r
-
-  -- an event of c leads to where c goes on
-  mine-sees : (t e : ℕ) → t < y .transactions → y .transaction t .client ≡ c → e ∈ eventsOf y t → leads d e (y .terminal r) ≡ true
-  mine-sees t e h q i =
-      let l = S .sessions .last-sees t e h i in
-      leads-trans (link y layout hold S .ordered) e (l .0) (y .terminal r) (l .2) (E .caught-up (l .0) (rw q at (l .1)))
-
-  -- where the event goes: into the open transaction, or into a new one
-  record Entry (o : Option ℕ) : Type 0 where
-    init : List ℕ
-    block : ownEvents d (y .terminal r) ≡ flat (eventsOf y) init ++ eventsBefore y o
-    not-init : entersInto y o ∈ init → ⊥
-    not-other : (x : ℕ) → x ∈ layout → (x ≡ r → ⊥) → entersInto y o ∈ hold x → ⊥
-    init-in : (s : ℕ) → s ∈ init → s ∈ hold r
-    held : (s : ℕ) → s ∈ hold r → (s ∈ init) ⊎ (s ≡ entersInto y o)
-    known : entersInto y o < countedWith y o
-    more : y .transactions ≤ countedWith y o
-    fewer : (s : ℕ) → s < countedWith y o → (s ≡ entersInto y o → ⊥) → s < y .transactions
-    lone : (a s : ℕ) → y .openBy a ≡ some s → (a ≡ c → ⊥) → s ≡ entersInto y o → ⊥
-    mine : (s : ℕ) → y .openBy c ≡ some s → s ≡ entersInto y o
-    before-sees : (e : ℕ) → e ∈ eventsBefore y o → leads d e (y .terminal r) ≡ true
-    before-later : (s e f : ℕ) → s < entersInto y o → y .transaction s .client ≡ c → e ∈ eventsOf y s → f ∈ eventsBefore y o → leads d e f ≡ true
-    before-low : (e : ℕ) → e ∈ eventsBefore y o → e < length d
-    quiet : (x e : ℕ) → x < length d → (x ∈ eventsBefore y o → ⊥) → e ∈ eventsBefore y o → leads d e x ≡ true → ⊥
-    tips : (s : ℕ) → IsOut y s → (s ≡ r → ⊥) → y .terminal s ∈ eventsBefore y o → ⊥
-    latest : (s : ℕ) → entersInto y o < s → s < y .transactions → y .transaction s .client ≡ c → ⊥
-
-  own-r : ownEvents d (y .terminal r) ≡ flat (eventsOf y) (hold r)
-  own-r = S .filed .blocks-ok r r-in
-
-  facts : (o : Option ℕ) → y .openBy c ≡ o → Entry o
-  facts none q = record {
-    init = hold r;
-    block = own-r ∙ sym (append-nil (flat (eventsOf y) (hold r)));
-    not-init = λ i. omega (arith, S .filed .low r (y .transactions) r-in i);
-    not-other = λ x j n i. omega (arith, S .filed .low x (y .transactions) j i);
-    init-in = λ s i. i;
-    held = λ s i. inl i;
-    known = omega arith;
-    more = omega arith;
-    fewer = λ s h n. omega arith;
-    lone = λ a s e n k. omega (arith, S .runs a s e .known);
-    mine = λ s e. absurd (some≢none (y .openBy c) e q);
-    before-sees = λ e i. absurd (List·Memᴰ·not-nil i);
-    before-later = λ s e f l k i j. absurd (List·Memᴰ·not-nil j);
-    before-low = λ e i. absurd (List·Memᴰ·not-nil i);
-    quiet = λ x e h n i k. List·Memᴰ·not-nil i;
-    tips = λ s o n i. List·Memᴰ·not-nil i;
-    latest = λ s l k e. omega arith;
-  }
-  facts (some t) q = record {
-    init = R .at-end .0;
-    block = own-r ∙ ap (flat (eventsOf y)) ends ∙ flat-++ (eventsOf y) (R .at-end .0) (t ∷ []) ∙ ap (λ z. flat (eventsOf y) (R .at-end .0) ++ z) (append-nil (eventsOf y t));
-    not-init = λ i. nodup-apart (R .at-end .0) (t ∷ []) (rw ends at (flatBack-nodup hold r layout r-in (order-once y layout hold S))) t i (List·Memᴰ·head refl);
-    not-other = λ x j n i. n (flatBack-one hold layout (order-once y layout hold S) x r t j r-in i (rw ends (Memᴰ·append-right (R .at-end .0) (List·Memᴰ·head refl))));
-    init-in = λ s i. rw ends (Memᴰ·append-left (t ∷ []) i);
-    held = λ s i. either (List·Memᴰ·append-cases (R .at-end .0) (rw ends at i)) (λ j. inl j) (λ j. inr (List·Memᴰ·eq-of-singleton j));
-    known = R .known;
-    more = omega arith;
-    fewer = λ s h n. h;
-    lone = λ a s e n k. n (sym (S .runs a s e .client) ∙ ap (λ z. y .transaction z .client) k ∙ R .client);
-    mine = λ s e. let z : s ≡ t = cc in z;
-    before-sees = λ e i. mine-sees t e (R .known) (R .client) i;
-    before-later = λ s e f l k i j. S .sessions .later s t e f l (R .known) (k ∙ sym (R .client)) i j;
-    before-low = λ e i. event-low y layout hold S t e (R .known) i;
-    quiet = λ x e h n i k. some≢none (y .transaction t .closed) (S .whole .outside t x e (R .known) h n i k .is) (R .unshut);
-    tips = λ s o n i. n (sym (S .whole .own-revision s t o (R .known) i (R .unshut)) ∙ E .same-revision t q);
-    latest = λ s l k e. R .latest s l k e;
-  }
-    where
-      R : Runs y hold c t
-      R = S .runs c t q
-
-      ends : hold r ≡ R .at-end .0 ++ (t ∷ [])
-      ends = subst (λ z. hold z ≡ R .at-end .0 ++ (t ∷ [])) (E .same-revision t q) (R .at-end .1)
 
   abbrev o : Option ℕ
   o = y .openBy c
 
-  X : Entry o
-  X = facts o refl
+  X : Entry y layout hold S c r E o
+  X = facts y layout hold S c r E o refl
 
   abbrev t0 : ℕ
   t0 = entersInto y o
@@ -191,7 +114,7 @@ module _ (y : Day) (layout : List ℕ) (hold : ℕ → List ℕ) (S : Sound y la
           keep n x i j = cases (eqb x r) (λ e. rw e (either (X .held t (rw (eqb-true x r e) at j)) (λ k. Memᴰ·append-left (t0 ∷ []) k) (λ k. absurd (n k)))) (λ e. rw e j)
 
           pick : (t ≡ t0) ⊎ ((t ≡ t0 → ⊥) × (t < y .transactions)) → (x : ℕ) × (x ∈ layout) × (t ∈ hold′ x)
-          pick (inl e) = (r, r-in, rw (changed-same hold r (X .init ++ (t0 ∷ []))) (Memᴰ·append-right (X .init) (List·Memᴰ·head e)))
+          pick (inl e) = (r, S .real .out r (E .out), rw (changed-same hold r (X .init ++ (t0 ∷ []))) (Memᴰ·append-right (X .init) (List·Memᴰ·head e)))
           pick (inr p) = let q = S .filed .all t (p .1) in (q .0, q .1, keep (p .0) (q .0) (q .1) (q .2))
 
       low′ : (x t : ℕ) → x ∈ layout → t ∈ hold′ x → t < y′ .transactions
@@ -201,7 +124,7 @@ module _ (y : Day) (layout : List ℕ) (hold : ℕ → List ℕ) (S : Sound y la
           more h = omega (arith, X .more)
 
           pick : (eqb x r ≡ true) ⊎ (eqb x r ≡ false) → t < countedWith y o
-          pick (inl e) = either (List·Memᴰ·append-cases (X .init) (rw e at j)) (λ k. more (S .filed .low r t r-in (X .init-in t k))) (λ k. rw (List·Memᴰ·eq-of-singleton k) (X .known))
+          pick (inl e) = either (List·Memᴰ·append-cases (X .init) (rw e at j)) (λ k. more (S .filed .low r t (S .real .out r (E .out)) (X .init-in t k))) (λ k. rw (List·Memᴰ·eq-of-singleton k) (X .known))
           pick (inr e) = more (S .filed .low x t i (rw e at j))
 
       first′ : (t : ℕ) → t < y′ .transactions → (e : ℕ) × (e ∈ eventsOf y′ t)
@@ -278,7 +201,7 @@ module _ (y : Day) (layout : List ℕ) (hold : ℕ → List ℕ) (S : Sound y la
       last-old : (t e : ℕ) → t < y .transactions → e ∈ eventsOf y t → (l : ℕ) × (changed (y .lastEvent) c (some x0) (y .transaction t .client) ≡ some l) × (leads (v ∷ d) e l ≡ true)
       last-old t e h i =
           cases (eqb (y .transaction t .client) c)
-          (λ q. let g = eqb-true (y .transaction t .client) c q in last-c (y .transaction t .client) e g (up e (mine-sees t e h g i)))
+          (λ q. let g = eqb-true (y .transaction t .client) c q in last-c (y .transaction t .client) e g (up e (mine-sees y layout hold S c r E t e h g i)))
           (λ q. let l = S .sessions .last-sees t e h i in (l .0, rw q (l .1), old-sees e (l .0) (leads-low y layout hold S e (l .0) (l .2)) (l .2)))
 
       last′ : (t e : ℕ) → t < y′ .transactions → e ∈ eventsOf y′ t → (l : ℕ) × (y′ .lastEvent (y′ .transaction t .client) ≡ some l) × (leads (v ∷ d) e l ≡ true)
@@ -295,7 +218,7 @@ module _ (y : Day) (layout : List ℕ) (hold : ℕ → List ℕ) (S : Sound y la
           to-new n hs g =
               let qc : y .transaction s .client ≡ c = sym (ap (λ w. w .client) (w-old s n)) ∙ q ∙ ap (λ z. y′ .transaction z .client) g ∙ ap (λ w. w .client) w-new in
               let ie : e ∈ eventsOf y s = rw (e-old s n) at i in
-              either (new-cases f (subst (λ z. f ∈ eventsOf y′ z) g j)) (λ k. old-sees e f (X .before-low f k) (X .before-later s e f (rw g at l) qc ie k)) (λ k. rw k (up e (mine-sees s e hs qc ie)))
+              either (new-cases f (subst (λ z. f ∈ eventsOf y′ z) g j)) (λ k. old-sees e f (X .before-low f k) (X .before-later s e f (rw g at l) qc ie k)) (λ k. rw k (up e (mine-sees y layout hold S c r E s e hs qc ie)))
 
           pick : (s ≡ t0) ⊎ ((s ≡ t0 → ⊥) × (s < y .transactions)) → (t ≡ t0) ⊎ ((t ≡ t0 → ⊥) × (t < y .transactions)) → leads (v ∷ d) e f ≡ true
           pick (inl a) (inl g) = absurd (omega arith)
@@ -341,31 +264,30 @@ module _ (y : Day) (layout : List ℕ) (hold : ℕ → List ℕ) (S : Sound y la
               let n′ : x ∈ eventsOf y t → ⊥ = λ k. n (rw (e-old t (a .0)) k) in
               raise t x x (a .0) (S .whole .outside t x e (a .1) (low g) n′ (rw (e-old t (a .0)) at i) (sym (leads-old v d e x (low g)) ∙ q)) (omega arith) (λ z p. old-sees z x (low g) p)
 
+      -- the terminal of s is an event of t: r's, of the event's transaction; or it was one before
+      ends : (s t : ℕ) → IsOut y′ s → t < y′ .transactions → y′ .terminal s ∈ eventsOf y′ t
+          → ((t ≡ t0) × (eqb s r ≡ true)) ⊎ ((t ≡ t0 → ⊥) × (t < y .transactions) × (eqb s r ≡ false) × (y .terminal s ∈ eventsOf y t))
+      ends s t os h i =
+          either (side t h)
+          (λ a. cases (eqb s r) (λ g. inl (a, g))
+          (λ g.
+          let i′ : y .terminal s ∈ eventsOf y′ t = rw g at i in
+          absurd (either (new-cases (y .terminal s) (subst (λ z. y .terminal s ∈ eventsOf y′ z) a i′)) (λ k. X .tips s os (eqb-false s r g) k) (λ k. omega (arith, S .real .linked .bound s)))))
+          (λ a. cases (eqb s r)
+          (λ g. let i′ : x0 ∈ eventsOf y t = rw (g, e-old t (a .0)) at i in absurd (omega (arith, event-low y layout hold S t x0 (a .1) i′)))
+          (λ g. inr (a .0, a .1, g, rw (g, e-old t (a .0)) at i)))
+
       tip′ : (s t : ℕ) → IsOut y′ s → t < y′ .transactions → y′ .terminal s ∈ eventsOf y′ t → (e : ℕ) → e ∈ eventsOf y′ t → leads (v ∷ d) e (y′ .terminal s) ≡ true
-      tip′ s t os h i e j = pick (side t h) (split (eqb s r))
-        where
-          pick : (t ≡ t0) ⊎ ((t ≡ t0 → ⊥) × (t < y .transactions)) → (eqb s r ≡ true) ⊎ (eqb s r ≡ false) → leads (v ∷ d) e (changed (y .terminal) r x0 s) ≡ true
-          pick (inl a) (inl g) = rw g (either (new-cases e (subst (λ z. e ∈ eventsOf y′ z) a j)) (λ k. up e (X .before-sees e k)) (λ k. rw k (leads-newest v d)))
-          pick (inl a) (inr g) =
-              let i′ : y .terminal s ∈ eventsOf y′ t = rw g at i in
-              absurd (either (new-cases (y .terminal s) (subst (λ z. y .terminal s ∈ eventsOf y′ z) a i′)) (λ k. X .tips s os (eqb-false s r g) k) (λ k. omega (arith, S .real .linked .bound s)))
-          pick (inr a) (inl g) = let i′ : x0 ∈ eventsOf y t = rw (g, e-old t (a .0)) at i in absurd (omega (arith, event-low y layout hold S t x0 (a .1) i′))
-          pick (inr a) (inr g) =
-              let i′ : y .terminal s ∈ eventsOf y t = rw (g, e-old t (a .0)) at i in
-              rw g (old-sees e (y .terminal s) (S .real .linked .bound s) (S .whole .at-terminal s t os (a .1) i′ e (rw (e-old t (a .0)) at j)))
+      tip′ s t os h i e j =
+          either (ends s t os h i)
+          (λ p. rw (p .1) (either (new-cases e (subst (λ z. e ∈ eventsOf y′ z) (p .0) j)) (λ k. up e (X .before-sees e k)) (λ k. rw k (leads-newest v d))))
+          (λ p. rw (p .2) (old-sees e (y .terminal s) (S .real .linked .bound s) (S .whole .at-terminal s t os (p .1) (p .3) e (rw (e-old t (p .0)) at j))))
 
       own′ : (s t : ℕ) → IsOut y′ s → t < y′ .transactions → y′ .terminal s ∈ eventsOf y′ t → y′ .transaction t .closed ≡ none → y′ .transaction t .revision ≡ s
-      own′ s t os h i q = pick (side t h) (split (eqb s r))
-        where
-          pick : (t ≡ t0) ⊎ ((t ≡ t0 → ⊥) × (t < y .transactions)) → (eqb s r ≡ true) ⊎ (eqb s r ≡ false) → y′ .transaction t .revision ≡ s
-          pick (inl a) (inl g) = rw (a, w-new) (sym (eqb-true s r g))
-          pick (inl a) (inr g) =
-              let i′ : y .terminal s ∈ eventsOf y′ t = rw g at i in
-              absurd (either (new-cases (y .terminal s) (subst (λ z. y .terminal s ∈ eventsOf y′ z) a i′)) (λ k. X .tips s os (eqb-false s r g) k) (λ k. omega (arith, S .real .linked .bound s)))
-          pick (inr a) (inl g) = let i′ : x0 ∈ eventsOf y t = rw (g, e-old t (a .0)) at i in absurd (omega (arith, event-low y layout hold S t x0 (a .1) i′))
-          pick (inr a) (inr g) =
-              let i′ : y .terminal s ∈ eventsOf y t = rw (g, e-old t (a .0)) at i in
-              ap (λ w. w .revision) (w-old t (a .0)) ∙ S .whole .own-revision s t os (a .1) i′ (sym (ap (λ w. w .closed) (w-old t (a .0))) ∙ q)
+      own′ s t os h i q =
+          either (ends s t os h i)
+          (λ p. rw (p .0, w-new) (sym (eqb-true s r (p .1))))
+          (λ p. ap (λ w. w .revision) (w-old t (p .0)) ∙ S .whole .own-revision s t os (p .1) (p .3) (sym (ap (λ w. w .closed) (w-old t (p .0))) ∙ q))
 
       closed′ : (t n : ℕ) → t < y′ .transactions → y′ .transaction t .closed ≡ some n → n ≤ length (v ∷ d)
       closed′ t n h q = pick (side t h)
