@@ -10,7 +10,7 @@ use borrow.Author.Tests.{ltb-true, ltb-false}
 use Rattle.lists.proofs.Cases.{cases, cond-all}
 use Rattle.lists.proofs.Changed.{changed-at, changed-same}
 use Rattle.cells.specs.Sizes.{bytes, clients, revisions, updates}
-use Rattle.cells.specs.Parts.{Parts, Sized, glue, split}
+use Rattle.cells.specs.Parts.{Parts, Sized, split}
 use Rattle.cells.specs.Decode.{cells, decode}
 use Rattle.cells.specs.Range.{inRange, partsIn}
 use Rattle.cells.specs.CellSteps.{updateCells}

@@ -1,5 +1,5 @@
 -- A client that may go on entering updates on a revision: what one update leaves, and that it may still go on.
-use Prim.Native.Nat.{ℕ, suc, _+_, _<_, _≤_}
+use Prim.Native.Nat.{ℕ, suc, _<_, _≤_}
 use mathlib.Core.Bool.{true, false, and-false, not}
 use mathlib.Core.Path.{_≡_, refl, _∙_, ap, fun-ext}
 use mathlib.Core.List.{List, _++_}

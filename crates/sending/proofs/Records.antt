@@ -1,6 +1,6 @@
 -- The records of a bundle from one on: their checks, and the table after them.
 use Prim.Native.Nat.{ℕ, suc, _+_, _-_, _<_, _≤_}
-use mathlib.Core.Bool.{true, false}
+use mathlib.Core.Bool.{false}
 use mathlib.Core.Path.{_≡_, sym, _∙_, ap}
 use mathlib.Core.List.{List}
 use native.Mathlib.Omega.{arith}
@@ -12,7 +12,7 @@ use Rattle.bundles.specs.Records.{entriesFrom, entryAt}
 use Rattle.bundles.proofs.First.{entries-all, entries-next, entries-none}
 use Rattle.cells.specs.Sizes.{updates}
 use Rattle.table.specs.Halves.{cellsOf}
-use Rattle.table.specs.Answers.{check, taken}
+use Rattle.table.specs.Answers.{taken}
 use Rattle.sending.specs.Bundles.{Going, entered, enteredAll, fitCheck, onFit, ownCheck, sentCheck}
 use Rattle.sending.specs.declared.bundle.FitCheck.{FitCheck}
 use Rattle.sending.specs.declared.bundle.FitCheck.the-variants.{Fits, Refused}

@@ -1,6 +1,5 @@
 -- Every vertex of a constructed diagram has its root-path and its revision's path, and the effects along them are its view and its own.
 use Prim.Native.Nat.{_<_, ℕ}
-use mathlib.Core.Bool.{false, true}
 use mathlib.Core.Path.{_∙_, _≡_, ap, refl, sym}
 use mathlib.Core.List.{List, List·Memᴰ, List·Memᴰ·append-cases, List·Memᴰ·eq-of-singleton, List·Memᴰ·head, [], _++_, _∷_, append-nil}
 use native.Mathlib.Omega.{arith}
