@@ -37,78 +37,78 @@ blocks-from s (x ∷ l) n i = pick (List·Memᴰ·append-cases (blocks s l) i) (
     pick (inr j) k = (x, j)
 
 -- an update: its number is its vertex's
-pub linked-update : (d : Diagram) (layout : List ℕ) (tip starts : ℕ → ℕ) → Linked d layout tip starts → (b : ℕ) → b ∈ layout → (t : ℕ) (k : Option ℕ) → Linked (event (tip b) t k ∷ d) layout (changed tip b (length d)) starts
-linked-update d layout tip starts L b i t k =
-    advance d layout tip starts L b v refl layout (grow (contents d tip) b (length d ∷ [])) (may d tip starts) (one-older d layout tip starts L b v refl refl) tt i
-    (changed-same (contents d tip) b _) (λ x k h. changed-other (contents d tip) b _ x h) inv′ (one-may d layout tip starts L b v refl refl) (λ w h. held-grow layout (contents d tip) b (length d ∷ []) w h) few
+pub linked-update : (d : Diagram) (layout : List ℕ) (terminal starts : ℕ → ℕ) → Linked d layout terminal starts → (b : ℕ) → b ∈ layout → (t : ℕ) (k : Option ℕ) → Linked (event (terminal b) t k ∷ d) layout (changed terminal b (length d)) starts
+linked-update d layout terminal starts L b i t k =
+    advance d layout terminal starts L b v refl layout (grow (contents d terminal) b (length d ∷ [])) (may d terminal starts) (one-older d layout terminal starts L b v refl refl) tt i
+    (changed-same (contents d terminal) b _) (λ x k h. changed-other (contents d terminal) b _ x h) inv′ (one-may d layout terminal starts L b v refl refl) (λ w h. held-grow layout (contents d terminal) b (length d ∷ []) w h) few
   where
     v : Vertex
-    v = event (tip b) t k
+    v = event (terminal b) t k
 
-    fresh : length d ∈ blocks (contents d tip) layout → ⊥
-    fresh k = let h = blocks-from (contents d tip) layout (length d) k in omega (arith, L .small (tip (h .0)) (length d) (h .1))
+    fresh : length d ∈ blocks (contents d terminal) layout → ⊥
+    fresh k = let h = blocks-from (contents d terminal) layout (length d) k in omega (arith, L .small (terminal (h .0)) (length d) (h .1))
 
-    inv′ : Inv layout (grow (contents d tip) b (length d ∷ [])) (may d tip starts)
+    inv′ : Inv layout (grow (contents d terminal) b (length d ∷ [])) (may d terminal starts)
     inv′ =
         let p = place b layout i in
-        let j : Inv (p .above ++ (b ∷ p .below)) (contents d tip) (may d tip starts) = rw (p .eq) at (L .inv) in
-        let f : length d ∈ blocks (contents d tip) (p .above ++ (b ∷ p .below)) → ⊥ = rw (p .eq) at fresh in
-        rw (p .eq) (update-inv (p .above) b (p .below) (contents d tip) (may d tip starts) (length d) j f)
+        let j : Inv (p .above ++ (b ∷ p .below)) (contents d terminal) (may d terminal starts) = rw (p .eq) at (L .inv) in
+        let f : length d ∈ blocks (contents d terminal) (p .above ++ (b ∷ p .below)) → ⊥ = rw (p .eq) at fresh in
+        rw (p .eq) (update-inv (p .above) b (p .below) (contents d terminal) (may d terminal starts) (length d) j f)
 
-    few : (n : ℕ) → n ∈ (ownEvents d (tip b) ++ (length d ∷ [])) → n < length (v ∷ d)
-    few n k = either (List·Memᴰ·append-cases (ownEvents d (tip b)) k) (λ j. omega (arith, L .small (tip b) n j)) (λ j. omega (arith, List·Memᴰ·eq-of-singleton j))
+    few : (n : ℕ) → n ∈ (ownEvents d (terminal b) ++ (length d ∷ [])) → n < length (v ∷ d)
+    few n k = either (List·Memᴰ·append-cases (ownEvents d (terminal b)) k) (λ j. omega (arith, L .small (terminal b) n j)) (λ j. omega (arith, List·Memᴰ·eq-of-singleton j))
 
 joinJ-keep : (J : ℕ → ℕ → Bool) (a b x y : ℕ) → J x y ≡ true → joinJ J a b x y ≡ true
 joinJ-keep J a b x y h = cases (eqb x a) (λ e. rw e (or-left (J a y) (J b y) (rw (eqb-true x a e) at h))) (λ e. rw e h)
 
 -- a join
-module _ (d : Diagram) (layout : List ℕ) (tip starts : ℕ → ℕ) (L : Linked d layout tip starts) (a b : ℕ) (a-in : a ∈ layout) (b-in : b ∈ layout) (m : May d tip starts a b) where
+module _ (d : Diagram) (layout : List ℕ) (terminal starts : ℕ → ℕ) (L : Linked d layout terminal starts) (a b : ℕ) (a-in : a ∈ layout) (b-in : b ∈ layout) (m : May d terminal starts a b) where
   abbrev jv : Vertex
-  jv = join (tip a) (tip b)
+  jv = join (terminal a) (terminal b)
 
   abbrev js : Contents
-  js = contents d tip
+  js = contents d terminal
 
   ordered-pair : ((b ∷ a ∷ []) ⊑ layout) × (js b .inherited ⊆ seen (js a))
-  ordered-pair = L .inv .joins a b a-in b-in (true-may d tip starts a b m)
+  ordered-pair = L .inv .joins a b a-in b-in (true-may d terminal starts a b m)
 
   P : Places b a layout
   P = places b a layout (ordered-pair .0)
 
-  whole : Inv (P .above ++ (b ∷ (P .between ++ (a ∷ P .below)))) js (may d tip starts)
+  whole : Inv (P .above ++ (b ∷ (P .between ++ (a ∷ P .below)))) js (may d terminal starts)
   whole = rw (P .eq) at (L .inv)
 
   rest : remove b layout ≡ P .above ++ (P .between ++ (a ∷ P .below))
   rest = ap (remove b) (P .eq) ∙ remove-at b (P .above) (P .between ++ (a ∷ P .below)) (λ i. nodup-apart (P .above) _ (whole .distinct) b i (List·Memᴰ·head refl))
 
-  join-may : (x y : ℕ) → x ∈ remove b layout → y ∈ remove b layout → May (jv ∷ d) (next d layout tip starts L a jv refl) starts x y → joinJ (may d tip starts) a b x y ≡ true
-  join-may x y i k h = pick (may-next d layout tip starts L a jv refl x y h)
+  join-may : (x y : ℕ) → x ∈ remove b layout → y ∈ remove b layout → May (jv ∷ d) (next d layout terminal starts L a jv refl) starts x y → joinJ (may d terminal starts) a b x y ≡ true
+  join-may x y i k h = pick (may-next d layout terminal starts L a jv refl x y h)
     where
-      pick : May d tip starts x y ⊎ ((x ≡ a) × ((p : ℕ) → List·Memᴰ p (sources jv) → leads d (starts y) p ≡ false) × ((p : ℕ) × List·Memᴰ p (sources jv) × ((f : ℕ) × (forkVertex d (tip y) ≡ some f) × (leads d f p ≡ true)))) → joinJ (may d tip starts) a b x y ≡ true
-      pick (inl q) = joinJ-keep (may d tip starts) a b x y (true-may d tip starts x y q)
+      pick : May d terminal starts x y ⊎ ((x ≡ a) × ((p : ℕ) → List·Memᴰ p (sources jv) → leads d (starts y) p ≡ false) × ((p : ℕ) × List·Memᴰ p (sources jv) × ((f : ℕ) × (forkVertex d (terminal y) ≡ some f) × (leads d f p ≡ true)))) → joinJ (may d terminal starts) a b x y ≡ true
+      pick (inl q) = joinJ-keep (may d terminal starts) a b x y (true-may d terminal starts x y q)
       pick (inr q) = rw (q .0, eq-eqb a a refl) (side (List·Memᴰ·cases-cons (q .2 .1)))
         where
-          t : (f : ℕ) × (forkVertex d (tip y) ≡ some f) × (leads d f (q .2 .0) ≡ true)
+          t : (f : ℕ) × (forkVertex d (terminal y) ≡ some f) × (leads d f (q .2 .0) ≡ true)
           t = q .2 .2
 
-          via : (z : ℕ) → q .2 .0 ≡ tip z → may d tip starts z y ≡ true
-          via z e = true-may d tip starts z y (record { outside = rw e at (q .1 (q .2 .0) (q .2 .1)); at = t .0; start-of = t .1; leads = subst (λ w. leads d (t .0) w ≡ true) e (t .2) })
+          via : (z : ℕ) → q .2 .0 ≡ terminal z → may d terminal starts z y ≡ true
+          via z e = true-may d terminal starts z y (record { outside = rw e at (q .1 (q .2 .0) (q .2 .1)); at = t .0; start-of = t .1; leads = subst (λ w. leads d (t .0) w ≡ true) e (t .2) })
 
-          side : (q .2 .0 ≡ tip a) ⊎ List·Memᴰ (q .2 .0) (tip b ∷ []) → (may d tip starts a y || may d tip starts b y) ≡ true
-          side (inl e) = or-left (may d tip starts a y) (may d tip starts b y) (via a e)
-          side (inr j) = or-right (may d tip starts a y) (may d tip starts b y) (via b (List·Memᴰ·eq-of-singleton j))
+          side : (q .2 .0 ≡ terminal a) ⊎ List·Memᴰ (q .2 .0) (terminal b ∷ []) → (may d terminal starts a y || may d terminal starts b y) ≡ true
+          side (inl e) = or-left (may d terminal starts a y) (may d terminal starts b y) (via a e)
+          side (inr j) = or-right (may d terminal starts a y) (may d terminal starts b y) (via b (List·Memᴰ·eq-of-singleton j))
 
-  pub linked-join : Linked (join (tip a) (tip b) ∷ d) (remove b layout) (changed tip a (length d)) starts
+  pub linked-join : Linked (join (terminal a) (terminal b) ∷ d) (remove b layout) (changed terminal a (length d)) starts
   linked-join =
-      advance d layout tip starts L a jv refl (remove b layout) (grow js a (js b .own)) (joinJ (may d tip starts) a b) (both-older (length d) (tip a) (tip b) (L .bound a) (L .bound b)) (m .at, m .start-of, leads-path d (m .at) (tip a) (m .leads))
+      advance d layout terminal starts L a jv refl (remove b layout) (grow js a (js b .own)) (joinJ (may d terminal starts) a b) (both-older (length d) (terminal a) (terminal b) (L .bound a) (L .bound b)) (m .at, m .start-of, leads-path d (m .at) (terminal a) (m .leads))
       (rw rest (Memᴰ·append-right (P .above) (Memᴰ·append-right (P .between) (List·Memᴰ·head refl)))) (changed-same js a _) (λ x i h. changed-other js a _ x h)
-      (rw rest (join-inv (P .above) b (P .between) a (P .below) js (may d tip starts) whole (ordered-pair .1))) join-may held few
+      (rw rest (join-inv (P .above) b (P .between) a (P .below) js (may d terminal starts) whole (ordered-pair .1))) join-may held few
     where
       held : (w : List ℕ) → Held layout js w → Held (remove b layout) (grow js a (js b .own)) w
-      held w h = rw rest (held-join (P .above) b (P .between) a (P .below) js (may d tip starts) whole (ordered-pair .1) w (rw (P .eq) at h))
+      held w h = rw rest (held-join (P .above) b (P .between) a (P .below) js (may d terminal starts) whole (ordered-pair .1) w (rw (P .eq) at h))
 
-      few : (n : ℕ) → n ∈ (ownEvents d (tip a) ++ ownEvents d (tip b)) → n < suc (length d)
-      few n k = either (List·Memᴰ·append-cases (ownEvents d (tip a)) k) (λ j. omega (arith, L .small (tip a) n j)) (λ j. omega (arith, L .small (tip b) n j))
+      few : (n : ℕ) → n ∈ (ownEvents d (terminal a) ++ ownEvents d (terminal b)) → n < suc (length d)
+      few n k = either (List·Memᴰ·append-cases (ownEvents d (terminal a)) k) (λ j. omega (arith, L .small (terminal a) n j)) (λ j. omega (arith, L .small (terminal b) n j))
 
 forkJ-keep : (J : ℕ → ℕ → Bool) (p c x y : ℕ) → (x ≡ c → ⊥) → J x y ≡ true → forkJ J p c x y ≡ true
 forkJ-keep J p c x y n h = rw (ne-eqb x c n) (pick (split (eqb x p)))
@@ -118,7 +118,7 @@ forkJ-keep J p c x y n h = rw (ne-eqb x c n) (pick (split (eqb x p)))
     pick (inr e) = rw e h
 
 -- a fork, from the diagram in which the fork vertex is: its number is f, and b is there
-module _ (d : Diagram) (layout : List ℕ) (tip starts : ℕ → ℕ) (L : Linked d layout tip starts) (b : ℕ) (b-in : b ∈ layout) (c : ℕ) (c-new : c ∈ layout → ⊥) (f : ℕ) (at-f : tip b ≡ f) (last : suc f ≡ length d) (lone : (x : ℕ) → x ∈ layout → (x ≡ b → ⊥) → leads d f (tip x) ≡ false) where
+module _ (d : Diagram) (layout : List ℕ) (terminal starts : ℕ → ℕ) (L : Linked d layout terminal starts) (b : ℕ) (b-in : b ∈ layout) (c : ℕ) (c-new : c ∈ layout → ⊥) (f : ℕ) (at-f : terminal b ≡ f) (last : suc f ≡ length d) (lone : (x : ℕ) → x ∈ layout → (x ≡ b → ⊥) → leads d f (terminal x) ≡ false) where
   abbrev sv : Vertex
   sv = start f
 
@@ -126,11 +126,11 @@ module _ (d : Diagram) (layout : List ℕ) (tip starts : ℕ → ℕ) (L : Linke
   starts2 = changed starts c (length d)
 
   abbrev t2 : ℕ → ℕ
-  t2 = on d sv tip (L .bound) c
+  t2 = on d sv terminal (L .bound) c
 
   -- nobody is asked to join c before it is there
   abbrev asked : ℕ → ℕ → Bool
-  asked x y = cond (eqb y c) false (may d tip starts x y)
+  asked x y = cond (eqb y c) false (may d terminal starts x y)
 
   not-new : (x : ℕ) → x ∈ layout → x ≡ c → ⊥
   not-new x i e = c-new (Memᴰ·cast (sym e) i)
@@ -158,18 +158,18 @@ module _ (d : Diagram) (layout : List ℕ) (tip starts : ℕ → ℕ) (L : Linke
       pick (inl j) = Memᴰ·append-left _ j
       pick (inr j) = late (List·Memᴰ·cases-cons j)
 
-  fork-content : (x : ℕ) → contents (sv ∷ d) t2 x ≡ forkContents (contents d tip) b c x
-  fork-content x = cases (eqb x c) (λ e. rw (eqb-true x c e, on-self d sv tip (L .bound) c inheritedStep [], on-self d sv tip (L .bound) c ownEventStep [], changed-same (contents d tip) c _, ← (view-split (L .ordered) (tip b) (L .bound b)), at-f)) (λ e. let q = eqb-false x c e in rw (on-other d sv tip (L .bound) c inheritedStep [] x q, on-other d sv tip (L .bound) c ownEventStep [] x q, changed-other (contents d tip) c _ x q))
+  fork-content : (x : ℕ) → contents (sv ∷ d) t2 x ≡ forkContents (contents d terminal) b c x
+  fork-content x = cases (eqb x c) (λ e. rw (eqb-true x c e, on-self d sv terminal (L .bound) c inheritedStep [], on-self d sv terminal (L .bound) c ownEventStep [], changed-same (contents d terminal) c _, ← (view-split (L .ordered) (terminal b) (L .bound b)), at-f)) (λ e. let q = eqb-false x c e in rw (on-other d sv terminal (L .bound) c inheritedStep [] x q, on-other d sv terminal (L .bound) c ownEventStep [] x q, changed-other (contents d terminal) c _ x q))
 
-  asked-may : (x y : ℕ) → (y ≡ c → ⊥) → May d tip starts x y → asked x y ≡ true
-  asked-may x y n h = rw (ne-eqb y c n) (true-may d tip starts x y h)
+  asked-may : (x y : ℕ) → (y ≡ c → ⊥) → May d terminal starts x y → asked x y ≡ true
+  asked-may x y n h = rw (ne-eqb y c n) (true-may d terminal starts x y h)
 
-  fork-inv′ : Inv (insert b c layout) (forkContents (contents d tip) b c) (forkJ asked b c)
+  fork-inv′ : Inv (insert b c layout) (forkContents (contents d terminal) b c) (forkJ asked b c)
   fork-inv′ =
-      let j : Inv layout (contents d tip) asked = inv-same layout (contents d tip) (contents d tip) (may d tip starts) asked (L .inv) (λ x i. refl) less in
-      rw FL (fork-inv (FP .above) b (FP .below) (contents d tip) asked c (rw (FP .eq) at j) (rw (FP .eq) at c-new) (λ x. rw (eq-eqb c c refl)))
+      let j : Inv layout (contents d terminal) asked = inv-same layout (contents d terminal) (contents d terminal) (may d terminal starts) asked (L .inv) (λ x i. refl) less in
+      rw FL (fork-inv (FP .above) b (FP .below) (contents d terminal) asked c (rw (FP .eq) at j) (rw (FP .eq) at c-new) (λ x. rw (eq-eqb c c refl)))
     where
-      less : (x y : ℕ) → x ∈ layout → y ∈ layout → asked x y ≡ true → may d tip starts x y ≡ true
+      less : (x y : ℕ) → x ∈ layout → y ∈ layout → asked x y ≡ true → may d terminal starts x y ≡ true
       less x y i k e = rw (ne-eqb y c (not-new y k)) at e
 
   fork-may : (x y : ℕ) → x ∈ insert b c layout → y ∈ insert b c layout → May (sv ∷ d) t2 starts2 x y → forkJ asked b c x y ≡ true
@@ -178,35 +178,35 @@ module _ (d : Diagram) (layout : List ℕ) (tip starts : ℕ → ℕ) (L : Linke
       to-c : y ≡ c → (x ≡ c → ⊥) → (eqb x b ≡ true) ⊎ (eqb x b ≡ false) → forkJ asked b c x y ≡ true
       to-c q n (inl e) = rw (q, ne-eqb x c n, e, eq-eqb c c refl)
       to-c q n (inr e) =
-          let r : f ≡ h .at = cc (on-self d sv tip (L .bound) c forkStep none, h .start-of, q) in
-          let s : leads d f (tip x) ≡ true = rw r (sym (sees-other d sv tip (L .bound) c (h .at) x n) ∙ h .leads) in
+          let r : f ≡ h .at = cc (on-self d sv terminal (L .bound) c forkStep none, h .start-of, q) in
+          let s : leads d f (terminal x) ≡ true = rw r (sym (sees-other d sv terminal (L .bound) c (h .at) x n) ∙ h .leads) in
           absurd (false≢true (sym (lone x (out-in x i n) (eqb-false x b e)) ∙ s))
 
       -- where y is an older revision
-      from-old : (y ≡ c → ⊥) → forkVertex d (tip y) ≡ some (h .at)
-      from-old n = sym (on-other d sv tip (L .bound) c forkStep none y n) ∙ h .start-of
+      from-old : (y ≡ c → ⊥) → forkVertex d (terminal y) ≡ some (h .at)
+      from-old n = sym (on-other d sv terminal (L .bound) c forkStep none y n) ∙ h .start-of
 
       unseen : (y ≡ c → ⊥) → leads (sv ∷ d) (starts y) (t2 x) ≡ false
       unseen n = ap (λ w. leads (sv ∷ d) w (t2 x)) (sym (changed-other starts c (length d) y n)) ∙ h .outside
 
       by-c : x ≡ c → (y ≡ c → ⊥) → forkJ asked b c x y ≡ true
       by-c q n =
-          let g = sees-before d sv tip (L .bound) c (h .at) (inherited-from (L .ordered) (tip y) (L .bound y) (h .at) (from-old n) .0) (rw q at (h .leads)) in
-          let e : g .0 ≡ tip b = List·Memᴰ·eq-of-singleton (g .1) ∙ sym at-f in
-          let u : leads d (starts y) f ≡ false = unseen-before d sv tip (L .bound) c (starts y) (rw q at (unseen n)) f (List·Memᴰ·head refl) in
+          let g = sees-before d sv terminal (L .bound) c (h .at) (inherited-from (L .ordered) (terminal y) (L .bound y) (h .at) (from-old n) .0) (rw q at (h .leads)) in
+          let e : g .0 ≡ terminal b = List·Memᴰ·eq-of-singleton (g .1) ∙ sym at-f in
+          let u : leads d (starts y) f ≡ false = unseen-before d sv terminal (L .bound) c (starts y) (rw q at (unseen n)) f (List·Memᴰ·head refl) in
           rw (q, eq-eqb c c refl) (asked-may b y n (record { outside = rw at-f u; at = h .at; start-of = from-old n; leads = subst (λ w. leads d (h .at) w ≡ true) e (g .2) }))
 
       at-y : (eqb y c ≡ true) ⊎ (eqb y c ≡ false) → (eqb x c ≡ true) ⊎ (eqb x c ≡ false) → forkJ asked b c x y ≡ true
       at-y (inl p) (inl q) =
           let t : leads (sv ∷ d) (starts2 c) (t2 c) ≡ false = rw (eqb-true y c p, eqb-true x c q) at (h .outside) in
           let u : leads (sv ∷ d) (length d) (t2 c) ≡ false = rw (changed-same starts c (length d)) at t in
-          absurd (false≢true (sym u ∙ sees-on d sv tip (L .bound) c (length d) ∙ or-left (eqb (length d) (length d)) _ (eq-eqb (length d) (length d) refl)))
+          absurd (false≢true (sym u ∙ sees-on d sv terminal (L .bound) c (length d) ∙ or-left (eqb (length d) (length d)) _ (eq-eqb (length d) (length d) refl)))
       at-y (inl p) (inr q) = to-c (eqb-true y c p) (eqb-false x c q) (split (eqb x b))
       at-y (inr p) (inl q) = by-c (eqb-true x c q) (eqb-false y c p)
       at-y (inr p) (inr q) =
           let n = eqb-false x c q in
           let o = eqb-false y c p in
-          forkJ-keep asked b c x y n (asked-may x y o (record { outside = sym (sees-other d sv tip (L .bound) c (starts y) x n) ∙ unseen o; at = h .at; start-of = from-old o; leads = sym (sees-other d sv tip (L .bound) c (h .at) x n) ∙ h .leads }))
+          forkJ-keep asked b c x y n (asked-may x y o (record { outside = sym (sees-other d sv terminal (L .bound) c (starts y) x n) ∙ unseen o; at = h .at; start-of = from-old o; leads = sym (sees-other d sv terminal (L .bound) c (h .at) x n) ∙ h .leads }))
 
   start-older : (p : ℕ) → List·Memᴰ p (f ∷ []) → p < length d
   start-older p i = omega (arith, List·Memᴰ·eq-of-singleton i)
@@ -219,23 +219,23 @@ module _ (d : Diagram) (layout : List ℕ) (tip starts : ℕ → ℕ) (L : Linke
   start-past x h =
       cases (eqb x (length d))
       (λ e.
-      let q : t2 c ≡ x = changed-same tip c (length d) ∙ sym (eqb-true x (length d) e) in
+      let q : t2 c ≡ x = changed-same terminal c (length d) ∙ sym (eqb-true x (length d) e) in
       let o : Ordered (sv ∷ d) = one-more {v = sv} start-older (L .ordered) in
       (c, c-in, rw (q, view-split o x h) (Sublistᴰ·refl _)))
       (λ e.
       let q = eqb-false x (length d) e in
       let l : x < length d = omega arith in
       let w = L .past x l in
-      let u : contents (sv ∷ d) t2 (w .0) ≡ contents d tip (w .0) = fork-content (w .0) ∙ changed-other (contents d tip) c _ (w .0) (not-new (w .0) (w .1)) in
+      let u : contents (sv ∷ d) t2 (w .0) ≡ contents d terminal (w .0) = fork-content (w .0) ∙ changed-other (contents d terminal) c _ (w .0) (not-new (w .0) (w .1)) in
       (w .0, lay-in (w .0) (w .1), rw (tabulate-older viewEventStep [] sv d x l) (subst (λ z. viewEvents d x ⊑ seen z) (sym u) (w .2))))
 
-  pub linked-start : Linked (start f ∷ d) (insert b c layout) (changed tip c (length d)) (changed starts c (length d))
+  pub linked-start : Linked (start f ∷ d) (insert b c layout) (changed terminal c (length d)) (changed starts c (length d))
   linked-start = record {
     ordered = one-more {v = sv} start-older (L .ordered);
     joins-ok = (tt, L .joins-ok);
-    bound = on-bound d sv tip (L .bound) c;
+    bound = on-bound d sv terminal (L .bound) c;
     small = start-small;
-    inv = inv-same (insert b c layout) (forkContents (contents d tip) b c) (contents (sv ∷ d) t2) (forkJ asked b c) (may (sv ∷ d) t2 starts2) fork-inv′ (λ x i. fork-content x) (λ x y i k e. fork-may x y i k (may-true (sv ∷ d) t2 starts2 x y e));
+    inv = inv-same (insert b c layout) (forkContents (contents d terminal) b c) (contents (sv ∷ d) t2) (forkJ asked b c) (may (sv ∷ d) t2 starts2) fork-inv′ (λ x i. fork-content x) (λ x y i k e. fork-may x y i k (may-true (sv ∷ d) t2 starts2 x y e));
     past = start-past;
   }
 
@@ -263,5 +263,5 @@ linked-root = record {
     nobody false = refl
 
 -- of the fork vertex nobody but the forker has seen anything
-pub lone : (d : Diagram) (layout : List ℕ) (tip starts : ℕ → ℕ) (L : Linked d layout tip starts) (b x : ℕ) → x ∈ layout → (x ≡ b → ⊥) → leads (fork (tip b) ∷ d) (length d) (changed tip b (length d) x) ≡ false
-lone d layout tip starts L b x i n = sees-other d (fork (tip b)) tip (L .bound) b (length d) x n ∙ cases (leads d (length d) (tip x)) (λ e. absurd (omega (arith, path-start (leads-path d (length d) (tip x) e)))) (λ e. e)
+pub lone : (d : Diagram) (layout : List ℕ) (terminal starts : ℕ → ℕ) (L : Linked d layout terminal starts) (b x : ℕ) → x ∈ layout → (x ≡ b → ⊥) → leads (fork (terminal b) ∷ d) (length d) (changed terminal b (length d) x) ≡ false
+lone d layout terminal starts L b x i n = sees-other d (fork (terminal b)) terminal (L .bound) b (length d) x n ∙ cases (leads d (length d) (terminal x)) (λ e. absurd (omega (arith, path-start (leads-path d (length d) (terminal x) e)))) (λ e. e)

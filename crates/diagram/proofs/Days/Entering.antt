@@ -13,7 +13,7 @@ use borrow.Author.Tests.{eq-eqb, eqb-false, eqb-true}
 use Rattle.diagram.proofs.Days.Entry.{Entry, facts, mine-sees}
 use Rattle.diagram.proofs.Days.Moves.{CanEnter}
 use Rattle.diagram.proofs.Days.Real.{real-enter}
-use Rattle.diagram.proofs.Days.Sound.{Filed, Runs, Seal, Sessions, Sound, Whole, event-low, leads-low, link, some≢none}
+use Rattle.diagram.proofs.Days.Sound.{Filed, Runs, SeenWhole, Sessions, Sound, Whole, event-low, leads-low, link, some≢none}
 use Rattle.diagram.proofs.Graph.Events.{ownEventStep, ownEvents}
 use Rattle.diagram.proofs.Graph.Paths.{leads-down, leads-newest, leads-old, leads-start, leads-up}
 use Rattle.diagram.proofs.Graph.Tables.{tabulate-newest, tabulate-older}
@@ -229,32 +229,32 @@ module _ (y : Day) (layout : List ℕ) (hold : ℕ → List ℕ) (S : Sound y la
               old-sees e f (event-low y layout hold S t f (g .1) jf) (S .sessions .later s t e f l (g .1) (sym (ap (λ w. w .client) (w-old s (a .0))) ∙ q ∙ ap (λ w. w .client) (w-old t (g .0))) (rw (e-old s (a .0)) at i) jf)
 
   whole′ : Whole y′
-  whole′ = record { outside = outside′; at-terminal = tip′; own-revision = own′; closed-low = closed′ }
+  whole′ = record { outside = outside′; at-terminal = terminal′; own-revision = own′; closed-low = closed′ }
     where
-      raise : (t x z : ℕ) → (t ≡ t0 → ⊥) → Seal d (y .transaction t) x → x ≤ z → ((e : ℕ) → leads d e x ≡ true → leads (v ∷ d) e z ≡ true) → Seal (v ∷ d) (y′ .transaction t) z
+      raise : (t x z : ℕ) → (t ≡ t0 → ⊥) → SeenWhole d (y .transaction t) x → x ≤ z → ((e : ℕ) → leads d e x ≡ true → leads (v ∷ d) e z ≡ true) → SeenWhole (v ∷ d) (y′ .transaction t) z
       raise t x z n s h f = record { at = s .at; is = rw (w-old t n) (s .is); before = omega (arith, s .before); whole = λ e i. f e (s .whole e (rw (e-old t n) at i)) }
 
       -- of another transaction whose event is the terminal of r, the yield came
-      came-shut : (t : ℕ) → (t ≡ t0 → ⊥) → t < y .transactions → y .terminal r ∈ eventsOf y t → (q : Option ℕ) → y .transaction t .closed ≡ q → Seal (v ∷ d) (y′ .transaction t) x0
+      came-shut : (t : ℕ) → (t ≡ t0 → ⊥) → t < y .transactions → y .terminal r ∈ eventsOf y t → (q : Option ℕ) → y .transaction t .closed ≡ q → SeenWhole (v ∷ d) (y′ .transaction t) x0
       came-shut t n h i none q =
           let on = S .whole .own-revision r t (E .out) h i q in
           let f = S .unshut t h q in
           absurd (cases (eqb (y .transaction t .client) c) (λ e. n (X .mine t (subst (λ z. y .openBy z ≡ some t) (eqb-true _ c e) f))) (λ e. false≢true (sym (rw f at (E .idle (y .transaction t .client) (S .runs _ t f .client-ok) (eqb-false _ c e))) ∙ eq-eqb (y .transaction t .revision) r on)))
       came-shut t n h i (some z) q = record { at = z; is = rw (w-old t n) q; before = S .whole .closed-low t z h q; whole = λ e j. up e (S .whole .at-terminal r t (E .out) h i e (rw (e-old t n) at j)) }
 
-      at-new : (t e : ℕ) → (t ≡ t0 → ⊥) → t < y .transactions → e ∈ eventsOf y t → leads (v ∷ d) e x0 ≡ true → Seal (v ∷ d) (y′ .transaction t) x0
+      at-new : (t e : ℕ) → (t ≡ t0 → ⊥) → t < y .transactions → e ∈ eventsOf y t → leads (v ∷ d) e x0 ≡ true → SeenWhole (v ∷ d) (y′ .transaction t) x0
       at-new t e n h i q =
           let p = leads-down v d e (event-low y layout hold S t e h i) q in
           let g : leads d e (y .terminal r) ≡ true = rw (List·Memᴰ·eq-of-singleton (p .1)) at (p .2) in
           either (mem? (y .terminal r) (eventsOf y t)) (λ j. came-shut t n h j (y .transaction t .closed) refl) (λ j. raise t (y .terminal r) x0 n (S .whole .outside t (y .terminal r) e h terminal-low j i g) (omega (arith, terminal-low)) up)
 
-      outside′ : (t x e : ℕ) → t < y′ .transactions → x < length (v ∷ d) → (x ∈ eventsOf y′ t → ⊥) → e ∈ eventsOf y′ t → leads (v ∷ d) e x ≡ true → Seal (v ∷ d) (y′ .transaction t) x
+      outside′ : (t x e : ℕ) → t < y′ .transactions → x < length (v ∷ d) → (x ∈ eventsOf y′ t → ⊥) → e ∈ eventsOf y′ t → leads (v ∷ d) e x ≡ true → SeenWhole (v ∷ d) (y′ .transaction t) x
       outside′ t x e h l n i q = pick (side t h) (split (eqb x x0))
         where
           low : eqb x x0 ≡ false → x < length d
           low g = let z = eqb-false x x0 g in omega arith
 
-          pick : (t ≡ t0) ⊎ ((t ≡ t0 → ⊥) × (t < y .transactions)) → (eqb x x0 ≡ true) ⊎ (eqb x x0 ≡ false) → Seal (v ∷ d) (y′ .transaction t) x
+          pick : (t ≡ t0) ⊎ ((t ≡ t0 → ⊥) × (t < y .transactions)) → (eqb x x0 ≡ true) ⊎ (eqb x x0 ≡ false) → SeenWhole (v ∷ d) (y′ .transaction t) x
           pick (inl a) (inl g) = absurd (n (rw (a, e-new, eqb-true x x0 g) (Memᴰ·append-right (eventsBefore y o) (List·Memᴰ·head refl))))
           pick (inl a) (inr g) =
               let q′ : leads d e x ≡ true = sym (leads-old v d e x (low g)) ∙ q in
@@ -272,13 +272,13 @@ module _ (y : Day) (layout : List ℕ) (hold : ℕ → List ℕ) (S : Sound y la
           (λ a. cases (eqb s r) (λ g. inl (a, g))
           (λ g.
           let i′ : y .terminal s ∈ eventsOf y′ t = rw g at i in
-          absurd (either (new-cases (y .terminal s) (subst (λ z. y .terminal s ∈ eventsOf y′ z) a i′)) (λ k. X .tips s os (eqb-false s r g) k) (λ k. omega (arith, S .real .linked .bound s)))))
+          absurd (either (new-cases (y .terminal s) (subst (λ z. y .terminal s ∈ eventsOf y′ z) a i′)) (λ k. X .terminals s os (eqb-false s r g) k) (λ k. omega (arith, S .real .linked .bound s)))))
           (λ a. cases (eqb s r)
           (λ g. let i′ : x0 ∈ eventsOf y t = rw (g, e-old t (a .0)) at i in absurd (omega (arith, event-low y layout hold S t x0 (a .1) i′)))
           (λ g. inr (a .0, a .1, g, rw (g, e-old t (a .0)) at i)))
 
-      tip′ : (s t : ℕ) → IsOut y′ s → t < y′ .transactions → y′ .terminal s ∈ eventsOf y′ t → (e : ℕ) → e ∈ eventsOf y′ t → leads (v ∷ d) e (y′ .terminal s) ≡ true
-      tip′ s t os h i e j =
+      terminal′ : (s t : ℕ) → IsOut y′ s → t < y′ .transactions → y′ .terminal s ∈ eventsOf y′ t → (e : ℕ) → e ∈ eventsOf y′ t → leads (v ∷ d) e (y′ .terminal s) ≡ true
+      terminal′ s t os h i e j =
           either (ends s t os h i)
           (λ p. rw (p .1) (either (new-cases e (subst (λ z. e ∈ eventsOf y′ z) (p .0) j)) (λ k. up e (X .before-sees e k)) (λ k. rw k (leads-newest v d))))
           (λ p. rw (p .2) (old-sees e (y .terminal s) (S .real .linked .bound s) (S .whole .at-terminal s t os (p .1) (p .3) e (rw (e-old t (p .0)) at j))))

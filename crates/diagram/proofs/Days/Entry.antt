@@ -51,7 +51,7 @@ module _ (y : Day) (layout : List ℕ) (hold : ℕ → List ℕ) (S : Sound y la
     pub before-later : (s e f : ℕ) → s < entersInto y o → y .transaction s .client ≡ c → e ∈ eventsOf y s → f ∈ eventsBefore y o → leads d e f ≡ true
     pub before-low : (e : ℕ) → e ∈ eventsBefore y o → e < length d
     pub quiet : (x e : ℕ) → x < length d → (x ∈ eventsBefore y o → ⊥) → e ∈ eventsBefore y o → leads d e x ≡ true → ⊥
-    pub tips : (s : ℕ) → IsOut y s → (s ≡ r → ⊥) → y .terminal s ∈ eventsBefore y o → ⊥
+    pub terminals : (s : ℕ) → IsOut y s → (s ≡ r → ⊥) → y .terminal s ∈ eventsBefore y o → ⊥
     pub latest : (s : ℕ) → entersInto y o < s → s < y .transactions → y .transaction s .client ≡ c → ⊥
 
   own-r : ownEvents d (y .terminal r) ≡ flat (eventsOf y) (hold r)
@@ -74,7 +74,7 @@ module _ (y : Day) (layout : List ℕ) (hold : ℕ → List ℕ) (S : Sound y la
     before-later = λ s e f l k i j. absurd (List·Memᴰ·not-nil j);
     before-low = λ e i. absurd (List·Memᴰ·not-nil i);
     quiet = λ x e h n i k. List·Memᴰ·not-nil i;
-    tips = λ s o n i. List·Memᴰ·not-nil i;
+    terminals = λ s o n i. List·Memᴰ·not-nil i;
     latest = λ s l k e. omega arith;
   }
   facts (some t) q = record {
@@ -93,7 +93,7 @@ module _ (y : Day) (layout : List ℕ) (hold : ℕ → List ℕ) (S : Sound y la
     before-later = λ s e f l k i j. S .sessions .later s t e f l (R .known) (k ∙ sym (R .client)) i j;
     before-low = λ e i. event-low y layout hold S t e (R .known) i;
     quiet = λ x e h n i k. some≢none (y .transaction t .closed) (S .whole .outside t x e (R .known) h n i k .is) (R .unshut);
-    tips = λ s o n i. n (sym (S .whole .own-revision s t o (R .known) i (R .unshut)) ∙ E .same-revision t q);
+    terminals = λ s o n i. n (sym (S .whole .own-revision s t o (R .known) i (R .unshut)) ∙ E .same-revision t q);
     latest = λ s l k e. R .latest s l k e;
   }
     where

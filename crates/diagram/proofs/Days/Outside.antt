@@ -10,7 +10,7 @@ use lib.ListN.{length}
 use lib.Dec.{eqb}
 use borrow.Author.Tests.{eq-eqb, eqb-false, eqb-true}
 use Rattle.diagram.proofs.Days.Moves.{Idle}
-use Rattle.diagram.proofs.Days.Sound.{Runs, Seal, Sessions, Sound, Whole, event-low, leads-low}
+use Rattle.diagram.proofs.Days.Sound.{Runs, SeenWhole, Sessions, Sound, Whole, event-low, leads-low}
 use Rattle.diagram.proofs.Graph.Paths.{leads-down, leads-old, leads-up}
 use Rattle.diagram.specs.Arbitration.{eventsOf}
 use Rattle.diagram.specs.Day.{Day, IsOut, Transaction}
@@ -20,7 +20,7 @@ use Rattle.lists.proofs.Sublists.{mem?}
 use Rattle.lists.specs.Lists.{_∈_}
 
 abbrev pub Outside : Diagram → ℕ → (ℕ → Transaction) → Type 0
-Outside d n w = (t x e : ℕ) → t < n → x < length d → (x ∈ w t .events → ⊥) → e ∈ w t .events → leads d e x ≡ true → Seal d (w t) x
+Outside d n w = (t x e : ℕ) → t < n → x < length d → (x ∈ w t .events → ⊥) → e ∈ w t .events → leads d e x ≡ true → SeenWhole d (w t) x
 
 -- all of w is seen from p, and its yield came before the next vertex
 abbrev pub Past : Diagram → Transaction → ℕ → Type 0
@@ -33,14 +33,14 @@ pub outside-new : (d : Diagram) (v : Vertex) (n : ℕ) (w : ℕ → Transaction)
     → Outside d n w → Outside (v ∷ d) n w
 outside-new d v n w low older past O t x e h l a i q = pick (split (eqb x (length d)))
   where
-    at-new : leads (v ∷ d) e (length d) ≡ true → Seal (v ∷ d) (w t) (length d)
+    at-new : leads (v ∷ d) e (length d) ≡ true → SeenWhole (v ∷ d) (w t) (length d)
     at-new g =
         let p = leads-down v d e (low t e h i) g in
         let up : (z : ℕ) → leads d z (p .0) ≡ true → leads (v ∷ d) z (length d) ≡ true = λ z k. leads-up v d z (p .0) (p .1) k in
         either (mem? (p .0) (w t .events)) (λ j. let k = past (p .0) t (p .1) h j in record { at = k .0; is = k .1; before = k .2; whole = λ z b. up z (k .3 z b) })
         (λ j. let k = O t (p .0) e h (older (p .0) (p .1)) j i (p .2) in record { at = k .at; is = k .is; before = omega (arith, k .before, older (p .0) (p .1)); whole = λ z b. up z (k .whole z b) })
 
-    pick : (eqb x (length d) ≡ true) ⊎ (eqb x (length d) ≡ false) → Seal (v ∷ d) (w t) x
+    pick : (eqb x (length d) ≡ true) ⊎ (eqb x (length d) ≡ false) → SeenWhole (v ∷ d) (w t) x
     pick (inl g) = let z = eqb-true x (length d) g in rw z (at-new (rw z at q))
     pick (inr g) =
         let z = eqb-false x (length d) g in

@@ -39,14 +39,14 @@ pub record Runs (y : Day) (hold : ℕ → List ℕ) (c t : ℕ) : Type 0 where
   pub latest : (s : ℕ) → t < s → s < y .transactions → y .transaction s .client ≡ c → ⊥
 
 -- a transaction is seen whole from outside, and only after its yield
-pub record Seal (d : Diagram) (w : Transaction) (x : ℕ) : Type 0 where
+pub record SeenWhole (d : Diagram) (w : Transaction) (x : ℕ) : Type 0 where
   pub at : ℕ
   pub is : w .closed ≡ some at
   pub before : at ≤ x
   pub whole : (e : ℕ) → e ∈ w .events → leads d e x ≡ true
 
 pub record Whole (y : Day) : Type 0 where
-  pub outside : (t x e : ℕ) → t < y .transactions → x < length (y .diagram) → (x ∈ eventsOf y t → ⊥) → e ∈ eventsOf y t → leads (y .diagram) e x ≡ true → Seal (y .diagram) (y .transaction t) x
+  pub outside : (t x e : ℕ) → t < y .transactions → x < length (y .diagram) → (x ∈ eventsOf y t → ⊥) → e ∈ eventsOf y t → leads (y .diagram) e x ≡ true → SeenWhole (y .diagram) (y .transaction t) x
   pub at-terminal : (r t : ℕ) → IsOut y r → t < y .transactions → y .terminal r ∈ eventsOf y t → (e : ℕ) → e ∈ eventsOf y t → leads (y .diagram) e (y .terminal r) ≡ true
   pub own-revision : (r t : ℕ) → IsOut y r → t < y .transactions → y .terminal r ∈ eventsOf y t → y .transaction t .closed ≡ none → y .transaction t .revision ≡ r
   pub closed-low : (t n : ℕ) → t < y .transactions → y .transaction t .closed ≡ some n → n ≤ length (y .diagram)

@@ -10,7 +10,7 @@ use lib.ListN.{length}
 use lib.Dec.{eqb}
 use borrow.Author.Tests.{eqb-false, eqb-true}
 use Rattle.diagram.proofs.Days.Real.{real-close}
-use Rattle.diagram.proofs.Days.Sound.{Filed, Runs, Seal, Sessions, Sound, Whole, some≢none}
+use Rattle.diagram.proofs.Days.Sound.{Filed, Runs, SeenWhole, Sessions, Sound, Whole, some≢none}
 use Rattle.diagram.specs.Arbitration.{eventsOf}
 use Rattle.diagram.specs.Day.{Day, Transaction}
 use Rattle.diagram.specs.Diagram.{Diagram, leads}
@@ -99,7 +99,7 @@ module _ (y : Day) (layout : List ℕ) (hold : ℕ → List ℕ) (S : Sound y la
     closed-low = λ s n h e. cases (eqb s t) (λ z. let f : some (length d) ≡ some n = rw z at e in let g : length d ≡ n = cc in omega arith) (λ z. S .whole .closed-low s n h (rw z at e));
   }
     where
-      outside′ : (s x e : ℕ) → s < y .transactions → x < length d → (x ∈ eventsOf y′ s → ⊥) → e ∈ eventsOf y′ s → leads d e x ≡ true → Seal d (y′ .transaction s) x
+      outside′ : (s x e : ℕ) → s < y .transactions → x < length d → (x ∈ eventsOf y′ s → ⊥) → e ∈ eventsOf y′ s → leads d e x ≡ true → SeenWhole d (y′ .transaction s) x
       outside′ s x e h l n i g =
           let f = S .whole .outside s x e h l (λ k. n (rw (same-events s) k)) (rw (same-events s) at i) g in
           let z : s ≡ t → ⊥ = λ k. some≢none (y .transaction s .closed) (f .is) (ap (λ i. y .transaction i .closed) k ∙ R .unshut) in

@@ -13,7 +13,7 @@ use Rattle.diagram.proofs.Days.Entering.{sound-enter}
 use Rattle.diagram.proofs.Days.Forking.{sound-fork}
 use Rattle.diagram.proofs.Days.Joining.{sound-join}
 use Rattle.diagram.proofs.Days.Moves.{Moves, enters, joinsInto, forksAt, yields}
-use Rattle.diagram.proofs.Days.Sound.{Seal, Sound, link, sound-fresh}
+use Rattle.diagram.proofs.Days.Sound.{SeenWhole, Sound, link, sound-fresh}
 use Rattle.diagram.proofs.Days.Yielding.{sound-yield}
 use Rattle.diagram.proofs.Graph.Paths.{leads-path, path-leads}
 use Rattle.diagram.proofs.Graph.Tables.{tabulate-newest, tabulate-older}
@@ -112,12 +112,12 @@ pub whole-of : (y : Day) → Fine y → (t x : ℕ) → t < y .transactions → 
 whole-of y F t x h l n =
     cases (leads (y .diagram) (first .0) x)
     (λ e.
-    let s = seal (first .0) (first .1) e in
+    let s = seen-whole (first .0) (first .1) e in
     inr (λ z i. leads-path (y .diagram) z x (s .whole z i), record { at = s .at; is = s .is; soon = s .before }))
-    (λ e. inl (λ z i p. false≢true (sym e ∙ seal z i (path-leads (link y (F .layout) (F .hold) (F .sound) .ordered) p) .whole (first .0) (first .1))))
+    (λ e. inl (λ z i p. false≢true (sym e ∙ seen-whole z i (path-leads (link y (F .layout) (F .hold) (F .sound) .ordered) p) .whole (first .0) (first .1))))
   where
     first : (e : ℕ) × (e ∈ eventsOf y t)
     first = F .sound .filed .first t h
 
-    seal : (e : ℕ) → e ∈ eventsOf y t → leads (y .diagram) e x ≡ true → Seal (y .diagram) (y .transaction t) x
-    seal e i q = F .sound .whole .outside t x e h l n i q
+    seen-whole : (e : ℕ) → e ∈ eventsOf y t → leads (y .diagram) e x ≡ true → SeenWhole (y .diagram) (y .transaction t) x
+    seen-whole e i q = F .sound .whole .outside t x e h l n i q
