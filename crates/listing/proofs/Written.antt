@@ -6,6 +6,7 @@ use native.Mathlib.Omega.{arith}
 use native.Mathlib.Numerals.{add-one}
 use lib.ListN.{length, take, drop, getD, length-append}
 use lib.Seq.{take-at, drop-at, drop-drop, take-suc, length-take-le}
+use Rattle.lists.specs.Lists.{replaced}
 use Rattle.records.specs.Numbers.{word}
 use Rattle.bundles.specs.Records.{entryIn}
 use Rattle.bundles.proofs.Held.{entry-laid}
@@ -41,7 +42,7 @@ no-lines entries order s = refl
 
 -- line i put behind the i lines before it
 pub one-more : (entries : ℕ → Entry) (order s old : List ℕ) (i : ℕ) → i < length order → s ≡ sheet entries (take i order) old
-    → take (12 * i) s ++ (line (entries (getD order i 0)) (getD order i 0) ++ drop (12 * i + 12) s) ≡ sheet entries (take (i + 1) order) old
+    → replaced s (12 * i) 12 (line (entries (getD order i 0)) (getD order i 0)) ≡ sheet entries (take (i + 1) order) old
 unfolding sheet
 one-more entries order s old i h e =
     let n = getD order i 0 in

@@ -1,8 +1,8 @@
 // The lines of some numbers put into a sheet, in their order.
 ghost use mathlib.Core.Path.{_≡_};
-ghost use mathlib.Core.List.{_++_};
 ghost use Prim.Native.Nat.{_*_, _+_, _≤_};
-ghost use lib.ListN.{drop, length, take};
+ghost use lib.ListN.{length, take};
+ghost use Rattle.lists.specs.Lists.{replaced};
 ghost use Rattle.entries.specs.Sizes.{bytes};
 ghost use Rattle.entries.specs.Entries.{entryAt};
 ghost use Rattle.listing.specs.Lines.{line, sheet};
@@ -11,7 +11,7 @@ use crate::line;
 // Line i is of update n.
 fn put(t: &[u8], n: u16, s: &mut [u8], i: usize)
     requires { ⌜ (length (now t) ≡ bytes) × (12 * i + 12 ≤ length (now s)) ⌝ }
-    ensures { λ _. ⌜ now (s .exit) ≡ take (12 * i) (now (s .entry)) ++ (line (entryAt (now (t .entry)) n) n ++ drop (12 * i + 12) (now (s .entry))) ⌝ }
+    ensures { λ _. ⌜ now (s .exit) ≡ replaced (now (s .entry)) (12 * i) 12 (line (entryAt (now (t .entry)) n) n) ⌝ }
 {
     let e = entries::read::read(t, n);
     let kind = e.kind;
