@@ -34,6 +34,7 @@ sf-sources v = s-sources v ++ f-sources v
 pub record Composed (d : Diagram) (x : ℕ) : Type 0 where
   pub root-path : List ℕ
   pub from-root : Trail d sf-sources 0 x root-path
+  pub only-root : (xs : List ℕ) → Trail d sf-sources 0 x xs → xs ≡ root-path
   pub view-is : view d x ≡ flat (effect d) root-path
   pub revision-path : List ℕ
   pub from-start : Trail d s-sources (startVertex d x) x revision-path
