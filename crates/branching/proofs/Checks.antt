@@ -9,8 +9,8 @@ use Rattle.cells.specs.Sizes.{revisions}
 use Rattle.cells.specs.Decode.{cells}
 use Rattle.cells.specs.Checks.{noneLeft}
 use Rattle.fields.specs.declared.table.Revision.{Revision}
-use Rattle.revisions.specs.Checks.{nextCheck}
-use Rattle.revisions.specs.declared.checks.NextCheck.the-variants as left
+use Rattle.checks.specs.Answers.{nextCheck}
+use Rattle.checks.specs.declared.next.NextCheck.the-variants as left
 use Rattle.table.proofs.Checks.{failed}
 
 -- code 10

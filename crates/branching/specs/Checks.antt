@@ -5,16 +5,16 @@ use mathlib.Core.List.{List}
 use mathlib.Core.Path.{_≡_}
 use Rattle.cells.specs.Sizes.{revisions}
 use Rattle.cells.specs.Decode.{cells}
-use Rattle.revisions.specs.Checks.{nextCheck}
-use Rattle.table.specs.Found.{onNext, onQuiet}
-use Rattle.table.specs.Checks.{quietCheck}
+use Rattle.checks.specs.Answers.{nextCheck}
+use Rattle.table.specs.Found.{onNext, onIdle}
+use Rattle.table.specs.Checks.{idleCheck}
 use Rattle.table.specs.declared.pair.PairCheck.{PairCheck}
 use Rattle.table.specs.declared.pair.PairCheck.the-variants as pair
 
 -- 3, 4, 7, 10 of a fork
 unfoldable pub forkCheck : List ℕ → ℕ → PairCheck
 forkCheck d n =
-    onQuiet (quietCheck d n) pair.Refused (λ p.
+    onIdle (idleCheck d n) pair.Refused (λ p.
     onNext (nextCheck d) (pair.Refused 10) (λ c.
     pair.Allowed p c))
 

@@ -12,13 +12,13 @@ ghost use Rattle.table.specs.Halves.{bytes, high, isTable, low};
 ghost use Rattle.table.specs.Answers.{left};
 ghost use Rattle.table.specs.Calls.{forkOut};
 ghost use Rattle.branching.specs.Checks.{forkCheck, forkIn};
+use checks::next::NextCheck;
+use checks::next::check_next;
 use fields::table::Revision;
-use revisions::checks;
-use revisions::checks::NextCheck;
 use table::answer::Answer;
+use table::idle;
+use table::idle::IdleCheck;
 use table::pair::PairCheck;
-use table::quiet;
-use table::quiet::QuietCheck;
 use table::sound;
 use table::sound::TableCheck;
 
@@ -35,16 +35,14 @@ fn check_fork(d: &[u8], revision: u8) -> PairCheck
     requires { ⌜ length (now d) ≡ Lower.bytes ⌝ }
     ensures { λ a. ⌜ (a ≡ forkCheck (now (d .entry)) revision) × forkIn (now (d .entry)) a ⌝ }
 {
-    let found = quiet::check_quiet(d, revision);
-    match found {
-        QuietCheck::Refused(code) => PairCheck::Refused(code),
-        QuietCheck::Quiet(p) => {
-            let NextCheck::Next(c) = checks::check_next(d) else {
-                return PairCheck::Refused(10);
-            };
-            PairCheck::Allowed(p, c)
-        }
-    }
+    let found = idle::check_idle(d, revision);
+    let IdleCheck::Idle(p) = found else {
+        return PairCheck::Refused(found.code());
+    };
+    let NextCheck::Next(c) = check_next(d) else {
+        return PairCheck::Refused(10);
+    };
+    PairCheck::Allowed(p, c)
 }
 
 // The call on bytes that are a table.
@@ -53,15 +51,16 @@ fn fork_sound(t: &mut [u8], revision: u8) -> Answer
     ensures { λ a. ⌜ left a (now (t .exit)) ≡ forkOut (now (t .entry)) revision ⌝ }
 {
     let found = check_fork(&t[0..40960], revision);
-    match found {
-        PairCheck::Refused(code) => Answer { code, value: 0 },
-        PairCheck::Allowed(p, c) => {
-            start(t, p, c);
-            Answer {
-                code: 0,
-                value: c.0 as u32,
-            }
-        }
+    let PairCheck::Allowed(p, c) = found else {
+        return Answer {
+            code: found.code(),
+            value: 0,
+        };
+    };
+    start(t, p, c);
+    Answer {
+        code: 0,
+        value: c.0 as u32,
     }
 }
 

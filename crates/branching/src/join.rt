@@ -12,7 +12,7 @@ ghost use Rattle.table.specs.Answers.{left};
 ghost use Rattle.table.specs.Calls.{joinOut};
 use fields::table::Revision;
 use table::answer::Answer;
-use table::meet;
+use table::join::check_join;
 use table::pair::PairCheck;
 use table::sound;
 use table::sound::TableCheck;
@@ -31,14 +31,15 @@ fn join_sound(t: &mut [u8], joiner: u8, joinee: u8) -> Answer
     requires { ⌜ (isTable (now t) ≡ true) × (length (now t) ≡ bytes) × (inRange (low (now t)) ≡ true) ⌝ }
     ensures { λ a. ⌜ left a (now (t .exit)) ≡ joinOut (now (t .entry)) joiner joinee ⌝ }
 {
-    let found = meet::check_join(&t[0..40960], joiner, joinee);
-    match found {
-        PairCheck::Refused(code) => Answer { code, value: 0 },
-        PairCheck::Allowed(a, b) => {
-            let value = join_lower(t, a, b);
-            Answer { code: 0, value }
-        }
-    }
+    let found = check_join(&t[0..40960], joiner, joinee);
+    let PairCheck::Allowed(a, b) = found else {
+        return Answer {
+            code: found.code(),
+            value: 0,
+        };
+    };
+    let value = join_lower(t, a, b);
+    Answer { code: 0, value }
 }
 
 pub fn join(t: &mut [u8], joiner: u8, joinee: u8) -> Answer

@@ -11,8 +11,8 @@ use Rattle.entries.specs.Stored.{entry}
 use Rattle.entries.specs.Entries.{wrote}
 use Rattle.fields.specs.declared.table.Client.{Client}
 use Rattle.fields.specs.declared.table.Revision.{Revision}
-use Rattle.revisions.specs.Checks.{clientCheck}
-use Rattle.revisions.specs.declared.checks.ClientCheck.{ClientCheck}
+use Rattle.checks.specs.Answers.{clientCheck}
+use Rattle.checks.specs.declared.client.ClientCheck.{ClientCheck}
 use Rattle.table.specs.Halves.{low, high, cellsOf, isTable}
 use Rattle.table.specs.Answers.{Out, refused, taken, named}
 use Rattle.table.specs.Calls.{updateOut, yieldOut}

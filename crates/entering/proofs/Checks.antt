@@ -11,8 +11,8 @@ use Rattle.cells.specs.Sizes.{updates}
 use Rattle.cells.specs.Decode.{cells}
 use Rattle.cells.specs.Checks.{logFull}
 use Rattle.entries.specs.Sizes.{bibs}
-use Rattle.revisions.specs.Checks.{logCheck}
-use Rattle.revisions.specs.declared.checks.LogCheck.the-variants as log
+use Rattle.checks.specs.Answers.{logCheck}
+use Rattle.checks.specs.declared.log.LogCheck.the-variants as log
 use Rattle.table.proofs.Checks.{held, failed}
 
 -- code 5

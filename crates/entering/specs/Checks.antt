@@ -27,3 +27,8 @@ updateCheck d c n k bib =
 abbrev pub updateIn : List ℕ → ℕ → UpdateCheck → Type 0
 updateIn d bib (update.Refused k) = Unit {0}
 updateIn d bib (update.Allowed x y kind) = (x .0 < clients) × (y .0 < revisions) × (cells d .updates < updates) × (bib < bibs)
+
+-- the code of a check that ends the call, 0 where none does
+abbrev pub updateCode : UpdateCheck → ℕ
+updateCode (update.Refused k) = k
+updateCode (update.Allowed x y kind) = 0

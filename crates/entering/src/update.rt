@@ -14,11 +14,11 @@ ghost use Rattle.entries.specs.Entries.{wrote};
 ghost use Rattle.table.specs.Halves.{bytes, cellsOf, high, isTable, low};
 ghost use Rattle.table.specs.Answers.{left};
 ghost use Rattle.table.specs.Calls.{updateOut};
-ghost use Rattle.entering.specs.Checks.{updateCheck, updateIn};
+ghost use Rattle.entering.specs.Checks.{updateCheck, updateCode, updateIn};
+use checks::log::LogCheck;
+use checks::log::check_log;
 use fields::table::Client;
 use fields::table::Revision;
-use revisions::checks;
-use revisions::checks::LogCheck;
 use table::answer::Answer;
 use table::bib;
 use table::bib::BibCheck;
@@ -36,33 +36,41 @@ pub enum UpdateCheck {
     Refused(u8),
 }
 
+impl UpdateCheck {
+    // The code of the check that ends the call; 0 where none does.
+    pub fn code(self) -> u8
+        ensures { λ k. ⌜ k ≡ updateCode self ⌝ }
+    {
+        let UpdateCheck::Refused(code) = self else {
+            return 0;
+        };
+        code
+    }
+}
+
 // Checks 2 to 9, on the lower half.
 fn check_lower(d: &[u8], client: u8, revision: u8, kind: u8, bib: u16) -> UpdateCheck
     requires { ⌜ length (now d) ≡ Lower.bytes ⌝ }
     ensures { λ a. ⌜ (a ≡ updateCheck (now (d .entry)) client revision kind bib) × updateIn (now (d .entry)) bib a ⌝ }
 {
     let found = event::check_place(d, client, revision);
-    match found {
-        EventCheck::Refused(code) => UpdateCheck::Refused(code),
-        EventCheck::Allowed(c, r) => {
-            let BibCheck::Known = bib::check_bib(bib) else {
-                return UpdateCheck::Refused(5);
-            };
-            let KindCheck::Known(k) = kind::check(kind) else {
-                return UpdateCheck::Refused(5);
-            };
-            let next = event::check_turn(d, c, r);
-            match next {
-                EventCheck::Refused(code) => UpdateCheck::Refused(code),
-                EventCheck::Allowed(x, y) => {
-                    let LogCheck::Room = checks::check_log(d) else {
-                        return UpdateCheck::Refused(9);
-                    };
-                    UpdateCheck::Allowed(x, y, k)
-                }
-            }
-        }
-    }
+    let EventCheck::Allowed(c, r) = found else {
+        return UpdateCheck::Refused(found.code());
+    };
+    let BibCheck::Known = bib::check_bib(bib) else {
+        return UpdateCheck::Refused(5);
+    };
+    let KindCheck::Known(k) = kind::check(kind) else {
+        return UpdateCheck::Refused(5);
+    };
+    let next = event::check_turn(d, c, r);
+    let EventCheck::Allowed(x, y) = next else {
+        return UpdateCheck::Refused(next.code());
+    };
+    let LogCheck::Room = check_log(d) else {
+        return UpdateCheck::Refused(9);
+    };
+    UpdateCheck::Allowed(x, y, k)
 }
 
 // The same of a whole table.
@@ -105,13 +113,14 @@ fn update_sound(t: &mut [u8], client: u8, revision: u8, kind: u8, bib: u16, v: u
     ensures { λ a. ⌜ left a (now (t .exit)) ≡ updateOut (now (t .entry)) client revision kind bib v ⌝ }
 {
     let found = check_update(t, client, revision, kind, bib);
-    match found {
-        UpdateCheck::Refused(code) => Answer { code, value: 0 },
-        UpdateCheck::Allowed(c, r, k) => {
-            let value = put(t, c, r, k, bib, v);
-            Answer { code: 0, value }
-        }
-    }
+    let UpdateCheck::Allowed(c, r, k) = found else {
+        return Answer {
+            code: found.code(),
+            value: 0,
+        };
+    };
+    let value = put(t, c, r, k, bib, v);
+    Answer { code: 0, value }
 }
 
 pub fn update(t: &mut [u8], client: u8, revision: u8, kind: u8, bib: u16, v: u32) -> Answer

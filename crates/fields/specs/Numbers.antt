@@ -4,7 +4,7 @@ use mathlib.Core.Bool.{cond}
 use lib.Dec.{ltb}
 use Rattle.cells.specs.Sizes.{revisions}
 use Rattle.fields.specs.declared.table.RevisionCheck.{RevisionCheck}
-use Rattle.fields.specs.declared.table.RevisionCheck.the-variants.{Known, Strange}
+use Rattle.fields.specs.declared.table.RevisionCheck.the-variants.{Known, Unknown}
 
 unfoldable pub revisionCheck : ℕ → RevisionCheck
-revisionCheck n = cond (ltb n revisions) (Known (record { 0 = n })) Strange
+revisionCheck n = cond (ltb n revisions) (Known (record { 0 = n })) Unknown

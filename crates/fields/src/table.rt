@@ -18,7 +18,7 @@ pub struct Client(pub u8);
 // What the range check of a revision number finds.
 pub enum RevisionCheck {
     Known(Revision),
-    Strange,
+    Unknown,
 }
 
 pub fn check_revision(n: u8) -> RevisionCheck
@@ -27,7 +27,7 @@ pub fn check_revision(n: u8) -> RevisionCheck
     if wide(n) < Table::REVISIONS {
         RevisionCheck::Known(Revision(n))
     } else {
-        RevisionCheck::Strange
+        RevisionCheck::Unknown
     }
 }
 

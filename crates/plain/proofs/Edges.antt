@@ -22,7 +22,7 @@ use Rattle.diagram.specs.Examples.{withCounts}
 use Rattle.plain.specs.Calls.{Call, Update, Query, Yield, Fork, Join, Show, Fill, Bundle, Entry, Line}
 use Rattle.plain.specs.Record.{PlainDay, freshDay}
 use Rattle.plain.specs.Answers.{called, sent, dayFrom, dayAfter, answersFrom, answers}
-use Rattle.plain.specs.Edges.{edges, codes, said, expected, computed, ok, no, neither, filled, small, strange}
+use Rattle.plain.specs.Edges.{edges, codes, said, expected, computed, ok, no, neither, filled, small, unknownBib}
 
 pub edges-hold : computed edges ≡ expected edges
 unfolding called answersFrom answers after leads tabulate meant nextNumber unknownClient openElsewhere busyByOther busy anyBelow stale logFull noneLeft notJoinable revisionLimit clientLimit updateLimit kindCheck effect earliest penalized stateOf valueIn applied sent entriesIn entriesFrom isWrong number
@@ -73,7 +73,7 @@ unfolding called answersFrom answers after leads tabulate meant nextNumber unkno
 fills-told = (refl, refl)
 
 -- a bundle on a log that has room for one more: 9 of its second entry, before 5 of its third, after 5 of the second itself
-bundle-fills-log : said (answersFrom (counted 4095 1) (Bundle 0 0 (small 1 7 5 ++ small 1 7 5 ++ strange) ∷ Bundle 0 0 (small 1 7 5 ++ strange) ∷ Bundle 0 0 (small 1 7 5) ∷ Bundle 0 0 (small 1 7 5) ∷ []))
+bundle-fills-log : said (answersFrom (counted 4095 1) (Bundle 0 0 (small 1 7 5 ++ small 1 7 5 ++ unknownBib) ∷ Bundle 0 0 (small 1 7 5 ++ unknownBib) ∷ Bundle 0 0 (small 1 7 5) ∷ Bundle 0 0 (small 1 7 5) ∷ []))
     ≡ no 9 ∷ no 5 ∷ ok 4095 ∷ no 9 ∷ []
 unfolding called answersFrom answers after leads tabulate meant nextNumber unknownClient openElsewhere busyByOther busy anyBelow stale logFull noneLeft notJoinable revisionLimit clientLimit updateLimit kindCheck effect earliest penalized stateOf valueIn applied sent entriesIn entriesFrom isWrong number
 bundle-fills-log = refl

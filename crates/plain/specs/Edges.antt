@@ -62,8 +62,8 @@ strike = 4
 abbrev pub small : ℕ → ℕ → ℕ → List ℕ
 small kind bib v = kind ∷ 99 ∷ bib ∷ 0 ∷ v ∷ 0 ∷ 0 ∷ 0 ∷ 7 ∷ 7 ∷ 7 ∷ 7 ∷ []
 
-abbrev pub strange : List ℕ
-strange = time ∷ 0 ∷ 232 ∷ 3 ∷ 5 ∷ 0 ∷ 0 ∷ 0 ∷ 0 ∷ 0 ∷ 0 ∷ 0 ∷ []
+abbrev pub unknownBib : List ℕ
+unknownBib = time ∷ 0 ∷ 232 ∷ 3 ∷ 5 ∷ 0 ∷ 0 ∷ 0 ∷ 0 ∷ 0 ∷ 0 ∷ 0 ∷ []
 
 abbrev pub edges : List Edge
 edges =
@@ -138,8 +138,8 @@ codes =
     (ok 0 ∷ ok 1 ∷ ok 1 ∷ timed 40 ∷ struck ∷ filled 4 4 ∷ ok 4 ∷ [])
     -- 14 before 2; then all checks of the first entry, 5 of it before 7, then of the next; the earliest refusal is given and nothing is taken
     ∷ edge
-    (Bundle 16 9 [] ∷ Bundle 16 9 (1 ∷ small time 7 5) ∷ Bundle 16 9 (small time 7 5) ∷ Bundle 0 9 strange ∷ Bundle 0 0 (small time 7 5 ++ small 5 7 5 ++ small time 7 5)
-    ∷ Bundle 0 0 (small time 7 5 ++ strange) ∷ Fill 0 ∷ Query 1 0 7 ∷ Bundle 0 0 (strange ++ small time 7 5) ∷ Bundle 0 0 (small time 7 5 ++ strange) ∷ Bundle 1 0 (small time 7 5) ∷ Bundle 0 0 (small time 7 6) ∷ [])
+    (Bundle 16 9 [] ∷ Bundle 16 9 (1 ∷ small time 7 5) ∷ Bundle 16 9 (small time 7 5) ∷ Bundle 0 9 unknownBib ∷ Bundle 0 0 (small time 7 5 ++ small 5 7 5 ++ small time 7 5)
+    ∷ Bundle 0 0 (small time 7 5 ++ unknownBib) ∷ Fill 0 ∷ Query 1 0 7 ∷ Bundle 0 0 (unknownBib ++ small time 7 5) ∷ Bundle 0 0 (small time 7 5 ++ unknownBib) ∷ Bundle 1 0 (small time 7 5) ∷ Bundle 0 0 (small time 7 6) ∷ [])
     (no 14 ∷ no 14 ∷ no 2 ∷ no 3 ∷ no 5
     ∷ no 5 ∷ filled 0 0 ∷ neither ∷ no 5 ∷ no 7 ∷ ok 0 ∷ ok 1 ∷ [])
     ∷ edge (Update 0 0 time 7 5 ∷ Update 0 0 time 8 6 ∷ Query 0 0 7 ∷ Query 0 0 8 ∷ Query 0 0 9 ∷ []) (ok 0 ∷ ok 1 ∷ timed 5 ∷ timed 6 ∷ neither ∷ [])

@@ -13,7 +13,7 @@ use Rattle.table.specs.Halves.{low, high, cellsOf, isTable}
 use Rattle.table.specs.Answers.{Out, refused, taken}
 use Rattle.table.specs.Calls.{joinOut, noProspect, standingAfter, foreseen, previewOut}
 use Rattle.table.specs.Found.{onPair}
-use Rattle.table.specs.Checks.{bothCheck, meetCheck, joinCheck}
+use Rattle.table.specs.Checks.{bothCheck, mayJoinCheck, joinCheck}
 use Rattle.table.specs.declared.answer.Prospect.{Prospect}
 use Rattle.table.specs.declared.answer.Reading.{Reading}
 use Rattle.table.specs.declared.pair.PairCheck.{PairCheck}
@@ -50,7 +50,7 @@ module _ (t : List ℕ) (n m : ℕ) where
   module _ (bib : ℕ) where
     by-pair : {A : Type 0} (end : ℕ → A) (rest : ℕ → ℕ → A)
         → onPair (previewCheck (low t) n m bib) end (λ a b. rest (a .0) (b .0)) ≡ checked end (cond (badBib bib) (end 5) (rest n m))
-    unfolding previewCheck joinCheck bothCheck meetCheck onPair
+    unfolding previewCheck joinCheck bothCheck mayJoinCheck onPair
     by-pair end rest = simp (given-is, pair-cond, either)
 
     by-join : isTable t ≡ true → (s : Standing)

@@ -22,7 +22,7 @@ use table::answer::Prospect;
 use table::bib;
 use table::bib::BibCheck;
 use table::counts;
-use table::meet;
+use table::join::check_join;
 use table::pair::PairCheck;
 use table::sound;
 use table::sound::TableCheck;
@@ -90,7 +90,7 @@ fn check_preview(d: &[u8], joiner: u8, joinee: u8, bib: u16) -> PairCheck
     requires { ⌜ length (now d) ≡ Lower.bytes ⌝ }
     ensures { λ r. ⌜ (r ≡ previewCheck (now (d .entry)) joiner joinee bib) × pairIn r ⌝ }
 {
-    let found = meet::check_join(d, joiner, joinee);
+    let found = check_join(d, joiner, joinee);
     let PairCheck::Allowed(a, b) = found else {
         return found;
     };
@@ -106,10 +106,10 @@ fn preview_sound(t: &[u8], joiner: u8, joinee: u8, bib: u16) -> Prospect
     ensures { λ p. ⌜ p ≡ previewOut (now (t .entry)) joiner joinee bib ⌝ }
 {
     let found = check_preview(&t[0..40960], joiner, joinee, bib);
-    match found {
-        PairCheck::Refused(code) => refused(code),
-        PairCheck::Allowed(a, b) => foresee(t, a, b, bib),
-    }
+    let PairCheck::Allowed(a, b) = found else {
+        return refused(found.code());
+    };
+    foresee(t, a, b, bib)
 }
 
 pub fn preview(t: &[u8], joiner: u8, joinee: u8, bib: u16) -> Prospect

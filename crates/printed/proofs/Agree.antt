@@ -10,7 +10,7 @@ use Rattle.records.specs.Record.{stepAt}
 use Rattle.records.specs.declared.file.FileCheck.{FileCheck}
 use Rattle.records.specs.declared.file.FileCheck.the-variants.{Good, Bad}
 use Rattle.records.specs.declared.step.Step.{Step}
-use Rattle.records.specs.declared.step.Step.the-variants.{Update, Query, Yield, Fork, Join, Strange}
+use Rattle.records.specs.declared.step.Step.the-variants.{Update, Query, Yield, Fork, Join, Unknown}
 use Rattle.plain.specs.Record.{PlainDay}
 use Rattle.table.specs.Halves.{bytes}
 use Rattle.consistency.proofs.Table.Stands.{Stands}
@@ -27,7 +27,7 @@ step-same p t S (Query c n bib) = query-same p t S c n bib
 step-same p t S (Yield c) = yield-same p t S c
 step-same p t S (Fork n) = fork-same p t S n
 step-same p t S (Join n m) = join-same p t S n m
-step-same p t S Strange = record { code = refl; state = refl; value = refl; total = refl; gain = refl; lent = S }
+step-same p t S Unknown = record { code = refl; state = refl; value = refl; total = refl; gain = refl; lent = S }
 
 stands : (f : List ℕ) (i : ℕ) → Stands (paperAfter f i) (tableAfter freshTable f i)
 unfolding paperAfter tableAfter freshTable

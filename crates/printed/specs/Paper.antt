@@ -10,7 +10,7 @@ use Rattle.records.specs.Record.{stepAt}
 use Rattle.records.specs.declared.file.FileCheck.{FileCheck}
 use Rattle.records.specs.declared.file.FileCheck.the-variants.{Good, Bad}
 use Rattle.records.specs.declared.step.Step.{Step}
-use Rattle.records.specs.declared.step.Step.the-variants.{Update, Query, Yield, Fork, Join, Strange}
+use Rattle.records.specs.declared.step.Step.the-variants.{Update, Query, Yield, Fork, Join, Unknown}
 use Rattle.plain.specs.Calls as Call
 use Rattle.plain.specs.Calls.{Answer}
 use Rattle.plain.specs.Record.{PlainDay, freshDay}
@@ -24,7 +24,7 @@ outcome p (Query c n bib) = called p (Call.Query c n bib)
 outcome p (Yield c) = called p (Call.Yield c)
 outcome p (Fork n) = called p (Call.Fork n)
 outcome p (Join n m) = called p (Call.Join n m)
-outcome p Strange = refused p 13
+outcome p Unknown = refused p 13
 
 -- the day after the first i records
 unfoldable pub paperAfter : List ℕ → ℕ → PlainDay

@@ -63,18 +63,16 @@ fn query_sound(t: &mut [u8], client: u8, revision: u8, bib: u16) -> Reading
     ensures { λ a. ⌜ leftRead a (now (t .exit)) ≡ queryOut (now (t .entry)) client revision bib ⌝ }
 {
     let found = check_query(t, client, revision, bib);
-    match found {
-        EventCheck::Refused(code) => Reading {
-            code,
+    let EventCheck::Allowed(c, r) = found else {
+        return Reading {
+            code: found.code(),
             state: State::Neither,
             value: 0,
-        },
-        EventCheck::Allowed(c, r) => {
-            let standing = standing_at(t, r, bib);
-            record(t, c, r);
-            tell(standing)
-        }
-    }
+        };
+    };
+    let standing = standing_at(t, r, bib);
+    record(t, c, r);
+    tell(standing)
 }
 
 pub fn query(t: &mut [u8], client: u8, revision: u8, bib: u16) -> Reading

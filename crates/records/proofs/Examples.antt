@@ -7,7 +7,7 @@ use Rattle.records.specs.Numbers.{number}
 use Rattle.records.specs.File.{fileCheck}
 use Rattle.records.specs.Record.{stepAt, stepOf}
 use Rattle.records.specs.declared.file.FileCheck.the-variants.{Good, Bad}
-use Rattle.records.specs.declared.step.Step.the-variants.{Update, Query, Yield, Join, Strange}
+use Rattle.records.specs.declared.step.Step.the-variants.{Update, Query, Yield, Join, Unknown}
 
 bytes-of-61000 : number (72 ∷ 238 ∷ 0 ∷ 0 ∷ []) ≡ 61000
 unfolding number
@@ -54,7 +54,7 @@ the-penalty : stepAt two 1 ≡ Update 1 1 3 7 5000
 unfolding two stepAt stepOf number
 the-penalty = refl
 
-no-third : stepAt two 2 ≡ Strange
+no-third : stepAt two 2 ≡ Unknown
 unfolding two stepAt number
 no-third = refl
 
@@ -67,6 +67,6 @@ query-999 : stepOf (2 ∷ 1 ∷ 0 ∷ 0 ∷ 231 ∷ 3 ∷ replicate 6 0) ≡ Que
 unfolding stepOf number
 query-999 = refl
 
-step-6 : stepOf (6 ∷ replicate 11 0) ≡ Strange
+step-6 : stepOf (6 ∷ replicate 11 0) ≡ Unknown
 unfolding stepOf
 step-6 = refl

@@ -39,7 +39,7 @@ module _ (f : List ℕ) (n : ℕ) (h : fileCheck f ≡ Good n) where
   pub count-bound : n ≤ 5460
   count-bound = let g = header-fits in omega arith
 
-  -- no record of a good file is strange for want of bytes
+  -- no record of a good file is unknown for want of bytes
   pub record-whole : (i : ℕ) → i < n → stepAt f i ≡ stepOf (take 12 (drop (offset f + 12 * i) f))
   unfolding stepAt
   record-whole i l = let g = header-fits in simp (le-leb (offset f + 12 * i + 12) (length f) (omega arith))

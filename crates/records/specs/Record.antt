@@ -7,7 +7,7 @@ use lib.ListN.{length, take, drop, getD}
 use Rattle.records.specs.Numbers.{numberAt}
 use Rattle.records.specs.File.{offset}
 use Rattle.records.specs.declared.step.Step.{Step}
-use Rattle.records.specs.declared.step.Step.the-variants.{Update, Query, Yield, Fork, Join, Strange}
+use Rattle.records.specs.declared.step.Step.the-variants.{Update, Query, Yield, Fork, Join, Unknown}
 
 -- "Records are 12 bytes: step, tablet, box, second box (the joinee), bib (2 bytes), update kind, spare, v (4 bytes)"
 abbrev pub stepByte : List ℕ → ℕ
@@ -45,10 +45,10 @@ stepOf p =
     cond (eqb (stepByte p) 3) (Yield (client p)) (
     cond (eqb (stepByte p) 4) (Fork (revision p)) (
     cond (eqb (stepByte p) 5) (Join (revision p) (second p))
-    Strange))))
+    Unknown))))
 
--- the step of record i. Where the file has no whole record i, it is Strange; a good file has every record under its count.
+-- the step of record i. Where the file has no whole record i, it is Unknown; a good file has every record under its count.
 unfoldable pub stepAt : List ℕ → ℕ → Step
 stepAt f i =
     cond (leb (offset f + 12 * i + 12) (length f)) (stepOf (take 12 (drop (offset f + 12 * i) f)))
-    Strange
+    Unknown

@@ -50,6 +50,6 @@ pub(crate) fn decode(p: &[u8]) -> Step
         3 => Step::Yield(p[1]),
         4 => Step::Fork(p[2]),
         5 => Step::Join(p[2], p[3]),
-        _ => Step::Strange,
+        _ => Step::Unknown,
     }
 }

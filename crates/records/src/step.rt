@@ -21,20 +21,20 @@ pub enum Step {
     Yield(u8),
     Fork(u8),
     Join(u8, u8),
-    Strange,
+    Unknown,
 }
 
-// Where the file has no whole record of that index, the step is strange.
+// Where the file has no whole record of that index, the step is unknown (01: strange step).
 pub fn step_at(f: &[u8], i: u32) -> Step
     ensures { λ s. ⌜ s ≡ stepAt (now (f .entry)) i ⌝ }
 {
     if f.len() < 8 {
-        return Step::Strange;
+        return Step::Unknown;
     }
     let at = read(&f[4..8]) + 12 * (i as u64);
     let end = at + 12;
     if end > f.len() as u64 {
-        return Step::Strange;
+        return Step::Unknown;
     }
     let from = at as usize;
     let to = end as usize;

@@ -33,7 +33,7 @@ no-steps : printed (header 0 8) ≡ ascii "steps 0\n"
 unfolding printed fileCheck number day lines decimal places
 no-steps = refl
 
--- steps 6 and 0 are strange, and the day goes on
-strange : printed (header 2 8 ++ (6 ∷ replicate 11 0) ++ replicate 12 0) ≡ ascii "steps 2\n0 13 0\n1 13 0\n"
+-- steps 6 and 0 are unknown, and the day goes on
+unknown-steps : printed (header 2 8 ++ (6 ∷ replicate 11 0) ++ replicate 12 0) ≡ ascii "steps 2\n0 13 0\n1 13 0\n"
 unfolding printed fileCheck number day lines line valueText stepAt stepOf decimal places
-strange = refl
+unknown-steps = refl

@@ -3,7 +3,7 @@ use Prim.Native.Nat.{ℕ, zero, suc}
 use mathlib.Core.List.{List}
 use Rattle.records.specs.Record.{stepAt}
 use Rattle.records.specs.declared.step.Step.{Step}
-use Rattle.records.specs.declared.step.Step.the-variants.{Update, Query, Yield, Fork, Join, Strange}
+use Rattle.records.specs.declared.step.Step.the-variants.{Update, Query, Yield, Fork, Join, Unknown}
 use Rattle.table.specs.Answers.{Out, refused}
 use Rattle.table.specs.Calls.{updateOut, queryOut, yieldOut, forkOut, joinOut}
 
@@ -14,7 +14,7 @@ stepOut t (Query c n bib) = queryOut t c n bib
 stepOut t (Yield c) = yieldOut t c
 stepOut t (Fork n) = forkOut t n
 stepOut t (Join n m) = joinOut t n m
-stepOut t Strange = refused t 13
+stepOut t Unknown = refused t 13
 
 -- the table after the first i records of f, from the table t on
 unfoldable pub tableAfter : List ℕ → List ℕ → ℕ → List ℕ

@@ -18,7 +18,7 @@ fn without_state(a: Answer) -> Reading
     }
 }
 
-// Code 13 is the program's own: a strange step changes nothing.
+// Code 13 is the program's own: an unknown step (01: strange step) changes nothing.
 pub(crate) fn run(t: &mut [u8], step: Step) -> Reading
     ensures { λ a. ⌜ leftRead a (now (t .exit)) ≡ stepOut (now (t .entry)) step ⌝ }
 {
@@ -38,7 +38,7 @@ pub(crate) fn run(t: &mut [u8], step: Step) -> Reading
         Step::Yield(client) => without_state(entering::yields::yields(t, client)),
         Step::Fork(revision) => without_state(branching::fork::fork(t, revision)),
         Step::Join(joiner, joinee) => without_state(branching::join::join(t, joiner, joinee)),
-        Step::Strange => Reading {
+        Step::Unknown => Reading {
             code: 13,
             state: State::Neither,
             value: 0,

@@ -1,5 +1,3 @@
 -- Laws that belong to no one function: each step is its writes in a row.
-pub mod Numbers
-pub mod Flags
 pub mod Writes
 pub mod Rows

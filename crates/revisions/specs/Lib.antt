@@ -1,3 +1,2 @@
--- The answers of the checks, and the pieces in which the code makes the larger steps.
-pub mod Checks
+-- The pieces in which the code makes the larger steps.
 pub mod Pieces

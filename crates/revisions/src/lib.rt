@@ -1,10 +1,8 @@
-// The steps of a day on the first 40,960 bytes of a table, and the checks before them. Knows nothing of what an update does.
-pub mod checks; // checks.rt: what the codes of the desk ask of the cells
+// The steps of a day on the first 40,960 bytes of a table. Knows nothing of what an update does.
 pub mod fork; // fork.rt: a revision forks another
 pub mod fresh; // fresh.rt: a new day
 pub mod inherit; // inherit.rt: what a forked revision inherits
 pub mod join; // join.rt: a revision joins another
 pub mod own; // own.rt: own lists and their links written
-pub mod range; // range.rt: every cell in its range
 pub mod record; // record.rt: an update or a query is recorded
 pub mod transactions; // transactions.rt: open transactions

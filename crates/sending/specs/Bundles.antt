@@ -40,6 +40,11 @@ abbrev pub onFit : FitCheck → FitCheck → FitCheck
 onFit Fits rest = rest
 onFit (Refused code) rest = Refused code
 
+-- the code of a check that ends the call, 0 where none does
+abbrev pub fitCode : FitCheck → ℕ
+fitCode Fits = 0
+fitCode (Refused code) = code
+
 -- 1, 5, 9 of an entry
 unfoldable pub fitCheck : ℕ → ℕ → ℕ → ℕ → FitCheck
 fitCheck k bib taken own = onFit (ownCheck own) (onKind (entryCheck k bib) (Refused 5) (λ kind. cond (ltb taken updates) Fits (Refused 9)))

@@ -10,7 +10,7 @@ ghost use Rattle.entering.specs.Checks.{updateCheck};
 ghost use Rattle.table.specs.Halves.{bytes, cellsOf, isTable, low};
 ghost use Rattle.table.specs.Answers.{left};
 ghost use Rattle.table.specs.Calls.{bundleOut, sentOut, settled};
-ghost use Rattle.sending.specs.Bundles.{Going, entered, enteredAll, entryCheck, fitCheck, ownCheck, sentCheck};
+ghost use Rattle.sending.specs.Bundles.{Going, entered, enteredAll, entryCheck, fitCheck, fitCode, ownCheck, sentCheck};
 ghost use Rattle.sending.specs.declared.bundle.FitCheck.the-variants as fit;
 use bundles::check::BundleCheck;
 use bundles::check::check_bundle;
@@ -35,6 +35,18 @@ use updates::kind::KindCheck;
 pub enum FitCheck {
     Fits,
     Refused(u8),
+}
+
+impl FitCheck {
+    // The code of the check that ends the call; 0 where none does.
+    pub fn code(self) -> u8
+        ensures { λ k. ⌜ k ≡ fitCode self ⌝ }
+    {
+        let FitCheck::Refused(code) = self else {
+            return 0;
+        };
+        code
+    }
 }
 
 // 5 of an entry.
@@ -123,16 +135,17 @@ fn send(t: &mut [u8], c: Client, r: Revision, b: &[u8], n: usize) -> Answer
     let taken = counts::taken(t);
     let own = counts::own(t, r);
     let found = check_sent(b, n, taken, own);
-    match found {
-        FitCheck::Refused(code) => Answer { code, value: 0 },
-        FitCheck::Fits => {
-            enter_all(t, c, r, b, n);
-            close(t, c);
-            Answer {
-                code: 0,
-                value: taken as u32,
-            }
-        }
+    let FitCheck::Fits = found else {
+        return Answer {
+            code: found.code(),
+            value: 0,
+        };
+    };
+    enter_all(t, c, r, b, n);
+    close(t, c);
+    Answer {
+        code: 0,
+        value: taken as u32,
     }
 }
 
@@ -151,10 +164,13 @@ fn bundle_sound(t: &mut [u8], client: u8, revision: u8, b: &[u8], n: usize) -> A
     ensures { λ a. ⌜ left a (now (t .exit)) ≡ settled (now (t .entry)) (sentOut (now (t .entry)) client revision (entriesFrom (now (b .entry)) 0 n)) ⌝ }
 {
     let found = check_first(t, client, revision, b);
-    match found {
-        UpdateCheck::Refused(code) => Answer { code, value: 0 },
-        UpdateCheck::Allowed(c, r, k) => send(t, c, r, b, n),
-    }
+    let UpdateCheck::Allowed(c, r, k) = found else {
+        return Answer {
+            code: found.code(),
+            value: 0,
+        };
+    };
+    send(t, c, r, b, n)
 }
 
 pub fn bundle(t: &mut [u8], client: u8, revision: u8, records: &[u8]) -> Answer

@@ -6,16 +6,16 @@ use mathlib.Core.List.{List}
 use Rattle.cells.specs.Decode.{cells}
 use Rattle.cells.specs.Checks.{joined}
 use Rattle.fields.specs.declared.table.Revision.{Revision}
-use Rattle.revisions.specs.Checks.{givenCheck}
-use Rattle.revisions.specs.declared.checks.GivenCheck.{GivenCheck}
-use Rattle.revisions.specs.declared.checks.GivenCheck.the-variants as given
+use Rattle.checks.specs.Answers.{givenCheck}
+use Rattle.checks.specs.declared.given.GivenCheck.{GivenCheck}
+use Rattle.checks.specs.declared.given.GivenCheck.the-variants as given
 use Rattle.table.specs.Halves.{low, isTable}
 use Rattle.table.specs.Answers.{refused}
 use Rattle.table.specs.Calls.{listOut, shownOut, fillOut, fillIn, noFill, told}
-use Rattle.table.specs.Found.{onGiven, onQuiet}
-use Rattle.table.specs.Checks.{quietCheck}
-use Rattle.table.specs.declared.quiet.QuietCheck.{QuietCheck}
-use Rattle.table.proofs.Calls.{given-is, quiet-cond}
+use Rattle.table.specs.Found.{onGiven, onIdle}
+use Rattle.table.specs.Checks.{idleCheck}
+use Rattle.table.specs.declared.idle.IdleCheck.{IdleCheck}
+use Rattle.table.proofs.Calls.{given-is, idle-cond}
 
 -- the calls on bytes that are no table
 module _ (t : List ℕ) (h : isTable t ≡ false) where
@@ -28,9 +28,9 @@ module _ (t : List ℕ) (h : isTable t ≡ false) where
   no-fill n = rw h
 
 -- a list on a table, from what its checks find
-pub list-by : (t : List ℕ) → isTable t ≡ true → (n : ℕ) (s : List ℕ) (z : QuietCheck) → quietCheck (low t) n ≡ z → onQuiet z (refused s) (λ r. shownOut t (r .0) s) ≡ listOut t n s
-unfolding quietCheck listOut onQuiet
-list-by t h n s z e = rw (← e) (simp (given-is, quiet-cond, h))
+pub list-by : (t : List ℕ) → isTable t ≡ true → (n : ℕ) (s : List ℕ) (z : IdleCheck) → idleCheck (low t) n ≡ z → onIdle z (refused s) (λ r. shownOut t (r .0) s) ≡ listOut t n s
+unfolding idleCheck listOut onIdle
+list-by t h n s z e = rw (← e) (simp (given-is, idle-cond, h))
 
 -- a fill on the lower half, from what its checks find; and of bytes that are a table
 module _ (d : List ℕ) (n : ℕ) where

@@ -6,11 +6,12 @@ ghost use Rattle.cells.specs.Sizes as Lower;
 ghost use Rattle.cells.specs.Sizes.{revisions};
 ghost use Rattle.cells.specs.Decode.{cells};
 ghost use Rattle.table.specs.Calls.{fillIn, fillOut, noFill, told};
+use checks::given::GivenCheck;
+use checks::given::check_given;
+use checks::joined::JoinedCheck;
+use checks::joined::check_joined;
 use fields::read;
 use fields::table::Revision;
-use revisions::checks;
-use revisions::checks::GivenCheck;
-use revisions::checks::JoinedCheck;
 use table::answer::Level;
 use table::sound;
 use table::sound::TableCheck;
@@ -43,10 +44,10 @@ fn fill_in(d: &[u8], revision: u8) -> Level
     requires { ⌜ length (now d) ≡ Lower.bytes ⌝ }
     ensures { λ f. ⌜ f ≡ fillIn (cells (now (d .entry))) revision ⌝ }
 {
-    let GivenCheck::Given(r) = checks::check_given(d, revision) else {
+    let GivenCheck::Given(r) = check_given(d, revision) else {
         return refused(3);
     };
-    let JoinedCheck::Out = checks::check_joined(d, r) else {
+    let JoinedCheck::Out = check_joined(d, r) else {
         return refused(4);
     };
     tell(d, r)

@@ -14,8 +14,8 @@ ghost use Rattle.table.specs.Calls.{listOut, shownOut};
 ghost use Rattle.showing.specs.Checks.{sheetCheck};
 use fields::table::Revision;
 use table::answer::Answer;
-use table::quiet;
-use table::quiet::QuietCheck;
+use table::idle;
+use table::idle::IdleCheck;
 use table::sound;
 use table::sound::TableCheck;
 use table::visible::visible;
@@ -68,11 +68,14 @@ fn list_sound(t: &[u8], revision: u8, sheet: &mut [u8]) -> Answer
     requires { ⌜ (isTable (now t) ≡ true) × (length (now t) ≡ bytes) × (inRange (low (now t)) ≡ true) ⌝ }
     ensures { λ a. ⌜ left a (now (sheet .exit)) ≡ listOut (now (t .entry)) revision (now (sheet .entry)) ⌝ }
 {
-    let found = quiet::check_quiet(&t[0..40960], revision);
-    match found {
-        QuietCheck::Refused(code) => Answer { code, value: 0 },
-        QuietCheck::Quiet(r) => show(t, r, sheet),
-    }
+    let found = idle::check_idle(&t[0..40960], revision);
+    let IdleCheck::Idle(r) = found else {
+        return Answer {
+            code: found.code(),
+            value: 0,
+        };
+    };
+    show(t, r, sheet)
 }
 
 pub fn list(t: &[u8], revision: u8, sheet: &mut [u8]) -> Answer

@@ -9,8 +9,8 @@ use lib.ListN.{length}
 use borrow.Author.Tests.{eq-eqb, ne-eqb, eqb-true}
 use Rattle.lists.proofs.Cases.{and-true}
 use Rattle.cells.specs.Range.{inRange}
-use Rattle.revisions.specs.Checks.{rangeCheck}
-use Rattle.revisions.specs.declared.checks.RangeCheck.the-variants as range
+use Rattle.checks.specs.Answers.{rangeCheck}
+use Rattle.checks.specs.declared.range.RangeCheck.the-variants as range
 use Rattle.table.specs.Halves.{bytes, low, isTable}
 use Rattle.table.specs.Checks.{lengthCheck, tableCheck}
 use Rattle.table.specs.declared.sound.LengthCheck.the-variants as buffer

@@ -8,21 +8,21 @@ use Rattle.cells.specs.Steps.{joinBytes}
 use Rattle.cells.specs.Checks.{isClient, givenOut}
 use Rattle.fields.specs.declared.table.Client.{Client}
 use Rattle.fields.specs.declared.table.Revision.{Revision}
-use Rattle.revisions.specs.Checks.{clientCheck, givenCheck}
-use Rattle.revisions.specs.declared.checks.ClientCheck.the-variants as client
-use Rattle.revisions.specs.declared.checks.GivenCheck.the-variants as given
+use Rattle.checks.specs.Answers.{clientCheck, givenCheck}
+use Rattle.checks.specs.declared.client.ClientCheck.the-variants as client
+use Rattle.checks.specs.declared.given.GivenCheck.the-variants as given
 use Rattle.table.specs.Halves.{low, high, cellsOf, isTable}
 use Rattle.table.specs.Answers.{refused, taken}
 use Rattle.table.specs.Calls.{joinOut}
-use Rattle.table.specs.Found.{onClient, onGiven, onQuiet, onEvent, onPair}
-use Rattle.table.specs.Checks.{bothCheck, meetCheck, joinCheck}
-use Rattle.table.specs.declared.quiet.QuietCheck.{QuietCheck}
+use Rattle.table.specs.Found.{onClient, onGiven, onIdle, onEvent, onPair}
+use Rattle.table.specs.Checks.{bothCheck, mayJoinCheck, joinCheck}
+use Rattle.table.specs.declared.idle.IdleCheck.{IdleCheck}
 use Rattle.table.specs.declared.event.EventCheck.{EventCheck}
 use Rattle.table.specs.declared.pair.PairCheck.{PairCheck}
 use Rattle.table.specs.declared.pair.PairCheck.the-variants as pair
 
 -- a check's answer taken apart is a test
-client-by : {A : Type 0} (b : Bool) (x : Client) (end : A) (rest : Client → A) → onClient (cond b (client.Known x) client.Strange) end rest ≡ cond (not b) end (rest x)
+client-by : {A : Type 0} (b : Bool) (x : Client) (end : A) (rest : Client → A) → onClient (cond b (client.Known x) client.Unknown) end rest ≡ cond (not b) end (rest x)
 unfolding onClient
 client-by true x end rest = refl
 client-by false x end rest = refl
@@ -46,9 +46,9 @@ pub over : {A B : Type 0} (f : A → B) (b : Bool) (x y : A) → f (cond b x y) 
 over f true x y = refl
 over f false x y = refl
 
-pub quiet-cond : {A : Type 0} (b : Bool) (x y : QuietCheck) (end : ℕ → A) (rest : Revision → A)
-    → onQuiet (cond b x y) end rest ≡ cond b (onQuiet x end rest) (onQuiet y end rest)
-quiet-cond b x y end rest = over (λ z. onQuiet z end rest) b x y
+pub idle-cond : {A : Type 0} (b : Bool) (x y : IdleCheck) (end : ℕ → A) (rest : Revision → A)
+    → onIdle (cond b x y) end rest ≡ cond b (onIdle x end rest) (onIdle y end rest)
+idle-cond b x y end rest = over (λ z. onIdle z end rest) b x y
 
 pub event-cond : {A : Type 0} (b : Bool) (x y : EventCheck) (end : ℕ → A) (rest : Client → Revision → A)
     → onEvent (cond b x y) end rest ≡ cond b (onEvent x end rest) (onEvent y end rest)
@@ -75,5 +75,5 @@ no-join t h n m = rw h
 
 pub join-by : (t : List ℕ) → isTable t ≡ true → (n m : ℕ) (z : PairCheck) → joinCheck (low t) n m ≡ z
     → onPair z (refused t) (λ a b. taken (joinBytes (low t) (a .0) (b .0) ++ high t) (cellsOf t .count (b .0))) ≡ joinOut t n m
-unfolding joinCheck bothCheck meetCheck joinOut onPair
+unfolding joinCheck bothCheck mayJoinCheck joinOut onPair
 join-by t h n m z e = rw (← e) (simp (given-is, pair-cond, either, h))

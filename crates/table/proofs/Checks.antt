@@ -13,20 +13,20 @@ use Rattle.fields.specs.declared.table.Revision.{Revision}
 use Rattle.cells.specs.Sizes.{clients, revisions}
 use Rattle.cells.specs.Decode.{cells}
 use Rattle.cells.specs.Checks.{givenOut, joined, openElsewhere, busy, busyByOther, stale, joinable}
-use Rattle.revisions.specs.Checks.{clientCheck, givenCheck, joinedCheck, openCheck, useCheck, otherUseCheck, staleCheck, joinableCheck}
-use Rattle.revisions.specs.declared.checks.ClientCheck.the-variants as client
-use Rattle.revisions.specs.declared.checks.GivenCheck.{GivenCheck}
-use Rattle.revisions.specs.declared.checks.GivenCheck.the-variants as given
-use Rattle.revisions.specs.declared.checks.JoinedCheck.the-variants as out
-use Rattle.revisions.specs.declared.checks.OpenCheck.the-variants as transaction
-use Rattle.revisions.specs.declared.checks.UseCheck.the-variants as revision
-use Rattle.revisions.specs.declared.checks.StaleCheck.the-variants as event
-use Rattle.revisions.specs.declared.checks.JoinableCheck.the-variants as join
-use Rattle.revisions.proofs.Numbers.{known-client}
-use Rattle.table.specs.Checks.{bibCheck, quietCheck}
+use Rattle.checks.specs.Answers.{clientCheck, givenCheck, joinedCheck, openCheck, useCheck, otherUseCheck, staleCheck, joinableCheck}
+use Rattle.checks.specs.declared.client.ClientCheck.the-variants as client
+use Rattle.checks.specs.declared.given.GivenCheck.{GivenCheck}
+use Rattle.checks.specs.declared.given.GivenCheck.the-variants as given
+use Rattle.checks.specs.declared.joined.JoinedCheck.the-variants as out
+use Rattle.checks.specs.declared.open.OpenCheck.the-variants as transaction
+use Rattle.checks.specs.declared.busy.UseCheck.the-variants as revision
+use Rattle.checks.specs.declared.stale.StaleCheck.the-variants as event
+use Rattle.checks.specs.declared.joinable.JoinableCheck.the-variants as join
+use Rattle.checks.proofs.Numbers.{known-client}
+use Rattle.table.specs.Checks.{bibCheck, idleCheck}
 use Rattle.table.specs.Found.{onGiven}
 use Rattle.table.specs.declared.bib.BibCheck.the-variants as bib
-use Rattle.table.specs.declared.quiet.QuietCheck.the-variants as quiet
+use Rattle.table.specs.declared.idle.IdleCheck.the-variants as idle
 
 -- the answer is not the second one, so the test held; or not the first one, so it did not
 pub held : {A : Type 0} (test : Bool) (a b x : A) → (b ≡ x → ⊥) → cond test a b ≡ x → (test ≡ true) × (a ≡ x)
@@ -46,9 +46,9 @@ pub bib-known : (n : ℕ) → bibCheck n ≡ bib.Known → badBib n ≡ false
 unfolding bibCheck
 bib-known n e = failed (badBib n) _ _ _ (λ d. let z : _≡_ {A = ℕ} 0 1 = cc in omega arith) e .0
 
-pub bib-strange : (n : ℕ) → bibCheck n ≡ bib.Strange → badBib n ≡ true
+pub bib-unknown : (n : ℕ) → bibCheck n ≡ bib.Unknown → badBib n ≡ true
 unfolding bibCheck
-bib-strange n e = held (badBib n) _ _ _ (λ d. let z : _≡_ {A = ℕ} 0 1 = cc in omega arith) e .0
+bib-unknown n e = held (badBib n) _ _ _ (λ d. let z : _≡_ {A = ℕ} 0 1 = cc in omega arith) e .0
 
 module _ (d : List ℕ) where
   -- code 3
@@ -114,16 +114,16 @@ module _ (d : List ℕ) where
   unfolding joinableCheck
   may-not n m e = failed (joinable (cells d) n m) _ _ _ (λ d. let z : _≡_ {A = ℕ} 0 1 = cc in omega arith) e .0
 
--- a revision that is quiet was given out
-quiet-of : (q : GivenCheck) (j b : Revision → Bool) (x : Revision)
-    → onGiven q (quiet.Refused 3) (λ r. cond (j r) (quiet.Refused 4) (cond (b r) (quiet.Refused 7) (quiet.Quiet r))) ≡ quiet.Quiet x → q ≡ given.Given x
+-- a revision that is idle was given out
+idle-of : (q : GivenCheck) (j b : Revision → Bool) (x : Revision)
+    → onGiven q (idle.Refused 3) (λ r. cond (j r) (idle.Refused 4) (cond (b r) (idle.Refused 7) (idle.Idle r))) ≡ idle.Idle x → q ≡ given.Given x
 unfolding onGiven
-quiet-of given.Never j b x e = cc
-quiet-of (given.Given r) j b x e =
+idle-of given.Never j b x e = cc
+idle-of (given.Given r) j b x e =
     let p = failed (j r) _ _ _ (λ h. let z : _≡_ {A = ℕ} 0 1 = cc in omega arith) e in
     let q = failed (b r) _ _ _ (λ h. let z : _≡_ {A = ℕ} 0 1 = cc in omega arith) (p .1) in
     cc (q .1)
 
-pub quiet-in : (d : List ℕ) (n : ℕ) (x : Revision) → quietCheck d n ≡ quiet.Quiet x → x .0 < revisions
-unfolding quietCheck
-quiet-in d n x e = was-given d n x (quiet-of (givenCheck d n) (λ r. joined (cells d) (r .0)) (λ r. busy (cells d) (r .0)) x e)
+pub idle-in : (d : List ℕ) (n : ℕ) (x : Revision) → idleCheck d n ≡ idle.Idle x → x .0 < revisions
+unfolding idleCheck
+idle-in d n x e = was-given d n x (idle-of (givenCheck d n) (λ r. joined (cells d) (r .0)) (λ r. busy (cells d) (r .0)) x e)

@@ -11,7 +11,7 @@ use Rattle.cells.specs.Decode.{cells}
 use Rattle.cells.specs.Checks.{joined, openElsewhere, busy, busyByOther, stale, joinable}
 use Rattle.fields.specs.declared.table.Client.{Client}
 use Rattle.fields.specs.declared.table.Revision.{Revision}
-use Rattle.revisions.specs.Checks.{clientCheck, givenCheck}
+use Rattle.checks.specs.Answers.{clientCheck, givenCheck}
 use Rattle.table.specs.Halves.{bytes, isTable}
 use Rattle.table.specs.Found.{onClient, onGiven, onPair}
 use Rattle.table.specs.declared.sound.LengthCheck.{LengthCheck}
@@ -20,8 +20,8 @@ use Rattle.table.specs.declared.sound.TableCheck.{TableCheck}
 use Rattle.table.specs.declared.sound.TableCheck.the-variants as table
 use Rattle.table.specs.declared.bib.BibCheck.{BibCheck}
 use Rattle.table.specs.declared.bib.BibCheck.the-variants as bib
-use Rattle.table.specs.declared.quiet.QuietCheck.{QuietCheck}
-use Rattle.table.specs.declared.quiet.QuietCheck.the-variants as quiet
+use Rattle.table.specs.declared.idle.IdleCheck.{IdleCheck}
+use Rattle.table.specs.declared.idle.IdleCheck.the-variants as idle
 use Rattle.table.specs.declared.event.EventCheck.{EventCheck}
 use Rattle.table.specs.declared.event.EventCheck.the-variants as event
 use Rattle.table.specs.declared.pair.PairCheck.{PairCheck}
@@ -37,15 +37,15 @@ lengthCheck t = cond (eqb (length t) bytes) buffer.Right buffer.Wrong
 
 -- 5 "bib above 999"
 unfoldable pub bibCheck : ℕ → BibCheck
-bibCheck n = cond (badBib n) bib.Strange bib.Known
+bibCheck n = cond (badBib n) bib.Unknown bib.Known
 
 -- 3, 4, 7 of a fork and a list
-unfoldable pub quietCheck : List ℕ → ℕ → QuietCheck
-quietCheck d n =
-    onGiven (givenCheck d n) (quiet.Refused 3) (λ r.
-    cond (joined (cells d) (r .0)) (quiet.Refused 4) (
-    cond (busy (cells d) (r .0)) (quiet.Refused 7) (
-    quiet.Quiet r)))
+unfoldable pub idleCheck : List ℕ → ℕ → IdleCheck
+idleCheck d n =
+    onGiven (givenCheck d n) (idle.Refused 3) (λ r.
+    cond (joined (cells d) (r .0)) (idle.Refused 4) (
+    cond (busy (cells d) (r .0)) (idle.Refused 7) (
+    idle.Idle r)))
 
 -- 3, 4 of a join
 unfoldable pub bothCheck : List ℕ → ℕ → ℕ → PairCheck
@@ -57,8 +57,8 @@ bothCheck d n m =
     pair.Allowed a b))))
 
 -- 7, 11 of a join
-unfoldable pub meetCheck : List ℕ → Revision → Revision → PairCheck
-meetCheck d a b =
+unfoldable pub mayJoinCheck : List ℕ → Revision → Revision → PairCheck
+mayJoinCheck d a b =
     cond (busy (cells d) (a .0)) (pair.Refused 7) (
     cond (busy (cells d) (b .0)) (pair.Refused 7) (
     cond (not (joinable (cells d) (a .0) (b .0))) (pair.Refused 11) (
@@ -66,7 +66,7 @@ meetCheck d a b =
 
 -- 3, 4, 7, 11 of a join
 unfoldable pub joinCheck : List ℕ → ℕ → ℕ → PairCheck
-joinCheck d n m = onPair (bothCheck d n m) pair.Refused (λ a b. meetCheck d a b)
+joinCheck d n m = onPair (bothCheck d n m) pair.Refused (λ a b. mayJoinCheck d a b)
 
 -- 2, 3, 4 of an update and a query
 unfoldable pub placeCheck : List ℕ → ℕ → ℕ → EventCheck

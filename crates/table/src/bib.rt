@@ -5,7 +5,7 @@ use crate::sizes::Whole;
 
 pub enum BibCheck {
     Known,
-    Strange,
+    Unknown,
 }
 
 pub fn check_bib(n: u16) -> BibCheck
@@ -14,6 +14,6 @@ pub fn check_bib(n: u16) -> BibCheck
     if n < Whole::BIBS {
         BibCheck::Known
     } else {
-        BibCheck::Strange
+        BibCheck::Unknown
     }
 }

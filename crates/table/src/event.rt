@@ -5,19 +5,37 @@ ghost use lib.ListN.{length};
 ghost use Rattle.cells.specs.Sizes as Lower;
 ghost use Rattle.cells.specs.Sizes.{clients, revisions};
 ghost use Rattle.table.specs.Checks.{eventIn, placeCheck, turnCheck};
+ghost use Rattle.table.specs.Found.{eventCode};
+use checks::busy::UseCheck;
+use checks::busy::check_use_by_other;
+use checks::client::ClientCheck;
+use checks::client::check_client;
+use checks::given::GivenCheck;
+use checks::given::check_given;
+use checks::joined::JoinedCheck;
+use checks::joined::check_joined;
+use checks::open::OpenCheck;
+use checks::open::check_open;
+use checks::stale::StaleCheck;
+use checks::stale::check_stale;
 use fields::table::Client;
 use fields::table::Revision;
-use revisions::checks;
-use revisions::checks::ClientCheck;
-use revisions::checks::GivenCheck;
-use revisions::checks::JoinedCheck;
-use revisions::checks::OpenCheck;
-use revisions::checks::StaleCheck;
-use revisions::checks::UseCheck;
 
 pub enum EventCheck {
     Allowed(Client, Revision),
     Refused(u8),
+}
+
+impl EventCheck {
+    // The code of the check that ends the call; 0 where none does.
+    pub fn code(self) -> u8
+        ensures { λ k. ⌜ k ≡ eventCode self ⌝ }
+    {
+        let EventCheck::Refused(code) = self else {
+            return 0;
+        };
+        code
+    }
 }
 
 // 2, 3, 4: a client, and a revision that is out.
@@ -25,13 +43,13 @@ pub fn check_place(d: &[u8], client: u8, revision: u8) -> EventCheck
     requires { ⌜ length (now d) ≡ Lower.bytes ⌝ }
     ensures { λ a. ⌜ (a ≡ placeCheck (now (d .entry)) client revision) × eventIn a ⌝ }
 {
-    let ClientCheck::Known(c) = checks::check_client(client) else {
+    let ClientCheck::Known(c) = check_client(client) else {
         return EventCheck::Refused(2);
     };
-    let GivenCheck::Given(r) = checks::check_given(d, revision) else {
+    let GivenCheck::Given(r) = check_given(d, revision) else {
         return EventCheck::Refused(3);
     };
-    let JoinedCheck::Out = checks::check_joined(d, r) else {
+    let JoinedCheck::Out = check_joined(d, r) else {
         return EventCheck::Refused(4);
     };
     EventCheck::Allowed(c, r)
@@ -42,13 +60,13 @@ pub fn check_turn(d: &[u8], c: Client, r: Revision) -> EventCheck
     requires { ⌜ (length (now d) ≡ Lower.bytes) × (c .0 < clients) × (r .0 < revisions) ⌝ }
     ensures { λ a. ⌜ (a ≡ turnCheck (now (d .entry)) c r) × eventIn a ⌝ }
 {
-    let OpenCheck::Clear = checks::check_open(d, c, r) else {
+    let OpenCheck::Clear = check_open(d, c, r) else {
         return EventCheck::Refused(6);
     };
-    let UseCheck::Free = checks::check_use_by_other(d, c, r) else {
+    let UseCheck::Free = check_use_by_other(d, c, r) else {
         return EventCheck::Refused(7);
     };
-    let StaleCheck::CaughtUp = checks::check_stale(d, c, r) else {
+    let StaleCheck::CaughtUp = check_stale(d, c, r) else {
         return EventCheck::Refused(8);
     };
     EventCheck::Allowed(c, r)

@@ -2,8 +2,8 @@
 ghost use mathlib.Core.Path.{_≡_};
 ghost use Rattle.table.specs.Checks.{lengthCheck, tableCheck};
 use crate::sizes::Whole;
-use revisions::checks;
-use revisions::checks::RangeCheck;
+use checks::range::RangeCheck;
+use checks::range::check_range;
 
 pub enum LengthCheck {
     Right,
@@ -30,7 +30,7 @@ pub fn check_table(t: &[u8]) -> TableCheck
     let LengthCheck::Right = check_length(t) else {
         return TableCheck::Damaged;
     };
-    let RangeCheck::Sound = checks::check_range(&t[0..40960]) else {
+    let RangeCheck::Sound = check_range(&t[0..40960]) else {
         return TableCheck::Damaged;
     };
     TableCheck::Sound

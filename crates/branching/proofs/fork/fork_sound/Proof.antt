@@ -1,23 +1,13 @@
 -- `branching::fork::fork_sound` meets its contract: the checks, then the work. Assumes nothing.
-use mathlib.Core.Path.{refl, sym, _∙_}
+use mathlib.Core.Path.{refl, sym, _∙_, ap}
 use borrow.Author.Needs.{needs}
 use Rattle.cells.proofs.Range.{ranges}
 use Rattle.table.specs.Halves.{low}
-use Rattle.table.specs.Found.{onPair}
+use Rattle.table.specs.Found.{onPair, pairCode}
 use Rattle.table.proofs.Halves.{low-length}
 use Rattle.branching.proofs.Calls.{above, fork-by, same-taken}
 use Rattle.branching.proofs.fork.fork_sound.Statement.{statement}
 use Rattle.branching.proofs.fork.fork_sound.Tie as tie
-
-start-requires : tie.Need-start-requires
-unfolding low
-start-requires c κs =
-    let at-found = c .before .before in
-    let at-check = at-found .before .before in
-    let start = at-check .before .before .before .before in
-    let i = rw (at-found .found2 .given .1) at (at-check .check-fork .ensures .1) in
-    let g = ranges (low (start .args .t .now)) (start .pre .2) .some-given in
-    (start .pre .1, start .pre .2, i .0, above _ _ (i .1) g, i .2)
 
 returns : tie.Need-returns
 unfolding low onPair
@@ -25,7 +15,18 @@ returns c =
     let at-check = c .before .before .before in
     let start = at-check .before .before .before .before in
     let s = start .args in
-    fork-by (s .t .now) (start .pre .0) (s .revision) _ (sym (at-check .check-fork .ensures .0) ∙ c .before .found .given .1)
+    let h = c .before .enum-told .given .1 in
+    rw (c .code .ensures ∙ ap pairCode h) (fork-by (s .t .now) (start .pre .0) (s .revision) _ (sym (at-check .check-fork .ensures .0) ∙ h))
+
+start-requires : tie.Need-start-requires
+unfolding low
+start-requires c κs =
+    let at-found = c .before .before in
+    let at-check = at-found .before .before in
+    let start = at-check .before .before .before .before in
+    let i = rw (at-found .found .given .1) at (at-check .check-fork .ensures .1) in
+    let g = ranges (low (start .args .t .now)) (start .pre .2) .some-given in
+    (start .pre .1, start .pre .2, i .0, above _ _ (i .1) g, i .2)
 
 returns-2 : tie.Need-returns-2
 unfolding low onPair
@@ -36,7 +37,7 @@ returns-2 c =
     let start = at-check .before .before .before .before in
     let s = start .args in
     same-taken _ _ _ _ (at-start .start .ensures) refl
-    ∙ fork-by (s .t .now) (start .pre .0) (s .revision) _ (sym (at-check .check-fork .ensures .0) ∙ at-found .found2 .given .1)
+    ∙ fork-by (s .t .now) (start .pre .0) (s .revision) _ (sym (at-check .check-fork .ensures .0) ∙ at-found .found .given .1)
 
 pub fork-sound-spec : {M : Type 1} → statement M
 fork-sound-spec = tie.close (tie.spec
@@ -46,9 +47,10 @@ fork-sound-spec = tie.close (tie.spec
     (λ c κs. low-length (c .before .before .before .args .t .now) (c .before .before .before .pre .1))
     (λ c. search needs)
     (λ c. search needs)
-    start-requires
-    (λ c. search needs)
+    (λ c κs. search needs)
     (λ c. search needs)
     returns
+    start-requires
+    (λ c. search needs)
     (λ c. search needs)
     returns-2)

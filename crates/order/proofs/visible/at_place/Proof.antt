@@ -3,7 +3,7 @@ use mathlib.Core.Path.{sym, _∙_}
 use native.Mathlib.Omega.{arith}
 use borrow.Author.Needs.{needs}
 use Rattle.cells.proofs.Range.{ranges}
-use Rattle.fields.proofs.InRange.{known-revision, strange-revision}
+use Rattle.fields.proofs.InRange.{known-revision, unknown-revision}
 use Rattle.order.proofs.visible.at_place.Statement.{statement}
 use Rattle.order.proofs.visible.at_place.Tie as tie
 
@@ -14,7 +14,7 @@ returns c =
     let start = at-place .before .before in
     let l = ranges (start .args .d .now) (start .pre .1) .layout (start .args .i) (start .pre .2) in
     let e = at-place .place .ensures .0 in
-    let s = strange-revision _ (sym (at-check .check-revision .ensures) ∙ c .before .enum-told .given .1) in
+    let s = unknown-revision _ (sym (at-check .check-revision .ensures) ∙ c .before .enum-told .given .1) in
     absurd (omega arith)
 
 returns-2 : tie.Need-returns-2

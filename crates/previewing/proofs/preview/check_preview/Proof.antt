@@ -3,7 +3,7 @@ use Prim.{tt}
 use mathlib.Core.Path.{sym, _∙_}
 use borrow.Author.Needs.{needs}
 use Rattle.table.specs.Found.{onPair}
-use Rattle.table.proofs.Checks.{bib-known, bib-strange}
+use Rattle.table.proofs.Checks.{bib-known, bib-unknown}
 use Rattle.table.proofs.Calls.{pair-ends}
 use Rattle.previewing.specs.Checks.{previewCheck}
 use Rattle.previewing.proofs.preview.check_preview.Statement.{statement}
@@ -20,7 +20,7 @@ unfolding previewCheck onPair
 returns-2 c =
     let k = c .before .before .before in
     let e = sym (k .before .before .before .check-join .ensures .0) ∙ k .before .found .given .1 in
-    (rw (e, bib-strange _ (sym (c .before .before .check-bib .ensures) ∙ c .enum-told3 .given .1)), tt)
+    (rw (e, bib-unknown _ (sym (c .before .before .check-bib .ensures) ∙ c .enum-told3 .given .1)), tt)
 
 returns-3 : tie.Need-returns-3
 unfolding previewCheck onPair

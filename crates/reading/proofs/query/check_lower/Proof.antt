@@ -4,7 +4,7 @@ use mathlib.Core.Path.{sym, _∙_}
 use borrow.Author.Needs.{needs}
 use Rattle.table.specs.Found.{onEvent}
 use Rattle.reading.specs.Checks.{queryCheck}
-use Rattle.table.proofs.Checks.{bib-known, bib-strange}
+use Rattle.table.proofs.Checks.{bib-known, bib-unknown}
 use Rattle.reading.proofs.Calls.{event-ends}
 use Rattle.reading.proofs.query.check_lower.Statement.{statement}
 use Rattle.reading.proofs.query.check_lower.Tie as tie
@@ -20,7 +20,7 @@ unfolding queryCheck onEvent
 returns-2 c =
     let k = c .before .before .before in
     let e = sym (k .before .before .before .check-place .ensures .0) ∙ k .before .found .given .1 in
-    (rw (e, bib-strange _ (sym (c .before .before .check-bib .ensures) ∙ c .enum-told3 .given .1)), tt)
+    (rw (e, bib-unknown _ (sym (c .before .before .check-bib .ensures) ∙ c .enum-told3 .given .1)), tt)
 
 check-turn-requires : tie.Need-check-turn-requires
 check-turn-requires c κs =

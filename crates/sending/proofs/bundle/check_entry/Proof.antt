@@ -1,14 +1,14 @@
 -- `sending::bundle::check_entry` meets its contract: the bib, then the kind. Assumes nothing.
 use mathlib.Core.Path.{sym, _∙_}
 use borrow.Author.Needs.{needs}
-use Rattle.table.proofs.Checks.{bib-known, bib-strange}
+use Rattle.table.proofs.Checks.{bib-known, bib-unknown}
 use Rattle.sending.specs.Bundles.{entryCheck}
 use Rattle.sending.proofs.bundle.check_entry.Statement.{statement}
 use Rattle.sending.proofs.bundle.check_entry.Tie as tie
 
 returns : tie.Need-returns
 unfolding entryCheck
-returns c = rw (bib-strange _ (sym (c .before .before .check-bib .ensures) ∙ c .enum-told2 .given .1))
+returns c = rw (bib-unknown _ (sym (c .before .before .check-bib .ensures) ∙ c .enum-told2 .given .1))
 
 returns-2 : tie.Need-returns-2
 unfolding entryCheck

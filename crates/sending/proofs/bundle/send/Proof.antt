@@ -7,6 +7,7 @@ use Rattle.bundles.specs.Records.{entriesFrom}
 use Rattle.cells.specs.Sizes.{updates}
 use Rattle.cells.specs.Steps.{closeBytes}
 use Rattle.table.specs.Halves.{high, low}
+use Rattle.sending.specs.Bundles.{fitCode}
 use Rattle.sending.proofs.Going.{client-in, few-own, few-taken, revision-in}
 use Rattle.sending.proofs.Records.{same-check}
 use Rattle.sending.proofs.Sent.{settle-fits, settle-refused}
@@ -27,6 +28,18 @@ check-sent-requires c κs =
     let G = start .pre .0 in
     (start .pre .2, start .pre .3, subst (λ k. k ≤ updates) (sym (at-taken .taken .ensures .0)) (few-taken (s .t .now) (s .c .0) (s .r .0) G), subst (λ k. k ≤ updates) (sym (c .own .ensures .0)) (few-own (s .t .now) (s .c .0) (s .r .0) G))
 
+returns : tie.Need-returns
+returns c =
+    let at-check = c .before .before .before in
+    let at-own = at-check .before in
+    let at-taken = at-own .before .before in
+    let start = at-taken .before .before .before .before in
+    let s = start .args in
+    let g = c .before .enum-told2 .given in
+    rw (c .code .ensures ∙ ap fitCode (g .1)) (settle-refused (s .t .now) (s .c .0) (s .r .0) (start .pre .0) (entriesFrom (s .b .now) 0 (s .n)) (at-check .check-sent .result)
+    (same-check (entriesFrom (s .b .now) 0 (s .n)) _ _ _ _ _ (at-taken .taken .ensures .0) (at-own .own .ensures .0) (at-check .check-sent .ensures))
+    (g .0 .0) (g .1))
+
 enter-all-requires : tie.Need-enter-all-requires
 enter-all-requires c κs =
     let at-check = c .before .before .before in
@@ -42,17 +55,6 @@ close-requires c κs =
     let start = at-enter .before .before .before .before .before .before .before .before .before .before .before in
     let s = start .args in
     (at-enter .enter-all .kept .0 ∙ start .pre .1, client-in (s .t .now) (s .c .0) (s .r .0) (start .pre .0))
-
-returns : tie.Need-returns
-returns c =
-    let at-check = c .before .before .before in
-    let at-own = at-check .before in
-    let at-taken = at-own .before .before in
-    let start = at-taken .before .before .before .before in
-    let s = start .args in
-    settle-refused (s .t .now) (s .c .0) (s .r .0) (start .pre .0) (entriesFrom (s .b .now) 0 (s .n)) (at-check .check-sent .result)
-    (same-check (entriesFrom (s .b .now) 0 (s .n)) _ _ _ _ _ (at-taken .taken .ensures .0) (at-own .own .ensures .0) (at-check .check-sent .ensures))
-    (c .before .found .given .0 .0) (c .before .found .given .1)
 
 returns-2 : tie.Need-returns-2
 returns-2 c =
@@ -77,10 +79,11 @@ send-spec = tie.close (tie.spec
     check-sent-requires
     (λ c. search needs)
     (λ c. search needs)
+    (λ c κs. search needs)
+    (λ c. search needs)
+    returns
     enter-all-requires
     close-requires
     (λ c. search needs)
-    (λ c. search needs)
-    returns
     (λ c. search needs)
     returns-2)

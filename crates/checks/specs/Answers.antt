@@ -1,0 +1,71 @@
+-- The answer of each check of the desk: 01, "Codes of the desk". Which code an answer gives is said where the calls are.
+use Prim.Native.Nat.{ℕ}
+use mathlib.Core.Bool.{cond}
+use mathlib.Core.List.{List}
+use Rattle.cells.specs.Decode.{cells}
+use Rattle.cells.specs.Range.{inRange}
+use Rattle.cells.specs.Checks.{isClient, givenOut, joined, openElsewhere, busy, busyByOther, stale, logFull, noneLeft, joinable}
+use Rattle.checks.specs.declared.range.RangeCheck.{RangeCheck}
+use Rattle.checks.specs.declared.range.RangeCheck.the-variants as range
+use Rattle.checks.specs.declared.client.ClientCheck.{ClientCheck}
+use Rattle.checks.specs.declared.client.ClientCheck.the-variants as client
+use Rattle.checks.specs.declared.given.GivenCheck.{GivenCheck}
+use Rattle.checks.specs.declared.given.GivenCheck.the-variants as given
+use Rattle.checks.specs.declared.joined.JoinedCheck.{JoinedCheck}
+use Rattle.checks.specs.declared.joined.JoinedCheck.the-variants as out
+use Rattle.checks.specs.declared.open.OpenCheck.{OpenCheck}
+use Rattle.checks.specs.declared.open.OpenCheck.the-variants as transaction
+use Rattle.checks.specs.declared.busy.UseCheck.{UseCheck}
+use Rattle.checks.specs.declared.busy.UseCheck.the-variants as revision
+use Rattle.checks.specs.declared.stale.StaleCheck.{StaleCheck}
+use Rattle.checks.specs.declared.stale.StaleCheck.the-variants as event
+use Rattle.checks.specs.declared.log.LogCheck.{LogCheck}
+use Rattle.checks.specs.declared.log.LogCheck.the-variants as log
+use Rattle.checks.specs.declared.next.NextCheck.{NextCheck}
+use Rattle.checks.specs.declared.next.NextCheck.the-variants as left
+use Rattle.checks.specs.declared.joinable.JoinableCheck.{JoinableCheck}
+use Rattle.checks.specs.declared.joinable.JoinableCheck.the-variants as join
+
+-- 1 "a cell is out of its range"
+unfoldable pub rangeCheck : List ℕ → RangeCheck
+rangeCheck d = cond (inRange d) range.Sound range.Damaged
+
+-- 2 "tablet above 15"
+unfoldable pub clientCheck : ℕ → ClientCheck
+clientCheck n = cond (isClient n) (client.Known (record { 0 = n })) client.Unknown
+
+-- 3 "box number not yet given out"
+unfoldable pub givenCheck : List ℕ → ℕ → GivenCheck
+givenCheck d n = cond (givenOut (cells d) n) (given.Given (record { 0 = n })) given.Never
+
+-- 4 "box already a joinee"
+unfoldable pub joinedCheck : List ℕ → ℕ → JoinedCheck
+joinedCheck d r = cond (joined (cells d) r) out.Joined out.Out
+
+-- 6 "the tablet's open transaction is on another box"
+unfoldable pub openCheck : List ℕ → ℕ → ℕ → OpenCheck
+openCheck d c r = cond (openElsewhere (cells d) c r) transaction.Elsewhere transaction.Clear
+
+-- 7 "Fork, list, join: the box, or either box, is busy"
+unfoldable pub useCheck : List ℕ → ℕ → UseCheck
+useCheck d r = cond (busy (cells d) r) revision.Busy revision.Free
+
+-- 7 "update, query: another tablet has the box busy"
+unfoldable pub otherUseCheck : List ℕ → ℕ → ℕ → UseCheck
+otherUseCheck d c r = cond (busyByOther (cells d) c r) revision.Busy revision.Free
+
+-- 8 "the path from the tablet's last event is missing"
+unfoldable pub staleCheck : List ℕ → ℕ → ℕ → StaleCheck
+staleCheck d c r = cond (stale (cells d) c r) event.Stale event.CaughtUp
+
+-- 9 "4,096 updates taken"
+unfoldable pub logCheck : List ℕ → LogCheck
+logCheck d = cond (logFull (cells d)) log.Full log.Room
+
+-- 10 "64 boxes started"; else the next unused number
+unfoldable pub nextCheck : List ℕ → NextCheck
+nextCheck d = cond (noneLeft (cells d)) left.Exhausted (left.Next (record { 0 = cells d .given }))
+
+-- 11 "joinee is box 0, is the joiner, its fork isn't seen, or its start is"
+unfoldable pub joinableCheck : List ℕ → ℕ → ℕ → JoinableCheck
+joinableCheck d a b = cond (joinable (cells d) a b) join.Joinable join.Not

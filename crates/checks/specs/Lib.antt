@@ -1,0 +1,2 @@
+-- The answer of each check.
+pub mod Answers

@@ -1,0 +1,97 @@
+// Code 7: whether the revision is in use, that is, whether some client has an open transaction on it (01: busy).
+ghost use mathlib.Core.Path.{_≡_};
+ghost use mathlib.Core.Bool.{not, _&&_};
+ghost use Prim.Native.Nat.{_<_};
+ghost use lib.Dec.{eqb};
+ghost use lib.ListN.{length};
+ghost use Rattle.cells.specs.Sizes.{bytes, clients};
+ghost use Rattle.cells.specs.Decode.{cells};
+ghost use Rattle.cells.specs.Checks.{busy, busyByOther};
+ghost use Rattle.checks.specs.Answers.{otherUseCheck, useCheck};
+use crate::client::ClientCheck;
+use crate::client::check_client;
+use fields::numbers::wide;
+use fields::read;
+use fields::table::Client;
+use fields::table::Revision;
+
+pub enum UseCheck {
+    Free,
+    Busy,
+}
+
+// Whether client x's transaction is on revision `at`.
+fn is_on(d: &[u8], x: u8, at: usize) -> bool
+    requires { ⌜ (length (now d) ≡ bytes) × (x < clients) ⌝ }
+    ensures { λ b. ⌜ b ≡ eqb (cells (now (d .entry)) .opened x) at ⌝ }
+{
+    let ClientCheck::Known(c) = check_client(x) else {
+        return false;
+    };
+    read::opened(d, c) == at
+}
+
+// Whether some client has an open transaction on r.
+fn is_busy(d: &[u8], r: Revision) -> bool
+    requires { ⌜ length (now d) ≡ bytes ⌝ }
+    ensures { λ b. ⌜ b ≡ busy (cells (now (d .entry))) (r .0) ⌝ }
+{
+    let at = wide(r.0);
+    let mut x: u8 = 0;
+    while x < 16 {
+        if is_on(d, x, at) {
+            return true;
+        }
+        x += 1;
+    }
+    false
+}
+
+// Whether client x is not c and its transaction is on revision `at`.
+fn is_other_on(d: &[u8], x: u8, c: u8, at: usize) -> bool
+    requires { ⌜ (length (now d) ≡ bytes) × (x < clients) ⌝ }
+    ensures { λ b. ⌜ b ≡ (not (eqb x c) && eqb (cells (now (d .entry)) .opened x) at) ⌝ }
+{
+    if x == c {
+        return false;
+    }
+    is_on(d, x, at)
+}
+
+// Whether a client other than c has an open transaction on r.
+fn is_busy_by_other(d: &[u8], c: Client, r: Revision) -> bool
+    requires { ⌜ length (now d) ≡ bytes ⌝ }
+    ensures { λ b. ⌜ b ≡ busyByOther (cells (now (d .entry))) (c .0) (r .0) ⌝ }
+{
+    let at = wide(r.0);
+    let me = c.0;
+    let mut x: u8 = 0;
+    while x < 16 {
+        if is_other_on(d, x, me, at) {
+            return true;
+        }
+        x += 1;
+    }
+    false
+}
+
+pub fn check_use(d: &[u8], r: Revision) -> UseCheck
+    requires { ⌜ length (now d) ≡ bytes ⌝ }
+    ensures { λ a. ⌜ a ≡ useCheck (now (d .entry)) (r .0) ⌝ }
+{
+    if is_busy(d, r) {
+        return UseCheck::Busy;
+    }
+    UseCheck::Free
+}
+
+// For update and query: in use by another client.
+pub fn check_use_by_other(d: &[u8], c: Client, r: Revision) -> UseCheck
+    requires { ⌜ length (now d) ≡ bytes ⌝ }
+    ensures { λ a. ⌜ a ≡ otherUseCheck (now (d .entry)) (c .0) (r .0) ⌝ }
+{
+    if is_busy_by_other(d, c, r) {
+        return UseCheck::Busy;
+    }
+    UseCheck::Free
+}

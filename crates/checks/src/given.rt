@@ -1,0 +1,27 @@
+// Code 3: a revision number that was given out.
+ghost use mathlib.Core.Path.{_≡_};
+ghost use lib.ListN.{length};
+ghost use Rattle.cells.specs.Sizes.{bytes};
+ghost use Rattle.checks.specs.Answers.{givenCheck};
+use fields::read;
+use fields::table::Revision;
+use fields::table::RevisionCheck;
+use fields::table::check_revision;
+
+pub enum GivenCheck {
+    Given(Revision),
+    Never,
+}
+
+pub fn check_given(d: &[u8], n: u8) -> GivenCheck
+    requires { ⌜ length (now d) ≡ bytes ⌝ }
+    ensures { λ r. ⌜ r ≡ givenCheck (now (d .entry)) n ⌝ }
+{
+    let RevisionCheck::Known(r) = check_revision(n) else {
+        return GivenCheck::Never;
+    };
+    if read::state(d, r) == 0 {
+        return GivenCheck::Never;
+    }
+    GivenCheck::Given(r)
+}

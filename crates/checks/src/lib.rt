@@ -1,0 +1,11 @@
+// The checks of the desk on the first 40,960 bytes of a table, a file for each code. Knows nothing of what an update does.
+pub mod busy; // busy.rt: code 7
+pub mod client; // client.rt: code 2
+pub mod given; // given.rt: code 3
+pub mod joinable; // joinable.rt: code 11
+pub mod joined; // joined.rt: code 4
+pub mod log; // log.rt: code 9
+pub mod next; // next.rt: code 10
+pub mod open; // open.rt: code 6
+pub mod range; // range.rt: code 1
+pub mod stale; // stale.rt: code 8

@@ -1,0 +1,127 @@
+// Code 1: every cell in its range. Fixed numbers, and no scan of rows, links or marks.
+// No loop returns early, so that the compiler can take many cells at a time.
+ghost use mathlib.Core.Path.{_≡_};
+ghost use Prim.Native.Nat.{_+_, _*_, _≤_};
+ghost use lib.ListN.{length};
+ghost use borrow.Rule.Slice.PartMut.{midOf};
+ghost use Rattle.cells.specs.Sizes.{bytes};
+ghost use Rattle.cells.specs.Parts.{countersPart, signaturePart, split};
+ghost use Rattle.cells.specs.Range.{bytesBelow, countersIn, inRange, placesIn, recordsIn, signed, wordsBelow};
+ghost use Rattle.checks.specs.Answers.{rangeCheck};
+use fields::numbers::byte_at;
+use fields::read;
+use fields::table::BASE;
+use fields::table::COUNT;
+use fields::table::FIRST;
+use fields::table::LAST;
+use fields::table::LAYOUT;
+use fields::table::OPENED;
+use fields::table::QUEUE;
+use fields::table::SIGNATURE;
+use fields::table::STATE;
+use fields::table::Table;
+use fields::table::USED;
+
+pub enum RangeCheck {
+    Sound,
+    Damaged,
+}
+
+// n bytes from `at` on, each below a limit.
+fn bytes_below(d: &[u8], at: usize, n: usize, limit: usize) -> bool
+    requires { ⌜ at + n ≤ length (now d) ⌝ }
+    ensures { λ r. ⌜ r ≡ bytesBelow n limit (midOf at n (now (d .entry))) ⌝ }
+{
+    let mut ok = true;
+    let mut i: usize = 0;
+    while i < n {
+        ok = ok & (byte_at(d, at + i) < limit);
+        i += 1;
+    }
+    ok
+}
+
+// n words from `at` on, each below a limit.
+fn words_below(d: &[u8], at: usize, n: usize, limit: usize) -> bool
+    requires { ⌜ at + 2 * n ≤ length (now d) ⌝ }
+    ensures { λ r. ⌜ r ≡ wordsBelow n limit (midOf at (2 * n) (now (d .entry))) ⌝ }
+{
+    let mut ok = true;
+    let mut i: usize = 0;
+    while i < n {
+        let low = byte_at(d, at + 2 * i);
+        let high = byte_at(d, at + (2 * i + 1));
+        ok = ok & (low + 256 * high < limit);
+        i += 1;
+    }
+    ok
+}
+
+// The signature at the end of the bytes.
+fn is_signed(d: &[u8]) -> bool
+    requires { ⌜ length (now d) ≡ bytes ⌝ }
+    ensures { λ r. ⌜ r ≡ signed (split (now (d .entry)) signaturePart) ⌝ }
+{
+    let s = Table::signature();
+    let mut ok = true;
+    let mut i: usize = 0;
+    while i < 8 {
+        ok = ok & (d[SIGNATURE + i] == s[i]);
+        i += 1;
+    }
+    ok
+}
+
+// Updates taken 0 to 4,096, revisions out 1 to 64, numbers given out 1 to 64.
+fn counters_in(d: &[u8]) -> bool
+    requires { ⌜ length (now d) ≡ bytes ⌝ }
+    ensures { λ r. ⌜ r ≡ countersIn (split (now (d .entry)) countersPart) ⌝ }
+{
+    let updates = read::updates(d);
+    let out = read::out(d);
+    let given = read::given(d);
+    (updates < 4097) & ((0 < out) & ((out < 65) & ((0 < given) & (given < 65))))
+}
+
+// The cells of each revision's record.
+fn records_in(d: &[u8]) -> bool
+    requires { ⌜ length (now d) ≡ bytes ⌝ }
+    ensures { λ r. ⌜ r ≡ recordsIn (split (now (d .entry))) ⌝ }
+{
+    let state = bytes_below(d, STATE, 64, 3);
+    let used = bytes_below(d, USED, 64, 2);
+    let last = words_below(d, LAST, 64, 4096);
+    let first = words_below(d, FIRST, 64, 4096);
+    let count = words_below(d, COUNT, 64, 4097);
+    let base = words_below(d, BASE, 64, 4097);
+    state & (used & (last & (first & (count & base))))
+}
+
+// The layout, the queue, open transactions, counters and signature.
+fn places_in(d: &[u8]) -> bool
+    requires { ⌜ length (now d) ≡ bytes ⌝ }
+    ensures { λ r. ⌜ r ≡ placesIn (split (now (d .entry))) ⌝ }
+{
+    let layout = bytes_below(d, LAYOUT, 64, 64);
+    let queue = bytes_below(d, QUEUE, 64, 64);
+    let opened = bytes_below(d, OPENED, 16, 65);
+    let counters = counters_in(d);
+    layout & (queue & (opened & (counters & is_signed(d))))
+}
+
+fn in_range(d: &[u8]) -> bool
+    requires { ⌜ length (now d) ≡ bytes ⌝ }
+    ensures { λ r. ⌜ r ≡ inRange (now (d .entry)) ⌝ }
+{
+    records_in(d) & places_in(d)
+}
+
+pub fn check_range(d: &[u8]) -> RangeCheck
+    requires { ⌜ length (now d) ≡ bytes ⌝ }
+    ensures { λ r. ⌜ r ≡ rangeCheck (now (d .entry)) ⌝ }
+{
+    if in_range(d) {
+        return RangeCheck::Sound;
+    }
+    RangeCheck::Damaged
+}
