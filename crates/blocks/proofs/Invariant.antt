@@ -11,7 +11,7 @@ use mathlib.Core.List.{Sublistᴰ·nil-sublist, Sublistᴰ·refl, Sublistᴰ·tr
 use mathlib.Core.List.{perm-append-comm, perm-middle}
 use lib.Dec.{eqb}
 use borrow.Author.Tests.{eqb-false, eqb-true}
-use Rattle.blocks.proofs.Joining.{Any, blocks-same, carry-grown, carry-left, grow-inh, grow-seen, heir-b, join-good, kept-any}
+use Rattle.blocks.proofs.Joining.{Any, blocks-same, carry-grown, carry-left, grow-inh, grow-seen, covered-b, join-good, untouched-any}
 use Rattle.blocks.proofs.Joining.{other-l, other-m, other-r, row}
 use Rattle.blocks.proofs.Transfer.{Transfer, blocks-append, carry-all, good-seen, good-tail}
 use Rattle.blocks.specs.Blocks.{Contents, Good, Inv, Ok, blocks, forkContents, forkJ, grow, joinJ, seen}
@@ -44,7 +44,7 @@ module _ (r : List ℕ) (b : ℕ) (l : List ℕ) (s : Contents) (J : ℕ → ℕ
   update-good =
       let g = good-tail s r (b ∷ l) (inv .good) in
       let f = carry-grown s t b l (n ∷ []) (changed-same s b _) g (carry-left s t l same-l (g .1)) in
-      carry-all s t Any tt (λ u v h q. tt) r (f .1) (inv .good) (f .0) (λ x i. kept-any s t x (same-r x i)) .0
+      carry-all s t Any tt (λ u v h q. tt) r (f .1) (inv .good) (f .0) (λ x i. untouched-any s t x (same-r x i)) .0
 
   pub update-inv : Inv (r ++ (b ∷ l)) t J
   update-inv = record {
@@ -82,8 +82,8 @@ module _ (r : List ℕ) (p : ℕ) (l : List ℕ) (s : Contents) (J : ℕ → ℕ
       let g = good-tail s r (p ∷ l) (inv .good) in
       let f = carry-left s ft (p ∷ l) same-low g in
       let ok : Ok ft (p ∷ l) c = record { under = rw (c-is, low-blocks) (good-seen s (p ∷ l) g p (List·Memᴰ·head refl)); forked = inr (p, List·Memᴰ·head refl, rw (c-is, same-low p (List·Memᴰ·head refl)) (λ n i. i)) } in
-      let over : Transfer s ft Any (p ∷ l) (c ∷ p ∷ l) = record { under = λ w sub q. rw (c-is, append-nil) (f .1 .under w sub tt); heir = λ h i. let h′ = f .1 .heir h i in (h′ .0, List·Memᴰ·tail (h′ .1), h′ .2); known = λ h i. tt } in
-      carry-all s ft Any tt (λ u v h q. tt) r over (inv .good) (ok, f .0) (λ x i. kept-any s ft x (same-high x i)) .0
+      let over : Transfer s ft Any (p ∷ l) (c ∷ p ∷ l) = record { under = λ w sub q. rw (c-is, append-nil) (f .1 .under w sub tt); covered = λ h i. let h′ = f .1 .covered h i in (h′ .0, List·Memᴰ·tail (h′ .1), h′ .2); known = λ h i. tt } in
+      carry-all s ft Any tt (λ u v h q. tt) r over (inv .good) (ok, f .0) (λ x i. untouched-any s ft x (same-high x i)) .0
 
   grown : (r ++ (p ∷ l)) ⊑ (r ++ (c ∷ p ∷ l))
   grown = Sublistᴰ·append (Sublistᴰ·refl r) (Sublistᴰ·cons (Sublistᴰ·refl (p ∷ l)))
@@ -190,7 +190,7 @@ module _ (r : List ℕ) (b : ℕ) (m : List ℕ) (a : ℕ) (l : List ℕ) (s : C
       through : x ≡ a → J b y ≡ true → ((y ∷ x ∷ []) ⊑ (r ++ (m ++ (a ∷ l)))) × (jt y .inherited ⊆ seen (jt x))
       through q f =
           let h = inv .joins b y b-out (⊑-⊆ fewer y k) f in
-          rw q (Sublistᴰ·append (∈-⊑ y r (in-front r _ (inv .distinct) (h .0))) (∈-⊑ a (m ++ (a ∷ l)) (Memᴰ·append-right m (List·Memᴰ·head refl))), λ n j. heir-b s r b m a l (inv .distinct) (inv .once) (inv .good) above n (h .1 n (rw (grow-inh s a (s b .own) y) at j)))
+          rw q (Sublistᴰ·append (∈-⊑ y r (in-front r _ (inv .distinct) (h .0))) (∈-⊑ a (m ++ (a ∷ l)) (Memᴰ·append-right m (List·Memᴰ·head refl))), λ n j. covered-b s r b m a l (inv .distinct) (inv .once) (inv .good) above n (h .1 n (rw (grow-inh s a (s b .own) y) at j)))
 
       by-a : x ≡ a → (J a y ≡ true) ⊎ (J b y ≡ true) → ((y ∷ x ∷ []) ⊑ (r ++ (m ++ (a ∷ l)))) × (jt y .inherited ⊆ seen (jt x))
       by-a q (inl f) = kept (rw q f)

@@ -7,7 +7,7 @@ use mathlib.Core.List.{Nodup·of-append-left, Nodup·of-append-right, Sublistᴰ
 use mathlib.Core.List.{append-nil, nodup-cons}
 use lib.Dec.{eqb}
 use borrow.Author.Tests.{eqb-true}
-use Rattle.blocks.proofs.Transfer.{Kept, Transfer, block-in, blocks-append, carry-all, carry-ok, good-seen, good-tail}
+use Rattle.blocks.proofs.Transfer.{Untouched, Transfer, block-in, blocks-append, carry-all, carry-ok, good-seen, good-tail}
 use Rattle.blocks.specs.Blocks.{Contents, Good, blocks, grow, seen}
 use Rattle.lists.proofs.Cases.{cases}
 use Rattle.lists.proofs.Changed.{changed-other, changed-same}
@@ -24,15 +24,15 @@ grow-seen s a more x n m = cases (eqb x a) (λ e. rw (e, ← append-assoc) (Mem�
 abbrev pub Any : List ℕ → Type 0
 Any w = Unit {0}
 
-pub kept-any : (s t : Contents) (x : ℕ) → t x ≡ s x → Kept s t Any x
-kept-any s t x e = record { same = e; neutral = λ w q. tt }
+pub untouched-any : (s t : Contents) (x : ℕ) → t x ≡ s x → Untouched s t Any x
+untouched-any s t x e = record { same = e; neutral = λ w q. tt }
 
 pub begin : (s t : Contents) → Transfer s t Any [] []
-begin s t = record { under = λ w p q. p; heir = λ h m. absurd (List·Memᴰ·not-nil m); known = λ h m. tt }
+begin s t = record { under = λ w p q. p; covered = λ h m. absurd (List·Memᴰ·not-nil m); known = λ h m. tt }
 
 -- a list that is unchanged up to some place
 pub carry-left : (s t : Contents) (l : List ℕ) → ((x : ℕ) → x ∈ l → t x ≡ s x) → Good s l → Good t l × Transfer s t Any l l
-carry-left s t l k g = rw (← (append-nil l)) (carry-all s t Any tt (λ a b f q. tt) l (begin s t) (rw append-nil g) tt (λ x m. kept-any s t x (k x m)))
+carry-left s t l k g = rw (← (append-nil l)) (carry-all s t Any tt (λ a b f q. tt) l (begin s t) (rw append-nil g) tt (λ x m. untouched-any s t x (k x m)))
 
 pub blocks-same : (s t : Contents) (l : List ℕ) → ((x : ℕ) → x ∈ l → t x ≡ s x) → blocks t l ≡ blocks s l
 blocks-same s t [] k = refl
@@ -42,16 +42,16 @@ blocks-same s t (x ∷ l) k = rw (blocks-same s t l (λ y m. k y (List·Memᴰ·
 pub carry-grown : (s t : Contents) (a : ℕ) (l : List ℕ) (more : List ℕ) → t a ≡ record { inherited = s a .inherited; own = s a .own ++ more } → Good s (a ∷ l) → Good t l × Transfer s t Any l l
     → Good t (a ∷ l) × Transfer s t Any (a ∷ l) (a ∷ l)
 carry-grown s t a l more e g f =
-    ((carry-ok s t Any tt (λ a b h q. tt) (f .1) (ap (λ b. b .inherited) e) (g .0), f .0), record { under = under′; heir = heir′; known = λ h m. tt })
+    ((carry-ok s t Any tt (λ a b h q. tt) (f .1) (ap (λ b. b .inherited) e) (g .0), f .0), record { under = under′; covered = covered′; known = λ h m. tt })
   where
     under′ : (w : List ℕ) → w ⊑ blocks s l ++ s a .own → Any w → w ⊑ blocks t l ++ t a .own
     under′ w sub q =
         let p = parts (blocks s l) (s a .own) sub in
         rw (p .whole, e) (Sublistᴰ·append (f .1 .under (p .one) (p .fst) tt) (Sublistᴰ·trans (p .snd) (⊑-left (s a .own) more)))
 
-    heir′ : (h : ℕ) → h ∈ (a ∷ l) → (h′ : ℕ) × (h′ ∈ (a ∷ l)) × (seen (s h) ⊆ seen (t h′))
-    heir′ h (List·Memᴰ·head q) = (a, List·Memᴰ·head refl, λ n m. rw (e, ← append-assoc) (Memᴰ·append-left more (rw q at m)))
-    heir′ h (List·Memᴰ·tail m) = let h′ = f .1 .heir h m in (h′ .0, List·Memᴰ·tail (h′ .1), h′ .2)
+    covered′ : (h : ℕ) → h ∈ (a ∷ l) → (h′ : ℕ) × (h′ ∈ (a ∷ l)) × (seen (s h) ⊆ seen (t h′))
+    covered′ h (List·Memᴰ·head q) = (a, List·Memᴰ·head refl, λ n m. rw (e, ← append-assoc) (Memᴰ·append-left more (rw q at m)))
+    covered′ h (List·Memᴰ·tail m) = let h′ = f .1 .covered h m in (h′ .0, List·Memᴰ·tail (h′ .1), h′ .2)
 
 module _ (s : Contents) (r : List ℕ) (b : ℕ) (m : List ℕ) (a : ℕ) (l : List ℕ) where
   abbrev pub joined : Contents
@@ -103,18 +103,18 @@ module _ (s : Contents) (r : List ℕ) (b : ℕ) (m : List ℕ) (a : ℕ) (l : L
     pub good-a : Good s (a ∷ l)
     good-a = good-tail s m (a ∷ l) (good-b .1)
 
-    pub heir-b : seen (s b) ⊆ seen (joined a)
-    heir-b = rw (changed-same s a _) (⊆-++ (λ n j. rw (← append-assoc) (Memᴰ·append-left (s b .own) (above n j))) (λ n j. Memᴰ·append-right (s a .inherited) (Memᴰ·append-right (s a .own) j)))
+    pub covered-b : seen (s b) ⊆ seen (joined a)
+    covered-b = rw (changed-same s a _) (⊆-++ (λ n j. rw (← append-assoc) (Memᴰ·append-left (s b .own) (above n j))) (λ n j. Memᴰ·append-right (s a .inherited) (Memᴰ·append-right (s a .own) j)))
 
     -- up to m, nothing has to be known
     pub low : Good joined (m ++ (a ∷ l)) × Transfer s joined Any (m ++ (a ∷ l)) (m ++ (a ∷ l))
     low =
         let f = carry-grown s joined a l (s b .own) (changed-same s a _) good-a (carry-left s joined l other-l (good-a .1)) in
-        carry-all s joined Any tt (λ u v h q. tt) m (f .1) (good-b .1) (f .0) (λ x i. kept-any s joined x (other-m x i))
+        carry-all s joined Any tt (λ u v h q. tt) m (f .1) (good-b .1) (f .0) (λ x i. untouched-any s joined x (other-m x i))
 
-    -- b goes, and a is its heir
+    -- b goes, and a is its covered
     pub over-b : Transfer s joined Q (b ∷ (m ++ (a ∷ l))) (m ++ (a ∷ l))
-    over-b = record { under = under′; heir = heir′; known = known′ }
+    over-b = record { under = under′; covered = covered′; known = known′ }
       where
         under′ : (w : List ℕ) → w ⊑ blocks s (m ++ (a ∷ l)) ++ s b .own → Q w → w ⊑ blocks joined (m ++ (a ∷ l))
         under′ w sub (inl h) = low .1 .under w (skip-right _ _ sub h) tt
@@ -123,9 +123,9 @@ module _ (s : Contents) (r : List ℕ) (b : ℕ) (m : List ℕ) (a : ℕ) (l : L
             let q : w ⊑ blocks s l ++ (s a .own ++ s b .own) = rw append-assoc at p in
             rw (blocks-append joined m (a ∷ l), blocks-same s joined l other-l, changed-same s a _) (Sublistᴰ·trans q (⊑-left _ (blocks joined m)))
 
-        heir′ : (h : ℕ) → h ∈ (b ∷ (m ++ (a ∷ l))) → (h′ : ℕ) × (h′ ∈ (m ++ (a ∷ l))) × (seen (s h) ⊆ seen (joined h′))
-        heir′ h (List·Memᴰ·head e) = (a, Memᴰ·append-right m (List·Memᴰ·head refl), rw e heir-b)
-        heir′ h (List·Memᴰ·tail i) = low .1 .heir h i
+        covered′ : (h : ℕ) → h ∈ (b ∷ (m ++ (a ∷ l))) → (h′ : ℕ) × (h′ ∈ (m ++ (a ∷ l))) × (seen (s h) ⊆ seen (joined h′))
+        covered′ h (List·Memᴰ·head e) = (a, Memᴰ·append-right m (List·Memᴰ·head refl), rw e covered-b)
+        covered′ h (List·Memᴰ·tail i) = low .1 .covered h i
 
         known′ : (h : ℕ) → h ∈ (b ∷ (m ++ (a ∷ l))) → Q (seen (s h))
         known′ h (List·Memᴰ·head e) = rw e (inr (apart-++ (λ n j. apart-m n (⊑-⊆ (good-seen s (a ∷ l) good-a a (List·Memᴰ·head refl)) n (above n j))) (λ n j k. apart-b n (Memᴰ·append-right (blocks s (a ∷ l)) k) j)))

@@ -8,7 +8,7 @@ use mathlib.Core.List.{Sublistᴰ·refl, Sublistᴰ·trans, _++_, _∷_, append-
 use lib.Dec.{eqb}
 use borrow.Author.Tests.{eqb-true}
 use Rattle.blocks.proofs.Invariant.{join-inv}
-use Rattle.blocks.proofs.Joining.{good-b, heir-b, joined, over-b}
+use Rattle.blocks.proofs.Joining.{good-b, covered-b, joined, over-b}
 use Rattle.blocks.proofs.Transfer.{blocks-append, good-seen}
 use Rattle.blocks.specs.Blocks.{Contents, Held, Inv, blocks, grow, seen}
 use Rattle.lists.proofs.Cases.{cases}
@@ -34,7 +34,7 @@ module _ (r : List ℕ) (b : ℕ) (m : List ℕ) (a : ℕ) (l : List ℕ) (s : C
       let in-front = join-inv r b m a l s J inv above in
       let whole : blocks (joined s r b m a l) (m ++ (a ∷ l)) ⊑ blocks (joined s r b m a l) (r ++ (m ++ (a ∷ l))) = rw (blocks-append (joined s r b m a l) r (m ++ (a ∷ l))) (⊑-left _ _) in
       let at-b : seen (s b) ⊑ blocks s (b ∷ (m ++ (a ∷ l))) = good-seen s _ (good-b s r b m a l (inv .distinct) (inv .once) (inv .good) above) b (List·Memᴰ·head refl) in
-      sub-both _ _ _ (in-front .once) (Sublistᴰ·trans (o .under (seen (s b)) at-b (o .known b (List·Memᴰ·head refl))) whole) (good-seen _ _ (in-front .good) a a-in) (heir-b s r b m a l (inv .distinct) (inv .once) (inv .good) above)
+      sub-both _ _ _ (in-front .once) (Sublistᴰ·trans (o .under (seen (s b)) at-b (o .known b (List·Memᴰ·head refl))) whole) (good-seen _ _ (in-front .good) a a-in) (covered-b s r b m a l (inv .distinct) (inv .once) (inv .good) above)
     where
       a-in : a ∈ (r ++ (m ++ (a ∷ l)))
       a-in = Memᴰ·append-right r (Memᴰ·append-right m (List·Memᴰ·head refl))

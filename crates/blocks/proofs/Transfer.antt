@@ -30,11 +30,11 @@ good-tail s (x ∷ r) l g = good-tail s r l (g .1)
 -- Q is what is known of each list that is seen on the left (of nothing, it holds, and of less, it holds).
 pub record Transfer (s t : Contents) (Q : List ℕ → Type 0) (left left′ : List ℕ) : Type 0 where
   pub under : (w : List ℕ) → w ⊑ blocks s left → Q w → w ⊑ blocks t left′
-  pub heir : (h : ℕ) → h ∈ left → (h′ : ℕ) × (h′ ∈ left′) × (seen (s h) ⊆ seen (t h′))
+  pub covered : (h : ℕ) → h ∈ left → (h′ : ℕ) × (h′ ∈ left′) × (seen (s h) ⊆ seen (t h′))
   pub known : (h : ℕ) → h ∈ left → Q (seen (s h))
 
 -- a revision that the step leaves alone
-pub record Kept (s t : Contents) (Q : List ℕ → Type 0) (x : ℕ) : Type 0 where
+pub record Untouched (s t : Contents) (Q : List ℕ → Type 0) (x : ℕ) : Type 0 where
   pub same : t x ≡ s x
   pub neutral : (w : List ℕ) → Q w → Q (w ++ s x .own)
 
@@ -47,25 +47,25 @@ module _ (s t : Contents) (Q : List ℕ → Type 0) (Q-nil : Q []) (Q-less : (a 
     where
       pick : (s x .inherited ≡ []) ⊎ ((h : ℕ) × (h ∈ left) × (s x .inherited ⊆ seen (s h))) → (t x .inherited ≡ []) ⊎ ((h : ℕ) × (h ∈ left′) × (t x .inherited ⊆ seen (t h)))
       pick (inl q) = inl (e ∙ q)
-      pick (inr h) = let h′ = f .heir (h .0) (h .1) in inr (h′ .0, h′ .1, λ n m. h′ .2 n (h .2 n (rw e at m)))
+      pick (inr h) = let h′ = f .covered (h .0) (h .1) in inr (h′ .0, h′ .1, λ n m. h′ .2 n (h .2 n (rw e at m)))
 
-  pub carry : {left left′ : List ℕ} {x : ℕ} → Transfer s t Q left left′ → Kept s t Q x → Ok s left x → Transfer s t Q (x ∷ left) (x ∷ left′)
-  carry {left} {left′} {x} f k ok = record { under = under′; heir = heir′; known = known′ }
+  pub carry : {left left′ : List ℕ} {x : ℕ} → Transfer s t Q left left′ → Untouched s t Q x → Ok s left x → Transfer s t Q (x ∷ left) (x ∷ left′)
+  carry {left} {left′} {x} f k ok = record { under = under′; covered = covered′; known = known′ }
     where
       under′ : (w : List ℕ) → w ⊑ blocks s left ++ s x .own → Q w → w ⊑ blocks t left′ ++ t x .own
       under′ w sub q =
           let p = parts (blocks s left) (s x .own) sub in
           rw (p .whole, k .same) (Sublistᴰ·append (f .under (p .one) (p .fst) (Q-less _ _ (λ n m. rw (p .whole) (Memᴰ·append-left (p .two) m)) q)) (p .snd))
 
-      heir′ : (h : ℕ) → h ∈ (x ∷ left) → (h′ : ℕ) × (h′ ∈ (x ∷ left′)) × (seen (s h) ⊆ seen (t h′))
-      heir′ h (List·Memᴰ·head e) = (x, List·Memᴰ·head refl, λ n m. rw (k .same, ← e) m)
-      heir′ h (List·Memᴰ·tail m) = let h′ = f .heir h m in (h′ .0, List·Memᴰ·tail (h′ .1), h′ .2)
+      covered′ : (h : ℕ) → h ∈ (x ∷ left) → (h′ : ℕ) × (h′ ∈ (x ∷ left′)) × (seen (s h) ⊆ seen (t h′))
+      covered′ h (List·Memᴰ·head e) = (x, List·Memᴰ·head refl, λ n m. rw (k .same, ← e) m)
+      covered′ h (List·Memᴰ·tail m) = let h′ = f .covered h m in (h′ .0, List·Memᴰ·tail (h′ .1), h′ .2)
 
       known′ : (h : ℕ) → h ∈ (x ∷ left) → Q (seen (s h))
       known′ h (List·Memᴰ·head e) = rw e (k .neutral _ (known-inh f ok))
       known′ h (List·Memᴰ·tail m) = f .known h m
 
-  pub carry-all : (r : List ℕ) {left left′ : List ℕ} → Transfer s t Q left left′ → Good s (r ++ left) → Good t left′ → ((x : ℕ) → x ∈ r → Kept s t Q x)
+  pub carry-all : (r : List ℕ) {left left′ : List ℕ} → Transfer s t Q left left′ → Good s (r ++ left) → Good t left′ → ((x : ℕ) → x ∈ r → Untouched s t Q x)
       → Good t (r ++ left′) × Transfer s t Q (r ++ left) (r ++ left′)
   carry-all [] f g g′ k = (g′, f)
   carry-all (x ∷ r) f g g′ k =

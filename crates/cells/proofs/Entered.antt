@@ -17,7 +17,7 @@ use Rattle.cells.specs.CellSteps.{updateCells}
 use Rattle.cells.specs.Steps.{updateBytes, updateParts}
 use Rattle.cells.proofs.Follow.{update-follows}
 use Rattle.cells.proofs.Parts.{glue-length, split-glue, split-sized}
-use Rattle.cells.proofs.Range.{Kept, kept-in, parts-kept, ranges}
+use Rattle.cells.proofs.Range.{Ranged, ranged-in, parts-ranged, ranges}
 use Rattle.cells.proofs.Sized.{update-sized}
 
 module _ (d : List ℕ) (l : length d ≡ bytes) (i : inRange d ≡ true) (c r : ℕ) (cl : c < clients) (rl : r < revisions) (ul : cells d .updates < updates) where
@@ -42,13 +42,13 @@ module _ (d : List ℕ) (l : length d ≡ bytes) (i : inRange d ≡ true) (c r :
   unfolding updateBytes
   updated-length = glue-length (updateParts p c r) new-sized
 
-  kept : Kept p
+  kept : Ranged p
   unfolding inRange
-  kept = parts-kept p i
+  kept = parts-ranged p i
 
-  new-kept : cells d .count r < updates → Kept (updateParts p c r)
+  new-ranged : cells d .count r < updates → Ranged (updateParts p c r)
   unfolding cells
-  new-kept h =
+  new-ranged h =
       let was = kept in
       record {
         state = was .state;
@@ -73,7 +73,7 @@ module _ (d : List ℕ) (l : length d ≡ bytes) (i : inRange d ≡ true) (c r :
 
   within : cells d .count r < updates → inRange (updateBytes d c r) ≡ true
   unfolding inRange updateBytes
-  within h = ap partsIn (split-glue (updateParts p c r) new-sized) ∙ kept-in (updateParts p c r) (new-kept h)
+  within h = ap partsIn (split-glue (updateParts p c r) new-sized) ∙ ranged-in (updateParts p c r) (new-ranged h)
 
   beyond : updates ≤ cells d .count r → inRange (updateBytes d c r) ≡ false
   beyond h = cases (inRange (updateBytes d c r)) (λ e. absurd (over (ranges (updateBytes d c r) e .count r rl))) (λ e. e)

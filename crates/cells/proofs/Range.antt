@@ -44,7 +44,7 @@ counters-in t e =
     (ltb-true _ _ (a .0), ltb-true _ _ (b .0), ltb-true _ _ (c .0), ltb-true _ _ (d .0), ltb-true _ _ (d .1))
 
 -- every cell in its range
-pub record Kept (p : Parts) : Type 0 where
+pub record Ranged (p : Parts) : Type 0 where
   pub state : (r : ℕ) → r < revisions → byte (p statePart) r < 3
   pub used : (r : ℕ) → r < revisions → byte (p usedPart) r < 2
   pub last : (r : ℕ) → r < revisions → word (p lastPart) r < 4096
@@ -57,8 +57,8 @@ pub record Kept (p : Parts) : Type 0 where
   pub counters : (word (p countersPart) 0 < 4097) × (0 < byte (p countersPart) 2) × (byte (p countersPart) 2 < 65) × (0 < byte (p countersPart) 3) × (byte (p countersPart) 3 < 65)
   pub signature : (i : ℕ) → i < 8 → byte (p signaturePart) i ≡ byte signature i
 
-pub parts-kept : (p : Parts) → partsIn p ≡ true → Kept p
-parts-kept p e =
+pub parts-ranged : (p : Parts) → partsIn p ≡ true → Ranged p
+parts-ranged p e =
     let both = and-true (recordsIn p) (placesIn p) e in
     let a = and-true (bytesBelow revisions 3 (p statePart)) _ (both .0) in
     let b = and-true (bytesBelow revisions 2 (p usedPart)) _ (a .1) in
@@ -85,7 +85,7 @@ parts-kept p e =
 
 pub parts-ranges : (p : Parts) → partsIn p ≡ true → Ranges (decode p)
 parts-ranges p e =
-    let k = parts-kept p e in
+    let k = parts-ranged p e in
     record {
       last = k .last;
       first = k .first;
@@ -104,8 +104,8 @@ unfolding inRange cells
 ranges d e = parts-ranges (split d) e
 
 -- the other way: cells in their ranges pass the check
-pub kept-in : (p : Parts) → Kept p → partsIn p ≡ true
-kept-in p h =
+pub ranged-in : (p : Parts) → Ranged p → partsIn p ≡ true
+ranged-in p h =
     rw (
       bytes-below revisions 3 (p statePart) (h .state),
       bytes-below revisions 2 (p usedPart) (h .used),

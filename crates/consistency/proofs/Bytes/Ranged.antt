@@ -17,7 +17,7 @@ use Rattle.cells.specs.Parts.{Parts, layoutPart, split}
 use Rattle.cells.specs.Words.{byte}
 use Rattle.cells.specs.Decode.{cells}
 use Rattle.cells.specs.Range.{inRange}
-use Rattle.cells.proofs.Range.{kept-in}
+use Rattle.cells.proofs.Range.{ranged-in}
 use Rattle.consistency.proofs.Cells.Bounded.{Bounded}
 use Rattle.consistency.proofs.Cells.Kept.{Kept, some-given}
 use Rattle.consistency.proofs.Cells.Represents.{Represents, openCell}
@@ -57,7 +57,7 @@ module _ (y : Day) (m : Machine) (d : List ℕ) (K : Kept y m (cells d)) (u : Hi
       let taken = h .updates-few in
       let out = h .out-few in
       let given = h .given-few in
-      kept-in p (record {
+      ranged-in p (record {
         state = state-low;
         used = u .used-low;
         last = λ r l. B .last-low r;
