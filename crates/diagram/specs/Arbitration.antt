@@ -8,7 +8,7 @@ use mathlib.Core.Option.{Option, some}
 use mathlib.Core.List.{List, [], _∷_, _++_, List·Nodup}
 use lib.ListN.{length}
 use Rattle.lists.specs.Lists.{_∈_, _⊑_, flat, Only}
-use Rattle.diagram.specs.Diagram.{Vertex, event, Diagram, Path}
+use Rattle.diagram.specs.Diagram.{Vertex, event, Diagram, HasPath}
 use Rattle.diagram.specs.Effects.{view, number, numbers}
 use Rattle.diagram.specs.Day.{Day, fresh, IsOut}
 use Rattle.diagram.specs.Checks.{busy}
@@ -24,7 +24,7 @@ eventsOf y t = y .transaction t .events
 
 -- "A vertex sees each vertex from which a path leads to it."
 abbrev pub Sees : Day → ℕ → ℕ → Type 0
-Sees y x e = Path (y .diagram) e x
+Sees y x e = HasPath (y .diagram) e x
 
 -- "A transaction sees another if one of its events sees one of the other's."
 pub record SeesTransaction (y : Day) (t s : ℕ) : Type 0 where

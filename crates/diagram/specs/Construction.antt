@@ -4,7 +4,7 @@ use mathlib.Core.Path.{_≡_}
 use mathlib.Core.Option.{Option, some}
 use mathlib.Core.List.{[], _∷_}
 use lib.ListN.{length}
-use Rattle.diagram.specs.Diagram.{root, start, event, fork, join, Diagram, Path, Terminal}
+use Rattle.diagram.specs.Diagram.{root, start, event, fork, join, Diagram, HasPath, Terminal}
 use Rattle.diagram.specs.Effects.{startVertex, forkVertex}
 
 -- 01, "Diagram": "It is allowed only if a path leads from the fork vertex that started the joinee to the joiner's line
@@ -13,8 +13,8 @@ use Rattle.diagram.specs.Effects.{startVertex, forkVertex}
 pub record Joinable (d : Diagram) (joiner joinee : ℕ) : Type 0 where
   pub started-by : ℕ
   pub is-fork : forkVertex d joinee ≡ some started-by
-  pub fork-seen : Path d started-by joiner
-  pub start-unseen : Path d (startVertex d joinee) joiner → ⊥
+  pub fork-seen : HasPath d started-by joiner
+  pub start-unseen : HasPath d (startVertex d joinee) joiner → ⊥
 
 -- "a directed graph constructed by applying a .. sequence of the following construction steps .. to a single initial
 -- start vertex (called the root)"

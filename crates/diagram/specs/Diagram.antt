@@ -51,10 +51,10 @@ pub data Edge (from : Vertex → List ℕ) (x y : ℕ) : Diagram → Type 0 wher
   newest : {v : Vertex} {d : Diagram} → y ≡ length d → List·Memᴰ x (from v) → Edge from x y (v ∷ d)
   older : {v : Vertex} {d : Diagram} → Edge from x y d → Edge from x y (v ∷ d)
 
--- 01, "Words": "Path: as in 002, along any edges; from a vertex to itself there always is one". Not the library's `Path`, which is equality.
-pub data Path (d : Diagram) (x : ℕ) : ℕ → Type 0 where
-  stay : {y : ℕ} → x ≡ y → x < length d → Path d x y
-  go : {y z : ℕ} → Path d x y → Edge sources y z d → Path d x z
+-- 01, "Words": "Path: as in 002, along any edges; from a vertex to itself there always is one".
+pub data HasPath (d : Diagram) (x : ℕ) : ℕ → Type 0 where
+  stay : {y : ℕ} → x ≡ y → x < length d → HasPath d x y
+  go : {y z : ℕ} → HasPath d x y → Edge sources y z d → HasPath d x z
 
 -- "We call a vertex with no outgoing s- or j-edges a terminal" (01: a line end)
 pub record Terminal (d : Diagram) (x : ℕ) : Type 0 where
@@ -62,11 +62,11 @@ pub record Terminal (d : Diagram) (x : ℕ) : Type 0 where
   pub no-s : (y : ℕ) → Edge s-sources x y d → ⊥
   pub no-j : (y : ℕ) → Edge j-sources x y d → ⊥
 
--- whether a path leads from x to y, as a test: `leads-iff-path` shows that it is `Path`
-abbrev pub any : (ℕ → Bool) → List ℕ → Bool
-any f [] = false
-any f (p ∷ ps) = f p || any f ps
+-- whether a path leads from x to y, as a test: `leads-iff-path` shows that it is `HasPath`
+abbrev pub anyOf : (ℕ → Bool) → List ℕ → Bool
+anyOf f [] = false
+anyOf f (p ∷ ps) = f p || anyOf f ps
 
 unfoldable pub leads : Diagram → ℕ → ℕ → Bool
 leads [] x y = false
-leads (v ∷ d) x y = cond (eqb y (length d)) (eqb x y || any (λ p. leads d x p) (sources v)) (leads d x y)
+leads (v ∷ d) x y = cond (eqb y (length d)) (eqb x y || anyOf (λ p. leads d x p) (sources v)) (leads d x y)

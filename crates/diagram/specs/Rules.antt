@@ -6,7 +6,7 @@ use mathlib.Core.Path.{_≡_}
 use mathlib.Core.Logic.{_↔_}
 use mathlib.Core.List.{List}
 use lib.ListN.{length}
-use Rattle.diagram.specs.Diagram.{Path, leads}
+use Rattle.diagram.specs.Diagram.{HasPath, leads}
 use Rattle.diagram.specs.Construction.{Constructed, Joinable}
 use Rattle.diagram.specs.RootPaths.{Composed}
 use Rattle.diagram.specs.Day.{IsOut}
@@ -19,6 +19,6 @@ pub record ByRules (ss : List Step) : Type 0 where
   -- code 11: "its fork isn't seen, or its start is", with "joinee is box 0, is the joiner"
   pub joins : (a b : ℕ) → IsOut (run ss) a → IsOut (run ss) b → (notJoinable (run ss) a b ≡ false) ↔ Joinable (run ss .diagram) (run ss .terminal a) (run ss .terminal b)
   -- the test behind codes 8 and 11
-  pub paths : (x y : ℕ) → (leads (run ss .diagram) x y ≡ true) ↔ Path (run ss .diagram) x y
+  pub paths : (x y : ℕ) → (leads (run ss .diagram) x y ≡ true) ↔ HasPath (run ss .diagram) x y
   -- 002, Definitions 8 and 9
   pub composed : (x : ℕ) → x < length (run ss .diagram) → Composed (run ss .diagram) x

@@ -9,7 +9,7 @@ use mathlib.Core.Option.{none, some}
 use mathlib.Core.List.{List, _∷_, _++_, List·Memᴰ}
 use lib.ListN.{length}
 use Rattle.lists.specs.Lists.{_∈_}
-use Rattle.diagram.specs.Diagram.{s-sources, Edge, Path, Terminal}
+use Rattle.diagram.specs.Diagram.{s-sources, Edge, HasPath, Terminal}
 use Rattle.diagram.specs.Day.{Day}
 use Rattle.diagram.specs.Steps.{Step, Event, Yield, run}
 use Rattle.diagram.specs.Arbitration.{eventsOf}
@@ -52,4 +52,4 @@ pub record Witness (ss : List Step) : Type 0 where
       → NoEvent c rest → NoYield c rest → Terminal (run ss .diagram) (length (run before .diagram))
   -- 4: ".. preceding and succeeding some yield .. there must exist a path from x to y"; here, of any two events of a client
   pub in-sequence : (before middle rest : List Step) (c r q : ℕ) (u w : Bool) → ss ≡ before ++ (Event c r u ∷ (middle ++ (Event c q w ∷ rest)))
-      → Path (run ss .diagram) (length (run before .diagram)) (length (run (before ++ (Event c r u ∷ middle)) .diagram))
+      → HasPath (run ss .diagram) (length (run before .diagram)) (length (run (before ++ (Event c r u ∷ middle)) .diagram))

@@ -22,7 +22,7 @@ use Rattle.diagram.specs.Examples.{withCounts}
 use Rattle.plain.specs.Calls.{Call, Update, Query, Yield, Fork, Join, Show, Fill, Bundle, Entry, Line}
 use Rattle.plain.specs.Record.{PlainDay, freshDay}
 use Rattle.plain.specs.Answers.{called, sent, dayFrom, dayAfter, answersFrom, answers}
-use Rattle.plain.specs.Edges.{edges, codes, said, expected, computed, ok, no, neither, filled, small, unknownBib}
+use Rattle.plain.specs.Edges.{edges, codes, said, expected, computed, ok, refusal, neither, filled, small, unknownBib}
 
 pub edges-hold : computed edges ≡ expected edges
 unfolding called answersFrom answers after leads tabulate meant nextNumber unknownClient openElsewhere busyByOther busy anyBelow stale logFull noneLeft notJoinable revisionLimit clientLimit updateLimit kindCheck effect earliest penalized stateOf valueIn applied sent entriesIn entriesFrom isWrong number
@@ -38,13 +38,13 @@ counted updates revisions = record { day = withCounts updates revisions; entries
 
 -- 9 once 4,096 updates are taken, after 8; and not before
 log-full : said (answersFrom (counted 4095 1) (Fork 0 ∷ Update 0 0 1 7 5 ∷ Yield 0 ∷ Update 0 1 1 7 5 ∷ Update 0 0 1 7 5 ∷ Query 0 0 8 ∷ []))
-    ≡ ok 1 ∷ ok 4095 ∷ ok 0 ∷ no 8 ∷ no 9 ∷ neither ∷ []
+    ≡ ok 1 ∷ ok 4095 ∷ ok 0 ∷ refusal 8 ∷ refusal 9 ∷ neither ∷ []
 unfolding called answersFrom answers after leads tabulate meant nextNumber unknownClient openElsewhere busyByOther busy anyBelow stale logFull noneLeft notJoinable revisionLimit clientLimit updateLimit kindCheck effect earliest penalized stateOf valueIn applied sent entriesIn entriesFrom isWrong number
 log-full = refl
 
 -- 10 once 64 boxes are started, after 3 and 7; and not before
 none-left : said (answersFrom (counted 0 63) (Fork 0 ∷ Fork 64 ∷ Query 0 0 7 ∷ Fork 0 ∷ Yield 0 ∷ Fork 0 ∷ []))
-    ≡ ok 63 ∷ no 3 ∷ neither ∷ no 7 ∷ ok 0 ∷ no 10 ∷ []
+    ≡ ok 63 ∷ refusal 3 ∷ neither ∷ refusal 7 ∷ ok 0 ∷ refusal 10 ∷ []
 unfolding called answersFrom answers after leads tabulate meant nextNumber unknownClient openElsewhere busyByOther busy anyBelow stale logFull noneLeft notJoinable revisionLimit clientLimit updateLimit kindCheck effect earliest penalized stateOf valueIn applied sent entriesIn entriesFrom isWrong number
 none-left = refl
 
@@ -74,12 +74,12 @@ fills-told = (refl, refl)
 
 -- a bundle on a log that has room for one more: 9 of its second entry, before 5 of its third, after 5 of the second itself
 bundle-fills-log : said (answersFrom (counted 4095 1) (Bundle 0 0 (small 1 7 5 ++ small 1 7 5 ++ unknownBib) ∷ Bundle 0 0 (small 1 7 5 ++ unknownBib) ∷ Bundle 0 0 (small 1 7 5) ∷ Bundle 0 0 (small 1 7 5) ∷ []))
-    ≡ no 9 ∷ no 5 ∷ ok 4095 ∷ no 9 ∷ []
+    ≡ refusal 9 ∷ refusal 5 ∷ ok 4095 ∷ refusal 9 ∷ []
 unfolding called answersFrom answers after leads tabulate meant nextNumber unknownClient openElsewhere busyByOther busy anyBelow stale logFull noneLeft notJoinable revisionLimit clientLimit updateLimit kindCheck effect earliest penalized stateOf valueIn applied sent entriesIn entriesFrom isWrong number
 bundle-fills-log = refl
 
 -- 64 records are taken, 65 are 14, and so are bytes that are not a multiple of 12
 most-records : said (answersFrom freshDay (Bundle 0 0 (replicate 780 1) ∷ Bundle 0 0 (replicate 767 1) ∷ Bundle 0 0 (replicate 768 1) ∷ Fill 0 ∷ []))
-    ≡ no 14 ∷ no 14 ∷ ok 0 ∷ filled 64 64 ∷ []
+    ≡ refusal 14 ∷ refusal 14 ∷ ok 0 ∷ filled 64 64 ∷ []
 unfolding called answersFrom answers after leads tabulate meant nextNumber unknownClient openElsewhere busyByOther busy anyBelow stale logFull noneLeft notJoinable revisionLimit clientLimit updateLimit kindCheck effect earliest penalized stateOf valueIn applied sent entriesIn entriesFrom isWrong number
 most-records = refl

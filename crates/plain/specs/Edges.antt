@@ -22,8 +22,8 @@ abbrev edge : List Call → List Said → Edge
 edge calls says = record { calls = calls; says = says }
 
 -- refused; a query that finds a bib timed, neither or struck; any other call that is taken
-abbrev pub no : ℕ → Said
-no code = record { code = code; state = state.Neither; value = 0; total = 0; gain = 0 }
+abbrev pub refusal : ℕ → Said
+refusal code = record { code = code; state = state.Neither; value = 0; total = 0; gain = 0 }
 
 abbrev timed : ℕ → Said
 timed value = record { code = 0; state = state.Timed; value = value; total = 0; gain = 0 }
@@ -71,16 +71,16 @@ edges =
     edge
     (Update 0 0 time 7 61000 ∷ Yield 0 ∷ Fork 0 ∷ Update 1 1 penalty 7 5000 ∷ Fork 1 ∷ Yield 1 ∷ Update 0 0 time 7 60000
     ∷ Yield 0 ∷ Query 0 1 7 ∷ Join 0 1 ∷ Query 1 0 7 ∷ Update 0 1 strike 7 0 ∷ [])
-    (ok 0 ∷ ok 0 ∷ ok 1 ∷ ok 1 ∷ no 7 ∷ ok 0 ∷ ok 2 ∷ ok 0 ∷ no 8 ∷ ok 1 ∷ timed 65000 ∷ no 4 ∷ [])
+    (ok 0 ∷ ok 0 ∷ ok 1 ∷ ok 1 ∷ refusal 7 ∷ ok 0 ∷ ok 2 ∷ ok 0 ∷ refusal 8 ∷ ok 1 ∷ timed 65000 ∷ refusal 4 ∷ [])
     -- E2 "Box 0 sends 1, 1 sends 2: join 0 with 2 gives 11, and so does join 2 with 1; after join 0 with 1, join 0 with 2
     -- is taken."
     ∷ edge
     (Fork 0 ∷ Fork 1 ∷ Join 0 2 ∷ Join 2 1 ∷ Join 0 1 ∷ Join 0 2 ∷ [])
-    (ok 1 ∷ ok 2 ∷ no 11 ∷ no 11 ∷ ok 0 ∷ ok 0 ∷ [])
+    (ok 1 ∷ ok 2 ∷ refusal 11 ∷ refusal 11 ∷ ok 0 ∷ ok 0 ∷ [])
     -- E3 "Box 0 sends 1, then 2: join 1 with 2 gives 11, and after it join 2 with 1 is taken."
-    ∷ edge (Fork 0 ∷ Fork 0 ∷ Join 1 2 ∷ Join 2 1 ∷ []) (ok 1 ∷ ok 2 ∷ no 11 ∷ ok 0 ∷ [])
+    ∷ edge (Fork 0 ∷ Fork 0 ∷ Join 1 2 ∷ Join 2 1 ∷ []) (ok 1 ∷ ok 2 ∷ refusal 11 ∷ ok 0 ∷ [])
     -- E4 "Join 0 with 0: 11, but 7 while box 0 is busy."
-    ∷ edge (Join 0 0 ∷ Query 3 0 7 ∷ Join 0 0 ∷ []) (no 11 ∷ neither ∷ no 7 ∷ [])
+    ∷ edge (Join 0 0 ∷ Query 3 0 7 ∷ Join 0 0 ∷ []) (refusal 11 ∷ neither ∷ refusal 7 ∷ [])
     -- E5 "Penalty 4,294,967,295 on value 1 gives 0."
     ∷ edge (Update 0 0 time 7 1 ∷ Update 0 0 penalty 7 4294967295 ∷ Query 0 0 7 ∷ []) (ok 0 ∷ ok 1 ∷ neither ∷ [])
     -- E6 "Earliest: 0 and 9 give 9; 9 and 0 give 9; 9 and 9 give 9."
@@ -92,7 +92,7 @@ edges =
     -- E8 "A join of a box without updates gains 0."
     ∷ edge (Update 0 0 time 5 8 ∷ Yield 0 ∷ Fork 0 ∷ Join 0 1 ∷ []) (ok 0 ∷ ok 0 ∷ ok 1 ∷ ok 0 ∷ [])
     -- E9 "Bib 999 is taken; 1,000 gives 5."
-    ∷ edge (Update 0 0 time 999 8 ∷ Update 0 0 time 1000 8 ∷ Query 0 0 1000 ∷ []) (ok 0 ∷ no 5 ∷ no 5 ∷ [])
+    ∷ edge (Update 0 0 time 999 8 ∷ Update 0 0 time 1000 8 ∷ Query 0 0 1000 ∷ []) (ok 0 ∷ refusal 5 ∷ refusal 5 ∷ [])
     -- 02, U2: Strike, then Earliest, Penalty, Time and Time 0
     ∷ edge (Update 0 0 strike 7 1 ∷ Query 0 0 7 ∷ Update 0 0 earliest 7 9 ∷ Query 0 0 7 ∷ []) (ok 0 ∷ struck ∷ ok 1 ∷ struck ∷ [])
     ∷ edge (Update 0 0 time 7 9 ∷ Update 0 0 strike 7 0 ∷ Update 0 0 penalty 7 9 ∷ Query 0 0 7 ∷ []) (ok 0 ∷ ok 1 ∷ ok 2 ∷ struck ∷ [])
@@ -101,7 +101,7 @@ edges =
     -- U3: "Penalty 5000, then Earliest 60000, gives 60000, and after the Penalty alone the query gives 0"
     ∷ edge (Update 0 0 penalty 7 5000 ∷ Query 0 0 7 ∷ Update 0 0 earliest 7 60000 ∷ Query 0 0 7 ∷ []) (ok 0 ∷ neither ∷ ok 1 ∷ timed 60000 ∷ [])
     -- a refused query answers neither, also of a struck bib
-    ∷ edge (Update 0 0 strike 7 0 ∷ Query 1 0 7 ∷ []) (ok 0 ∷ no 7 ∷ [])
+    ∷ edge (Update 0 0 strike 7 0 ∷ Query 1 0 7 ∷ []) (ok 0 ∷ refusal 7 ∷ [])
     ∷ []
 
 -- the codes, where several apply: the lowest one ends the call; and the updates of another bib, which do not count
@@ -109,29 +109,29 @@ abbrev pub codes : List Edge
 codes =
     edge
     (Update 16 9 0 1000 0 ∷ Update 0 9 0 1000 0 ∷ Update 0 0 0 7 0 ∷ Update 0 0 5 7 0 ∷ Update 0 0 strike 999 1 ∷ [])
-    (no 2 ∷ no 3 ∷ no 5 ∷ no 5 ∷ ok 0 ∷ [])
+    (refusal 2 ∷ refusal 3 ∷ refusal 5 ∷ refusal 5 ∷ ok 0 ∷ [])
     ∷ edge
     (Fork 0 ∷ Join 0 1 ∷ Update 0 1 0 1000 0 ∷ Query 0 1 1000 ∷ Show 1 0 ∷ Join 0 1 ∷ Show 0 0 ∷ [])
-    (ok 1 ∷ ok 0 ∷ no 4 ∷ no 4 ∷ no 4 ∷ no 4 ∷ ok 0 ∷ [])
+    (ok 1 ∷ ok 0 ∷ refusal 4 ∷ refusal 4 ∷ refusal 4 ∷ refusal 4 ∷ ok 0 ∷ [])
     ∷ edge
     (Fork 0 ∷ Update 0 0 time 7 5 ∷ Update 1 1 time 7 6 ∷ Update 0 1 time 7 6 ∷ Update 2 1 time 7 6 ∷ Show 1 0 ∷ Fork 1 ∷ Join 0 1
     ∷ Yield 0 ∷ Yield 1 ∷ Update 0 1 time 7 6 ∷ Show 1 11 ∷ Show 1 12 ∷ Join 0 1 ∷ [])
-    (ok 1 ∷ ok 0 ∷ ok 1 ∷ no 6 ∷ no 7 ∷ no 7 ∷ no 7 ∷ no 7 ∷ ok 0 ∷ ok 0 ∷ no 8 ∷ no 12 ∷ ok 1 ∷ ok 1 ∷ [])
+    (ok 1 ∷ ok 0 ∷ ok 1 ∷ refusal 6 ∷ refusal 7 ∷ refusal 7 ∷ refusal 7 ∷ refusal 7 ∷ ok 0 ∷ ok 0 ∷ refusal 8 ∷ refusal 12 ∷ ok 1 ∷ ok 1 ∷ [])
     -- the calls other than update: 2, 3 and 4; a joinee that was never sent before a joiner that is handed in, and 4 before 11
     ∷ edge
     (Query 16 1 1000 ∷ Query 0 1 1000 ∷ Yield 16 ∷ Yield 15 ∷ Fork 1 ∷ Join 1 0 ∷ Join 0 1 ∷ Show 1 0 ∷ Fork 0 ∷ Join 0 1 ∷ Fork 1 ∷ Join 1 2
     ∷ Join 1 0 ∷ [])
-    (no 2 ∷ no 3 ∷ no 2 ∷ ok 0 ∷ no 3 ∷ no 3 ∷ no 3 ∷ no 3 ∷ ok 1 ∷ ok 0 ∷ no 4 ∷ no 3 ∷ no 4 ∷ [])
+    (refusal 2 ∷ refusal 3 ∷ refusal 2 ∷ ok 0 ∷ refusal 3 ∷ refusal 3 ∷ refusal 3 ∷ refusal 3 ∷ ok 1 ∷ ok 0 ∷ refusal 4 ∷ refusal 3 ∷ refusal 4 ∷ [])
     -- join: 7 of either box; query: 6, 7 and 8, each before the next
     ∷ edge
     (Fork 0 ∷ Query 0 0 7 ∷ Join 0 1 ∷ Join 1 0 ∷ Query 1 0 7 ∷ Query 1 1 7 ∷ Query 0 1 1000 ∷ Query 0 1 7 ∷ Yield 0 ∷ Query 0 1 7 ∷ Yield 1 ∷ Query 0 1 7 ∷ [])
-    (ok 1 ∷ neither ∷ no 7 ∷ no 7 ∷ no 7 ∷ neither ∷ no 5 ∷ no 6 ∷ ok 0 ∷ no 7 ∷ ok 0 ∷ no 8 ∷ [])
+    (ok 1 ∷ neither ∷ refusal 7 ∷ refusal 7 ∷ refusal 7 ∷ neither ∷ refusal 5 ∷ refusal 6 ∷ ok 0 ∷ refusal 7 ∷ ok 0 ∷ refusal 8 ∷ [])
     -- fill (02, U1): 3 and 4; what was inherited does not count, what was joined in does, through others too, and a busy box is told
     ∷ edge
     (Update 0 0 time 7 5 ∷ Yield 0 ∷ Fork 0 ∷ Fork 1 ∷ Update 1 1 time 7 6 ∷ Update 2 2 time 7 7 ∷ Fill 0 ∷ Fill 1 ∷ Fill 2 ∷ Fill 3
     ∷ Yield 1 ∷ Yield 2 ∷ Join 1 2 ∷ Fill 1 ∷ Fill 2 ∷ Join 0 1 ∷ Fill 0 ∷ Fill 1 ∷ [])
-    (ok 0 ∷ ok 0 ∷ ok 1 ∷ ok 2 ∷ ok 1 ∷ ok 2 ∷ filled 1 3 ∷ filled 1 3 ∷ filled 1 3 ∷ no 3
-    ∷ ok 0 ∷ ok 0 ∷ ok 1 ∷ filled 2 3 ∷ no 4 ∷ ok 2 ∷ filled 3 3 ∷ no 4 ∷ [])
+    (ok 0 ∷ ok 0 ∷ ok 1 ∷ ok 2 ∷ ok 1 ∷ ok 2 ∷ filled 1 3 ∷ filled 1 3 ∷ filled 1 3 ∷ refusal 3
+    ∷ ok 0 ∷ ok 0 ∷ ok 1 ∷ filled 2 3 ∷ refusal 4 ∷ ok 2 ∷ filled 3 3 ∷ refusal 4 ∷ [])
     -- bundle (02, U4): an open transaction is continued and closed; the value is the first entry's number
     ∷ edge
     (Update 0 0 time 8 9 ∷ Bundle 0 0 (small time 7 50 ++ small earliest 7 40 ++ small strike 8 1) ∷ Fork 0 ∷ Query 1 0 7 ∷ Query 1 0 8 ∷ Fill 0 ∷ Bundle 0 1 (small time 7 1) ∷ [])
@@ -140,22 +140,22 @@ codes =
     ∷ edge
     (Bundle 16 9 [] ∷ Bundle 16 9 (1 ∷ small time 7 5) ∷ Bundle 16 9 (small time 7 5) ∷ Bundle 0 9 unknownBib ∷ Bundle 0 0 (small time 7 5 ++ small 5 7 5 ++ small time 7 5)
     ∷ Bundle 0 0 (small time 7 5 ++ unknownBib) ∷ Fill 0 ∷ Query 1 0 7 ∷ Bundle 0 0 (unknownBib ++ small time 7 5) ∷ Bundle 0 0 (small time 7 5 ++ unknownBib) ∷ Bundle 1 0 (small time 7 5) ∷ Bundle 0 0 (small time 7 6) ∷ [])
-    (no 14 ∷ no 14 ∷ no 2 ∷ no 3 ∷ no 5
-    ∷ no 5 ∷ filled 0 0 ∷ neither ∷ no 5 ∷ no 7 ∷ ok 0 ∷ ok 1 ∷ [])
+    (refusal 14 ∷ refusal 14 ∷ refusal 2 ∷ refusal 3 ∷ refusal 5
+    ∷ refusal 5 ∷ filled 0 0 ∷ neither ∷ refusal 5 ∷ refusal 7 ∷ ok 0 ∷ ok 1 ∷ [])
     ∷ edge (Update 0 0 time 7 5 ∷ Update 0 0 time 8 6 ∷ Query 0 0 7 ∷ Query 0 0 8 ∷ Query 0 0 9 ∷ []) (ok 0 ∷ ok 1 ∷ timed 5 ∷ timed 6 ∷ neither ∷ [])
     -- preview (02, U6) on the day of E1: 7 of either box; then, before the join, what the query after it gives, with the join's gain;
     -- of another bib neither, with the same gain; nothing is moved by it
     ∷ edge
     (Update 0 0 time 7 61000 ∷ Yield 0 ∷ Fork 0 ∷ Update 1 1 penalty 7 5000 ∷ Preview 0 1 7 ∷ Yield 1 ∷ Update 0 0 time 7 60000 ∷ Preview 0 1 7
     ∷ Yield 0 ∷ Preview 0 1 7 ∷ Preview 0 1 8 ∷ Query 0 0 7 ∷ Yield 0 ∷ Preview 0 1 7 ∷ Join 0 1 ∷ Query 1 0 7 ∷ [])
-    (ok 0 ∷ ok 0 ∷ ok 1 ∷ ok 1 ∷ no 7 ∷ ok 0 ∷ ok 2 ∷ no 7
+    (ok 0 ∷ ok 0 ∷ ok 1 ∷ ok 1 ∷ refusal 7 ∷ ok 0 ∷ ok 2 ∷ refusal 7
     ∷ ok 0 ∷ previewed (timed 65000) 1 ∷ previewed neither 1 ∷ timed 60000 ∷ ok 0 ∷ previewed (timed 65000) 1 ∷ ok 1 ∷ timed 65000 ∷ [])
     -- its refusals are those of the join, in the join's order, and 5 comes last
     ∷ edge
     (Fork 0 ∷ Preview 0 2 1000 ∷ Preview 2 0 7 ∷ Preview 1 0 1000 ∷ Preview 0 0 7 ∷ Preview 0 1 1000 ∷ Preview 0 1 999 ∷ Query 3 0 7 ∷ Preview 0 0 1000 ∷ Yield 3
     ∷ Join 0 1 ∷ Preview 0 1 1000 ∷ Preview 1 0 7 ∷ Preview 1 2 1000 ∷ [])
-    (ok 1 ∷ no 3 ∷ no 3 ∷ no 11 ∷ no 11 ∷ no 5 ∷ neither ∷ neither ∷ no 7 ∷ ok 0
-    ∷ ok 0 ∷ no 4 ∷ no 4 ∷ no 3 ∷ [])
+    (ok 1 ∷ refusal 3 ∷ refusal 3 ∷ refusal 11 ∷ refusal 11 ∷ refusal 5 ∷ neither ∷ neither ∷ refusal 7 ∷ ok 0
+    ∷ ok 0 ∷ refusal 4 ∷ refusal 4 ∷ refusal 3 ∷ [])
     -- it finds a bib struck; what the joinee inherited is not applied again, and what was joined into it is
     ∷ edge
     (Update 0 0 time 7 100 ∷ Update 0 0 penalty 7 10 ∷ Yield 0 ∷ Fork 0 ∷ Fork 1 ∷ Update 0 0 penalty 7 5 ∷ Yield 0 ∷ Update 1 1 penalty 7 1 ∷ Yield 1

@@ -15,7 +15,7 @@ use Rattle.diagram.proofs.Graph.Events.{JoinOk, Joined, inherited-from,
 use Rattle.diagram.proofs.Graph.Events.{view-split, viewEventStep, viewEvents}
 use Rattle.diagram.proofs.Graph.Paths.{Ordered, any-elim, any-intro, leads-new, leads-old, one-more}
 use Rattle.diagram.proofs.Graph.Tables.{tabulate-newest, tabulate-older}
-use Rattle.diagram.specs.Diagram.{Diagram, Vertex, any, fork, leads, sources}
+use Rattle.diagram.specs.Diagram.{Diagram, Vertex, anyOf, fork, leads, sources}
 use Rattle.diagram.specs.Effects.{forkStep, forkVertex, tabulate}
 use Rattle.lists.proofs.Cases.{cases, either, or-cases, or-right, split}
 use Rattle.lists.proofs.Changed.{changed-other, changed-same}
@@ -80,7 +80,7 @@ module _ (d : Diagram) (v : Vertex) (terminal : ℕ → ℕ) (bound : (x : ℕ) 
   pub on-other : {A : Type 0} (step : Diagram → (ℕ → A) → Vertex → A) (z : A) (x : ℕ) → (x ≡ b → ⊥) → tabulate step z (v ∷ d) (on x) ≡ tabulate step z d (terminal x)
   on-other step z x h = rw (changed-other terminal b (length d) x h) (tabulate-older step z v d (terminal x) (bound x))
 
-  pub sees-on : (f : ℕ) → leads (v ∷ d) f (on b) ≡ (eqb f (length d) || any (λ p. leads d f p) (sources v))
+  pub sees-on : (f : ℕ) → leads (v ∷ d) f (on b) ≡ (eqb f (length d) || anyOf (λ p. leads d f p) (sources v))
   sees-on f = rw (changed-same terminal b (length d)) (leads-new v d f (length d) refl)
 
   pub sees-other : (f x : ℕ) → (x ≡ b → ⊥) → leads (v ∷ d) f (on x) ≡ leads d f (terminal x)
@@ -88,7 +88,7 @@ module _ (d : Diagram) (v : Vertex) (terminal : ℕ → ℕ) (bound : (x : ℕ) 
 
   -- what leads to the new vertex leads to one before it, and what does not leads to none of them
   pub sees-before : (f : ℕ) → f < length d → leads (v ∷ d) f (on b) ≡ true → (p : ℕ) × List·Memᴰ p (sources v) × (leads d f p ≡ true)
-  sees-before f h e = either (or-cases (eqb f (length d)) (any (λ p. leads d f p) (sources v)) (sym (sees-on f) ∙ e)) (λ q. let r = eqb-true f (length d) q in absurd (omega arith)) (λ q. any-elim (λ p. leads d f p) (sources v) q)
+  sees-before f h e = either (or-cases (eqb f (length d)) (anyOf (λ p. leads d f p) (sources v)) (sym (sees-on f) ∙ e)) (λ q. let r = eqb-true f (length d) q in absurd (omega arith)) (λ q. any-elim (λ p. leads d f p) (sources v) q)
 
   pub unseen-before : (f : ℕ) → leads (v ∷ d) f (on b) ≡ false → (p : ℕ) → List·Memᴰ p (sources v) → leads d f p ≡ false
   unseen-before f e p i = cases (leads d f p) (λ q. absurd (false≢true (sym e ∙ sees-on f ∙ or-right (eqb f (length d)) _ (any-intro (λ p. leads d f p) p i q)))) (λ q. q)

@@ -9,7 +9,7 @@ use native.Mathlib.Omega.{arith}
 use lib.ListN.{length}
 use Rattle.diagram.proofs.Graph.Paths.{Ordered, edge-bounds, no-vertex, one-more, path-bound}
 use Rattle.diagram.proofs.Graph.Tables.{by-vertex, tabulate-newest, tabulate-older}
-use Rattle.diagram.specs.Diagram.{Diagram, Edge, Path, Vertex, event, fork, go, join, newest, older, root, sources, start, stay}
+use Rattle.diagram.specs.Diagram.{Diagram, Edge, HasPath, Vertex, event, fork, go, join, newest, older, root, sources, start, stay}
 use Rattle.diagram.specs.Effects.{forkStep, forkVertex, tabulate}
 use Rattle.lists.specs.Lists.{_⊆_}
 
@@ -63,7 +63,7 @@ JoinOk d root = Unit {0}
 JoinOk d (start p) = Unit {0}
 JoinOk d (event p c k) = Unit {0}
 JoinOk d (fork p) = Unit {0}
-JoinOk d (join p q) = (f : ℕ) × (forkVertex d q ≡ some f) × Path d f p
+JoinOk d (join p q) = (f : ℕ) × (forkVertex d q ≡ some f) × HasPath d f p
 
 abbrev pub Joined : Diagram → Type 0
 Joined [] = Unit {0}
@@ -90,7 +90,7 @@ inherited-from = by-vertex (λ d x. (f : ℕ) → forkVertex d x ≡ some f → 
     old v d x h k f e = rw (tabulate-older inheritedStep [] v d x) (grow v d _ f (k f (rw (tabulate-older forkStep none v d x) at e)))
 
 -- along an edge nothing is lost from view: at the newest vertex
-edge-new : {d : Diagram} → Ordered d → ((x y : ℕ) → Path d x y → viewEvents d x ⊆ viewEvents d y) → (v : Vertex) → ((p : ℕ) → List·Memᴰ p (sources v) → p < length d) → JoinOk d v
+edge-new : {d : Diagram} → Ordered d → ((x y : ℕ) → HasPath d x y → viewEvents d x ⊆ viewEvents d y) → (v : Vertex) → ((p : ℕ) → List·Memᴰ p (sources v) → p < length d) → JoinOk d v
     → (x : ℕ) → List·Memᴰ x (sources v) → viewEvents d x ⊆ viewEventStep d (viewEvents d) v
 edge-new o k root b c x m n i = absurd (List·Memᴰ·not-nil m)
 edge-new {d} o k (start p) b c x m n i = rw (List·Memᴰ·eq-of-singleton m) at i
@@ -110,16 +110,16 @@ edge-new {d} o k (join p q) b c x m n i = side (List·Memᴰ·cases-cons m)
         joined (List·Memᴰ·append-cases (inheritedEvents d q) (rw (view-split o q (b q (List·Memᴰ·tail (List·Memᴰ·head refl)))) at i′))
 
 -- along a path: a vertex sees whatever one that it follows sees
-pub path-view : {d : Diagram} → Ordered d → Joined d → (x y : ℕ) → Path d x y → viewEvents d x ⊆ viewEvents d y
+pub path-view : {d : Diagram} → Ordered d → Joined d → (x y : ℕ) → HasPath d x y → viewEvents d x ⊆ viewEvents d y
 path-view no-vertex j x y p = λ n m. absurd (omega (arith, path-bound no-vertex p))
 path-view (one-more {v} {d} f o) j x y p = along p (path-view o (j .1))
   where
-    edge : (x y : ℕ) → Edge sources x y (v ∷ d) → ((x y : ℕ) → Path d x y → viewEvents d x ⊆ viewEvents d y) → viewEvents (v ∷ d) x ⊆ viewEvents (v ∷ d) y
+    edge : (x y : ℕ) → Edge sources x y (v ∷ d) → ((x y : ℕ) → HasPath d x y → viewEvents d x ⊆ viewEvents d y) → viewEvents (v ∷ d) x ⊆ viewEvents (v ∷ d) y
     edge x y (newest e m) k n i = rw (e, tabulate-newest viewEventStep [] v d) (edge-new o k v f (j .0) x m n (rw (tabulate-older viewEventStep [] v d x (f x m)) at i))
     edge x y (older e) k n i =
         let b = edge-bounds o e in
         rw (tabulate-older viewEventStep [] v d y (b .1)) (k x y (go (stay refl (omega arith)) e) n (rw (tabulate-older viewEventStep [] v d x (omega arith)) at i))
 
-    along : {y : ℕ} → Path (v ∷ d) x y → ((x y : ℕ) → Path d x y → viewEvents d x ⊆ viewEvents d y) → viewEvents (v ∷ d) x ⊆ viewEvents (v ∷ d) y
+    along : {y : ℕ} → HasPath (v ∷ d) x y → ((x y : ℕ) → HasPath d x y → viewEvents d x ⊆ viewEvents d y) → viewEvents (v ∷ d) x ⊆ viewEvents (v ∷ d) y
     along (stay e h) k n i = rw (← e) i
     along (go {y} {z} p e) k n i = edge y z e k n (along p k n i)

@@ -14,14 +14,14 @@ use Rattle.diagram.proofs.Graph.Events.{Joined, ownEventStep, ownEvents
 use Rattle.diagram.proofs.Graph.Paths.{Ordered, no-vertex, one-more, path-older, path-start}
 use Rattle.diagram.proofs.Graph.Tables.{by-vertex, tabulate-newest, tabulate-older}
 use Rattle.diagram.specs.Arbitration.{IsEvent, newest-is, older-is}
-use Rattle.diagram.specs.Diagram.{Diagram, Path, Vertex, event, fork, go, join, newest, root, sources, start, stay}
+use Rattle.diagram.specs.Diagram.{Diagram, HasPath, Vertex, event, fork, go, join, newest, root, sources, start, stay}
 use Rattle.diagram.specs.Effects.{entry, number, numberStep, numbers, own, ownStep, view, viewStep}
 use Rattle.lists.proofs.Blocks.{flat-++, flat-same}
 use Rattle.lists.proofs.Cases.{either, split}
 use Rattle.lists.specs.Lists.{_∈_}
 
 abbrev pub From : Diagram → ℕ → List ℕ → Type 0
-From d x l = (n : ℕ) → n ∈ l → IsEvent n d × Path d n x
+From d x l = (n : ℕ) → n ∈ l → IsEvent n d × HasPath d n x
 
 abbrev pub Traced : Diagram → ℕ → Type 0
 Traced d x = From d x (ownEvents d x) × From d x (viewEvents d x)
@@ -67,7 +67,7 @@ pub self : {d : Diagram} {x : ℕ} → IsEvent x d → (x < length d) × (x ∈ 
 self (newest-is {p} {c} {u = k} {d} e) = (omega arith, rw (e, tabulate-newest viewEventStep [] (event p c k) d) (Memᴰ·append-right (viewEvents d p) (List·Memᴰ·head refl)))
 self {x} (older-is {v} {d} u) = let h = self u in let b = h .0 in (omega arith, rw (tabulate-older viewEventStep [] v d x b) (h .1))
 
-pub visible : {d : Diagram} → Ordered d → Joined d → (u x : ℕ) → x < length d → (u ∈ viewEvents d x) ↔ (IsEvent u d × Path d u x)
+pub visible : {d : Diagram} → Ordered d → Joined d → (u x : ℕ) → x < length d → (u ∈ viewEvents d x) ↔ (IsEvent u d × HasPath d u x)
 visible {d} o j u x h = (λ i. view-paths o x h .1 u i, λ p. path-view o j u x (p .1) u (self (p .0) .1))
 
 pub numbers-old : (v : Vertex) (d : Diagram) (l : List ℕ) → ((e : ℕ) → e ∈ l → e < length d) → numbers (v ∷ d) l ≡ numbers d l

@@ -20,7 +20,7 @@ use Rattle.diagram.proofs.Order.Runs.{along, fine-run, fine-step}
 use Rattle.diagram.specs.Checks.{notJoinable}
 use Rattle.diagram.specs.Construction.{Constructed, Joinable, entered, forked, joined, rooted}
 use Rattle.diagram.specs.Day.{Day, IsOut, fresh}
-use Rattle.diagram.specs.Diagram.{Diagram, Edge, Path, Terminal, Vertex, event, f-sources, fork, j-sources, join, leads, newest}
+use Rattle.diagram.specs.Diagram.{Diagram, Edge, HasPath, Terminal, Vertex, event, f-sources, fork, j-sources, join, leads, newest}
 use Rattle.diagram.specs.Diagram.{older, root, s-sources, sources, start}
 use Rattle.diagram.specs.Effects.{forkVertex, startStep, startVertex, tabulate}
 use Rattle.diagram.specs.Steps.{Accepted, Event, Fork, Join, Step, Yield, accepted, after, close, enter, forkAt, joinInto, newUpdate}
@@ -174,7 +174,7 @@ module _ (y : Day) (F : Fine y) (M : Made y) where
       not-main e = some≢none (forkVertex d (y .terminal b)) (J .is-fork) (ap (λ z. forkVertex d (y .terminal z)) e ∙ F .sound .real .main)
 
       not-self : b ≡ a → ⊥
-      not-self e = J .start-unseen (subst (Path d (startVertex d (y .terminal b))) (ap (y .terminal) e) (leads-path d _ (y .terminal b) (start-leads ordered (y .terminal b) (low b))))
+      not-self e = J .start-unseen (subst (HasPath d (startVertex d (y .terminal b))) (ap (y .terminal) e) (leads-path d _ (y .terminal b) (start-leads ordered (y .terminal b) (low b))))
 
       is : J .started-by ≡ y .forkOf b
       is = same-some (sym (J .is-fork) ∙ F .sound .real .forks b (ob .0) not-main)

@@ -17,7 +17,7 @@ use Rattle.diagram.proofs.Order.History.{more-transactions, open-or-shu
 use Rattle.diagram.proofs.Order.Runs.{accepted-first, accepted-rest, along, fine-run, fine-step, older-from, run-append}
 use Rattle.diagram.specs.Arbitration.{eventsOf}
 use Rattle.diagram.specs.Day.{Day, Transaction, fresh}
-use Rattle.diagram.specs.Diagram.{Diagram, Edge, Path, Terminal, Vertex, newest, older, s-sources}
+use Rattle.diagram.specs.Diagram.{Diagram, Edge, HasPath, Terminal, Vertex, newest, older, s-sources}
 use Rattle.diagram.specs.Steps.{Accepted, AcceptedFrom, Event, Step, Yield, accepted, after, entersInto, run, runFrom}
 use Rattle.diagram.specs.Witness.{EnteredIn, NoEvent, NoYield, Witness}
 use Rattle.lists.proofs.Changed.{changed-same}
@@ -95,7 +95,7 @@ yield-from (s ∷ ss) y A F t n q p = by (after y s .transaction t .closed) refl
         let g : n ≡ m = cc in
         record { before = []; rest = ss; client = k .0; is = ap (λ z. z ∷ ss) (k .1); was-open = k .2; at = g ∙ k .3 }
 
-path-on : {x z : ℕ} {d e : Diagram} → Older d e → Path d x z → Path e x z
+path-on : {x z : ℕ} {d e : Diagram} → Older d e → HasPath d x z → HasPath e x z
 path-on same p = p
 path-on (next o) p = path-older (path-on o p)
 
@@ -217,7 +217,7 @@ module _ (ss before middle rest : List Step) (A : Accepted ss) (c r q : ℕ) (u 
       let h : y2 .transaction t .revision ≡ q = can .same-revision t o in
       edge-older grown (newest refl (List·Memᴰ·head (sym g ∙ ap (y2 .terminal) h)))
 
-  in-sequence : Path (run ss .diagram) (length (run before .diagram)) z
+  in-sequence : HasPath (run ss .diagram) (length (run before .diagram)) z
   unfolding after
   in-sequence =
       let p = F2 .sound .sessions .last-sees t (length (run before .diagram)) (was-in .known) (was-in .has) in
