@@ -4,6 +4,7 @@ pub mod Cells
 pub mod Bytes
 pub mod Follow
 pub mod Table
+pub mod Refusals
 pub mod Demand
 pub mod Fills
 pub mod Previews

@@ -4,6 +4,7 @@ pub mod Reached
 pub mod Follow
 pub mod Numbers
 pub mod Table
+pub mod Refusals
 pub mod Demand
 pub mod Fills
 pub mod Previews

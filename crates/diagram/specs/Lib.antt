@@ -9,6 +9,7 @@ pub mod Day
 pub mod Checks
 pub mod Steps
 pub mod Rules
+pub mod Pool
 pub mod Counts
 pub mod Arbitration
 pub mod Witness

@@ -52,6 +52,7 @@ pub record Steps1 (p : PlainDay) (n : ℕ) (step : ℕ → Steps.Step) : Type 0 
 
 pub record UpdateTaken (p : PlainDay) (c n k bib v : ℕ) (o : Outcome) : Type 0 where
   pub step : Steps1 p n (λ r. Steps.Event c r true)
+  pub known-bib : badBib bib ≡ false
   pub kind : Kind
   pub is-kind : kindCheck k ≡ Known kind
   pub is : o ≡ taken (noted p c (step .revision) kind bib v) (p .day .updates)
@@ -70,6 +71,7 @@ update-ends p c n k bib v =
     by-check (logFull (p .day)) 7 _ λ e9.
     yes (record {
       step = record { revision = r; means = e3; accepts = accept-event (p .day) c r true e2 (meant-given (p .day) n r e3) e4 e6 e7 e8 e9 };
+      known-bib = e5;
       kind = kind;
       is-kind = f5;
       is = refl;
@@ -77,6 +79,7 @@ update-ends p c n k bib v =
 
 pub record QueryTaken (p : PlainDay) (c n bib : ℕ) (o : Outcome) : Type 0 where
   pub step : Steps1 p n (λ r. Steps.Event c r false)
+  pub known-bib : badBib bib ≡ false
   pub is : o ≡ answered (stepped p (Steps.Event c (step .revision) false)) (pathResult (stepped p (Steps.Event c (step .revision) false)) (length (p .day .diagram)) bib)
 
 pub query-ends : (p : PlainDay) (c n bib : ℕ) → Ends p (QueryTaken p c n bib) (called p (Query c n bib))
@@ -89,7 +92,7 @@ query-ends p c n bib =
     by-check (openElsewhere (p .day) c r) 4 _ λ e6.
     by-check (busyByOther (p .day) c r) 5 _ λ e7.
     by-check (stale (p .day) c r) 6 _ λ e8.
-    yes (record { step = record { revision = r; means = e3; accepts = accept-event (p .day) c r false e2 (meant-given (p .day) n r e3) e4 e6 e7 e8 refl }; is = refl })
+    yes (record { step = record { revision = r; means = e3; accepts = accept-event (p .day) c r false e2 (meant-given (p .day) n r e3) e4 e6 e7 e8 refl }; known-bib = e5; is = refl })
 
 pub record YieldTaken (p : PlainDay) (c : ℕ) (o : Outcome) : Type 0 where
   pub accepts : accepted (p .day) (Steps.Yield c) ≡ true
@@ -140,6 +143,7 @@ pub record ShowTaken (p : PlainDay) (n room : ℕ) (o : Outcome) : Type 0 where
   pub means : meant (p .day) n ≡ some revision
   pub out : p .day .joined revision ≡ false
   pub idle : busy (p .day) revision ≡ false
+  pub fits : ltb room (12 * length (view (p .day .diagram) (p .day .terminal revision))) ≡ false
   pub is : o ≡ shown p (view (p .day .diagram) (p .day .terminal revision))
 
 pub show-ends : (p : PlainDay) (n room : ℕ) → Ends p (ShowTaken p n room) (called p (Show n room))
@@ -149,11 +153,12 @@ show-ends p n room =
     by-check (p .day .joined r) 2 _ λ e4.
     by-check (busy (p .day) r) 5 _ λ e7.
     by-check (ltb room (12 * length (view (p .day .diagram) (p .day .terminal r)))) 10 _ λ e12.
-    yes (record { revision = r; means = e3; out = e4; idle = e7; is = refl })
+    yes (record { revision = r; means = e3; out = e4; idle = e7; fits = e12; is = refl })
 
 pub record FillTaken (p : PlainDay) (n : ℕ) (o : Outcome) : Type 0 where
   pub revision : ℕ
   pub means : meant (p .day) n ≡ some revision
+  pub out : p .day .joined revision ≡ false
   pub is : o ≡ told p (length (own (p .day .diagram) (p .day .terminal revision))) (p .day .updates)
 
 pub fill-ends : (p : PlainDay) (n : ℕ) → Ends p (FillTaken p n) (called p (Fill n))
@@ -161,16 +166,17 @@ unfolding called
 fill-ends p n =
     by-given (meant (p .day) n) _ λ r e3.
     by-check (p .day .joined r) 2 _ λ e4.
-    yes (record { revision = r; means = e3; is = refl })
+    yes (record { revision = r; means = e3; out = e4; is = refl })
 
 -- a preview: the join would be taken, and the bib is good
 pub record PreviewTaken (p : PlainDay) (n m bib : ℕ) (o : Outcome) : Type 0 where
   pub join : JoinTaken p n m (called p (Join n m))
+  pub known-bib : badBib bib ≡ false
   pub is : o ≡ foreseen p (called p (Join n m)) bib
 
 pub preview-ends : (p : PlainDay) (n m bib : ℕ) → Ends p (PreviewTaken p n m bib) (called p (Preview n m bib))
 unfolding called
-preview-ends p n m bib = by (join-ends p n m) λ h. by-check (badBib bib) 3 _ λ e5. yes (record { join = h; is = refl })
+preview-ends p n m bib = by (join-ends p n m) λ h. by-check (badBib bib) 3 _ λ e5. yes (record { join = h; known-bib = e5; is = refl })
   where
     by : {j rest : Outcome} → Ends p (JoinTaken p n m) j → (JoinTaken p n m j → Ends p (PreviewTaken p n m bib) rest)
         → Ends p (PreviewTaken p n m bib) (check (not (eqb (j .answer .code) 0)) (j .answer .code) p rest)

@@ -2,6 +2,8 @@
 pub mod Edges
 pub mod Ends
 pub mod Bundles
+pub mod Exactly
+pub mod Values
 pub mod Steps
 pub mod Previews
 pub mod LineUp

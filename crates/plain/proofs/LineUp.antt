@@ -16,6 +16,7 @@ use Rattle.diagram.proofs.Graph.Tables.{tabulate-newest}
 use Rattle.diagram.proofs.Order.Growth.{Fine, extends, fine-fresh, tabulate-stays}
 use Rattle.diagram.proofs.Order.Inherited.{entry-is}
 use Rattle.diagram.proofs.Order.Rules.{by-rules}
+use Rattle.machine.proofs.Follow.Pool.{by-pool}
 use Rattle.diagram.proofs.Order.Runs.{accepted-first, along, fine-run, fine-step, older-from, run-step}
 use Rattle.diagram.proofs.Order.Theorem.{arbitration}
 use Rattle.diagram.proofs.Order.Witness.{witness}
@@ -31,6 +32,8 @@ use Rattle.lists.proofs.Changed.{changed-same}
 use Rattle.lists.specs.Lists.{_∈_}
 use Rattle.plain.proofs.Bundles.{bundle-ends, sent-parts, update-number}
 use Rattle.plain.proofs.Ends.{QueryTaken, ShowTaken, UpdateTaken, query-ends, show-ends, update-ends, was-taken}
+use Rattle.plain.proofs.Exactly.{exactly}
+use Rattle.plain.proofs.Values.{fill-value, fork-value, join-value}
 use Rattle.plain.proofs.Previews.{foresees}
 use Rattle.plain.proofs.Steps.{day-both, did, ran, steps-both}
 use Rattle.plain.specs.Taken.{bundleSteps, ifTaken, onRevision, stepOf, stepsAfter, stepsFrom, stepsOf}
@@ -294,6 +297,8 @@ module _ (cs : List Call) where
     accepted = accepts cs;
     witness = witness (stepsAfter cs) (accepts cs);
     rules = by-rules (stepsAfter cs) (accepts cs);
+    pool = by-pool (stepsAfter cs) (accepts cs);
+    exactly = λ before rest c place. exactly (dayAfter before) c;
     order = A .order;
     once = A .once;
     complete = λ t. rw e (A .complete t);
@@ -304,6 +309,9 @@ module _ (cs : List Call) where
     numbered = rw e (A .numbered);
     number-at = number-at;
     noted = noted-is;
+    forked = λ before rest n T. fork-value (dayAfter before) n (T .code);
+    gained = λ before rest n m a b T. join-value (dayAfter before) n m a b (T .code);
+    filled = λ before rest n r T. fill-value (dayAfter before) n r (T .code);
     unbundled = unbundled;
     bundles = bundles;
     after-seen = rw e (A .after-seen);

@@ -6,6 +6,7 @@ pub mod Answers
 pub mod Edges
 pub mod Taken
 pub mod Bundles
+pub mod Allowed
 pub mod Previews
 pub mod LineUp
 pub mod Fills

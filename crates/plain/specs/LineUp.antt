@@ -4,7 +4,7 @@
 use Prim.Native.Nat.{ℕ, _<_}
 use mathlib.Core.Path.{_≡_}
 use mathlib.Core.Logic.{_↔_}
-use mathlib.Core.Option.{some}
+use mathlib.Core.Option.{none, some}
 use mathlib.Core.List.{List, [], _∷_, _++_, List·Nodup}
 use lib.ListN.{length}
 use Rattle.lists.specs.Lists.{_∈_, _⊑_, flat}
@@ -13,17 +13,19 @@ use Rattle.updates.specs.declared.kind.KindCheck.the-variants.{Known}
 use Rattle.updates.specs.Kinds.{kindCheck}
 use Rattle.bundles.specs.Records.{entriesIn}
 use Rattle.updates.specs.Effect.{stateOf, valueIn}
-use Rattle.diagram.specs.Effects.{view, number, numbers}
+use Rattle.diagram.specs.Effects.{own, view, number, numbers}
 use Rattle.diagram.specs.Day.{Day, IsOut, meant}
 use Rattle.diagram.specs.Steps.{Accepted, run}
 use Rattle.diagram.specs.Rules.{ByRules}
+use Rattle.diagram.specs.Pool.{ByPool}
 use Rattle.diagram.specs.Witness.{Witness}
 use Rattle.diagram.specs.Arbitration.{IsEvent, eventsOf, Numbered, Sees, SeesTransaction, Shows, WholeAt, Extends}
-use Rattle.plain.specs.Calls.{Call, Update, Query, Show, Bundle, Answer, Preview}
+use Rattle.plain.specs.Calls.{Call, Update, Query, Fork, Join, Show, Fill, Bundle, Answer, Preview}
 use Rattle.plain.specs.Record.{PlainDay, freshDay, standingOf, linesOf}
-use Rattle.plain.specs.Answers.{called, dayAfter}
+use Rattle.plain.specs.Answers.{Outcome, called, dayAfter}
 use Rattle.plain.specs.Taken.{stepsAfter}
 use Rattle.plain.specs.Bundles.{Bundled, parts}
+use Rattle.plain.specs.Allowed.{Allowed}
 use Rattle.plain.specs.Previews.{Foresees}
 
 -- the day of revisions after a list of calls
@@ -49,6 +51,23 @@ pub record ListedBy (cs : List Call) (order : List ℕ) (x : ℕ) (answer : Answ
   pub count : answer .value ≡ length updates
   pub are : answer .lines ≡ linesOf (dayAfter cs .entries) updates
 
+-- a fork from day y: its value meant no revision, and from then on means the new one, which is out and shows what the forked one shows
+pub record Forked (y : Day) (n : ℕ) (o : Outcome) : Type 0 where
+  pub unused : meant y (o .answer .value) ≡ none
+  pub means : meant (o .next .day) (o .answer .value) ≡ some (y .revisions)
+  pub out : IsOut (o .next .day) (y .revisions)
+  pub shows : (r : ℕ) → meant y n ≡ some r → view (o .next .day .diagram) (o .next .day .terminal (y .revisions)) ≡ view (y .diagram) (y .terminal r)
+
+-- a join of b into a from day y: what a shows grows by b's own updates, as many as the value says
+pub record Gained (y : Day) (a b : ℕ) (o : Outcome) : Type 0 where
+  pub brought : view (o .next .day .diagram) (o .next .day .terminal a) ≡ view (y .diagram) (y .terminal a) ++ own (y .diagram) (y .terminal b)
+  pub value : o .answer .value ≡ length (own (y .diagram) (y .terminal b))
+
+-- a fill of r on day y: "its own updates", and "the number taken by the whole table"
+pub record Filled (y : Day) (r : ℕ) (answer : Answer) : Type 0 where
+  pub own-updates : answer .value ≡ length (own (y .diagram) (y .terminal r))
+  pub all : answer .total ≡ y .updates
+
 -- "For a box that stays out, the list before a call begins the list after it."
 abbrev pub GrowsEach : PlainDay → List Call → Type 0
 GrowsEach p [] = Unit {0}
@@ -61,6 +80,9 @@ pub record LineUp (cs : List Call) : Type 0 where
   pub witness : Witness (stepsAfter cs)
   -- demand 2: they go by the rules of 002 and 01, and what a vertex lists are the effects along its root-path
   pub rules : ByRules (stepsAfter cs)
+  pub pool : ByPool (stepsAfter cs)
+  -- demand 2: each call "is taken exactly if" the rules and limits allow it
+  pub exactly : (before rest : List Call) (c : Call) → cs ≡ before ++ (c ∷ rest) → (called (dayAfter before) c .answer .code ≡ 0) ↔ Allowed (dayAfter before) c
   -- "A line-up has every transaction once, open ones and those of queries alone too."
   pub order : List ℕ
   pub once : List·Nodup order
@@ -76,6 +98,12 @@ pub record LineUp (cs : List Call) : Type 0 where
       → number (endOf cs .diagram) (length (endOf before .diagram)) ≡ some (called (dayAfter before) (Update c r k bib v) .answer .value)
   pub noted : (before rest : List Call) (c r k bib v : ℕ) (kind : Kind) → Taken cs before (Update c r k bib v) rest → kindCheck k ≡ Known kind
       → dayAfter cs .entries (called (dayAfter before) (Update c r k bib v) .answer .value) ≡ record { kind = kind; client = c; bib = bib; v = v }
+  -- "Values when taken: .. fork, the new number; join, the count of updates the joiner gained"; 02, U1: a fill's two numbers
+  pub forked : (before rest : List Call) (n : ℕ) → Taken cs before (Fork n) rest → Forked (endOf before) n (called (dayAfter before) (Fork n))
+  pub gained : (before rest : List Call) (n m a b : ℕ) → Taken cs before (Join n m) rest → meant (endOf before) n ≡ some a → meant (endOf before) m ≡ some b
+      → Gained (endOf before) a b (called (dayAfter before) (Join n m))
+  pub filled : (before rest : List Call) (n r : ℕ) → Taken cs before (Fill n) rest → meant (endOf before) n ≡ some r
+      → Filled (endOf before) r (called (dayAfter before) (Fill n) .answer)
   -- 02, U4: a bundle is its updates and a yield, and the day is the one of the calls with these in the bundle's place
   pub unbundled : (before rest : List Call) (c n : ℕ) (records : List ℕ) → Taken cs before (Bundle c n records) rest
       → dayAfter cs ≡ dayAfter (before ++ (parts c n (entriesIn records) ++ rest))

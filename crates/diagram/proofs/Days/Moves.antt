@@ -63,7 +63,7 @@ yield-updates y c none = refl
 yield-updates y c (some t) = refl
 
 -- the first of some tests does not apply, and none of the others
-none-of : (b rest : Bool) → (not b && rest) ≡ true → (b ≡ false) × (rest ≡ true)
+pub none-of : (b rest : Bool) → (not b && rest) ≡ true → (b ≡ false) × (rest ≡ true)
 none-of b rest e = let p = and-true (not b) rest e in (not-true b (p .0), p .1)
 
 module _ (y : Day) where

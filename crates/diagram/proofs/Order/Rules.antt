@@ -9,10 +9,12 @@ use Rattle.diagram.specs.Steps.{Accepted, Step, run}
 
 pub by-rules : (ss : List Step) → Accepted ss → ByRules ss
 by-rules ss A =
-    let made = made-run ss A .constructed in
+    let made = made-run ss A in
     record {
-      constructed = made;
+      constructed = made .constructed;
+      terminals = made .terminals;
+      starts = made .starts;
       joins = joinable-iff ss A;
       paths = λ x y. leads-iff-path (run ss .diagram) x y (fine-run ss A .sound .real .linked .ordered);
-      composed = composed-at made;
+      composed = composed-at (made .constructed);
     }
