@@ -42,7 +42,7 @@ same-call (Paper.Yield c) = refl
 same-call (Paper.Fork n) = refl
 same-call (Paper.Join n m) = refl
 same-call (Paper.Fill n) = refl
-same-call (Paper.Bundle c n records) = refl
+same-call (Paper.Bundle c n batch) = refl
 same-call (Paper.Preview n m bib) = refl
 same-call (Paper.Show n room) = ap (Paper.Show n) (length-replicate {A = ℕ} room 0)
 

@@ -16,9 +16,11 @@ use Rattle.bundles.specs.declared.entry.Entry.{Entry}
 use Rattle.bundles.specs.Records.{entriesIn, isWrong}
 use Rattle.cells.specs.Checks.{busy, busyByOther, givenOut, isClient, joinable, joined, logFull, noneLeft, openElsewhere, stale}
 use Rattle.cells.specs.Order.{order}
-use Rattle.table.specs.Halves.{bytes, cellsOf, isTable}
+use Rattle.plain.specs.Calls as Paper
+use Rattle.table.specs.Halves as Halves
+use Rattle.table.specs.Halves.{cellsOf, isTable}
 use Rattle.table.specs.Answers.{Out, afterTaken, check, named, refused}
-use Rattle.table.specs.Calls.{bundleOut, fillIn, fillOut, forkOut, freshOut, joinOut, listOut, noFill, noProspect, previewOut, queryOut, sentOut, settled, shownOut, updateOut, yieldOut}
+use Rattle.table.specs.Calls.{bundleOut, entriesOut, fillIn, fillOut, forkOut, freshOut, joinOut, listOut, noFill, noProspect, previewOut, queryOut, sentOut, settled, shownOut, updateOut, yieldOut}
 use Rattle.table.specs.declared.answer.Level.{Level}
 use Rattle.table.specs.declared.answer.Prospect.{Prospect}
 use Rattle.consistency.specs.Table.{Request, Update, Query, Yield, Fork, Join, Show, Fill, Bundle, Preview}
@@ -138,12 +140,16 @@ unfolding sentOut
 sent-low [] t c n = code-low (yield-ends t c)
 sent-low (e ∷ es) t c n = after-low (updateOut t c n (e .kind) (e .bib) (e .v)) (λ d. sentOut d c n es) (code-low (update-ends t c n (e .kind) (e .bib) (e .v))) (λ d. sent-low es d c n)
 
-bundle-ends : (t : List ℕ) (c n : ℕ) (records : List ℕ) → OutEnds t (bundleOut t c n records)
+settled-ends : (t : List ℕ) (c n : ℕ) (es : List Entry) → OutEnds t (settled t (sentOut t c n es))
+settled-ends t c n es = by-cond (eqb (sentOut t c n es .code) 0) (λ e. yes refl) (λ e. no _ (sent-low es t c n))
+
+bundle-ends : (t : List ℕ) (c n : ℕ) (bytes : List ℕ) → OutEnds t (bundleOut t c n bytes)
 unfolding bundleOut
-bundle-ends t c n records =
-    by-check (not (isTable t)) 1 refl (
-    by-check (isWrong records) 14 refl (
-    by-cond (eqb (sentOut t c n (entriesIn records) .code) 0) (λ e. yes refl) (λ e. no _ (sent-low (entriesIn records) t c n))))
+bundle-ends t c n bytes = by-check (not (isTable t)) 1 refl (by-check (isWrong bytes) 14 refl (settled-ends t c n (entriesIn bytes)))
+
+entries-ends : (t : List ℕ) (c n : ℕ) (es : List Entry) → OutEnds t (entriesOut t c n es)
+unfolding entriesOut
+entries-ends t c n es = by-check (not (isTable t)) 1 refl (by-check (eqb (length es) 0 || ltb 64 (length es)) 14 refl (settled-ends t c n es))
 
 -- what a refusal has
 out-refused : {lent : List ℕ} {o : Out} → OutEnds lent o → (o .code ≡ 0 → ⊥) → (o .code < 15) × (o .value ≡ 0) × (o .state ≡ Neither) × (o .lent ≡ lent)
@@ -166,9 +172,10 @@ refusals-change-nothing t (Fork n) e = let r = out-refused (fork-ends t n) e in 
 refusals-change-nothing t (Join n m) e = let r = out-refused (join-ends t n m) e in record { number = r .0; value = r .1; state = r .2; total = refl; gain = refl; table = r .3; sheet = refl }
 refusals-change-nothing t (Show n s) e = let r = out-refused (list-ends t n s) e in record { number = r .0; value = r .1; state = r .2; total = refl; gain = refl; table = refl; sheet = r .3 }
 refusals-change-nothing t (Fill n) e = let r = level-refused (fill-ends t n) e in record { number = r .0; value = r .1; state = refl; total = r .2; gain = refl; table = refl; sheet = refl }
-refusals-change-nothing t (Bundle c n records) e = let r = out-refused (bundle-ends t c n records) e in record { number = r .0; value = r .1; state = r .2; total = refl; gain = refl; table = r .3; sheet = refl }
+refusals-change-nothing t (Bundle c n (Paper.Records bytes)) e = let r = out-refused (bundle-ends t c n bytes) e in record { number = r .0; value = r .1; state = r .2; total = refl; gain = refl; table = r .3; sheet = refl }
+refusals-change-nothing t (Bundle c n (Paper.Entries es)) e = let r = out-refused (entries-ends t c n es) e in record { number = r .0; value = r .1; state = r .2; total = refl; gain = refl; table = r .3; sheet = refl }
 refusals-change-nothing t (Preview n m bib) e = let r = prospect-refused (preview-ends t n m bib) e in record { number = r .0; value = r .1; state = r .2; total = refl; gain = r .3; table = refl; sheet = refl }
 
 pub fresh-refused : FreshRefused
 unfolding freshOut
-fresh-refused t n = cases (not (eqb (length t) bytes)) (λ e. rw e (refl, refl, refl)) (λ e. absurd (n (rw e)))
+fresh-refused t n = cases (not (eqb (length t) Halves.bytes)) (λ e. rw e (refl, refl, refl)) (λ e. absurd (n (rw e)))

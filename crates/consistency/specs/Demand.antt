@@ -41,7 +41,7 @@ asked (Paper.Fork n) = Fork n
 asked (Paper.Join n m) = Join n m
 asked (Paper.Show n room) = Show n (replicate room 0)
 asked (Paper.Fill n) = Fill n
-asked (Paper.Bundle c n records) = Bundle c n records
+asked (Paper.Bundle c n batch) = Bundle c n batch
 asked (Paper.Preview n m bib) = Preview n m bib
 
 abbrev pub asking : List Call → List Request

@@ -15,7 +15,7 @@ sheetOf (Fork n) = []
 sheetOf (Join n m) = []
 sheetOf (Show n sheet) = sheet
 sheetOf (Fill n) = []
-sheetOf (Bundle c n records) = []
+sheetOf (Bundle c n batch) = []
 sheetOf (Preview n m bib) = []
 
 -- "its number from the list": 1 to 14. "table and sheet keep every byte"; 02: "a refused one neither", "in a refusal both are 0", "state neither and gain 0"

@@ -9,11 +9,11 @@ use Rattle.updates.specs.declared.standing.State.the-variants.{Neither}
 use Rattle.entries.specs.declared.entry.Entry as Stored
 use Rattle.listing.specs.Lines.{line}
 use Rattle.plain.specs.Calls as Paper
-use Rattle.plain.specs.Calls.{Call, Entry, Line, Answer}
+use Rattle.plain.specs.Calls.{Call, Entry, Line, Answer, Batch}
 use Rattle.plain.specs.Answers.{answers}
 use Rattle.table.specs.Halves.{bytes}
 use Rattle.table.specs.Answers.{Out}
-use Rattle.table.specs.Calls.{freshOut, updateOut, queryOut, yieldOut, forkOut, joinOut, listOut, fillOut, bundleOut, previewOut}
+use Rattle.table.specs.Calls.{freshOut, updateOut, queryOut, yieldOut, forkOut, joinOut, listOut, fillOut, bundleOut, entriesOut, previewOut}
 use Rattle.table.specs.declared.answer.Level.{Level}
 use Rattle.table.specs.declared.answer.Prospect.{Prospect}
 
@@ -26,7 +26,7 @@ pub data Request : Type 0 where
   Join : (joiner joinee : ℕ) → Request
   Show : (revision : ℕ) (sheet : List ℕ) → Request
   Fill : (revision : ℕ) → Request
-  Bundle : (client revision : ℕ) (records : List ℕ) → Request
+  Bundle : (client revision : ℕ) (batch : Batch) → Request
   Preview : (joiner joinee bib : ℕ) → Request
 
 -- the same call on paper: "(of a sheet only the length)"
@@ -38,7 +38,7 @@ onPaper (Fork n) = Paper.Fork n
 onPaper (Join n m) = Paper.Join n m
 onPaper (Show n sheet) = Paper.Show n (length sheet)
 onPaper (Fill n) = Paper.Fill n
-onPaper (Bundle c n records) = Paper.Bundle c n records
+onPaper (Bundle c n batch) = Paper.Bundle c n batch
 onPaper (Preview n m bib) = Paper.Preview n m bib
 
 abbrev pub calls : List Request → List Call
@@ -80,7 +80,8 @@ served t (Fork n) = onTable (forkOut t n)
 served t (Join n m) = onTable (joinOut t n m)
 served t (Show n sheet) = onSheet t (listOut t n sheet)
 served t (Fill n) = onLevel t (fillOut t n)
-served t (Bundle c n records) = onTable (bundleOut t c n records)
+served t (Bundle c n (Paper.Records bytes)) = onTable (bundleOut t c n bytes)
+served t (Bundle c n (Paper.Entries es)) = onTable (entriesOut t c n es)
 served t (Preview n m bib) = onProspect t (previewOut t n m bib)
 
 -- the replies of a table to a list of calls, each getting it as the last one left it
@@ -114,7 +115,7 @@ sheetAfter (Fork n) a = []
 sheetAfter (Join n m) a = []
 sheetAfter (Show n sheet) a = sheetWith (a .lines) sheet
 sheetAfter (Fill n) a = []
-sheetAfter (Bundle c n records) a = []
+sheetAfter (Bundle c n batch) a = []
 sheetAfter (Preview n m bib) a = []
 
 abbrev pub said : Request → Answer → Reply

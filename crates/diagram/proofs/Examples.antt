@@ -8,6 +8,7 @@ use Rattle.lists.specs.Sums.{anyBelow}
 use Rattle.diagram.specs.Sizes.{revisionLimit, clientLimit, updateLimit}
 use Rattle.diagram.proofs.Graph.Paths.{leads-path}
 use Rattle.diagram.specs.Diagram.{event, fork, join, leads, newest, root, start}
+use Rattle.diagram.specs.Pool.{pool, poolFrom}
 use Rattle.diagram.specs.Construction.{Constructed, entered, forked, joined}
 use Rattle.diagram.specs.Effects.{tabulate, view, startVertex, forkVertex}
 use Rattle.diagram.specs.Day.{Day, fresh}
@@ -87,6 +88,15 @@ second-half-fails = refl
 applied-twice : view childJoinsParent 6 ≡ 0 ∷ 0 ∷ []
 unfolding tabulate
 applied-twice = refl
+
+-- 002, section 4.3: box 0 sends 1, and 1 sends 2: 0 may join 1 alone, 1 may join 2, and 2 nobody; once 0 has joined 1 it may join 2. A box that is
+-- sent later may join whom its sender may
+pools :
+    (pool (Fork 0 ∷ Fork 1 ∷ []) 0 1 ∷ pool (Fork 0 ∷ Fork 1 ∷ []) 0 2 ∷ pool (Fork 0 ∷ Fork 1 ∷ []) 1 2 ∷ pool (Fork 0 ∷ Fork 1 ∷ []) 2 1 ∷ pool (Fork 0 ∷ Fork 1 ∷ Join 0 1 ∷ []) 0 2
+    ∷ pool (Fork 0 ∷ Fork 0 ∷ []) 2 1 ∷ pool (Fork 0 ∷ Fork 0 ∷ []) 1 2 ∷ [])
+    ≡ true ∷ false ∷ true ∷ false ∷ true ∷ true ∷ false ∷ []
+unfolding pool poolFrom after
+pools = refl
 
 -- 002, Definition 6: what no construction makes. A second event, or a fork, at a vertex that is no terminal
 no-second-event : Constructed (event 0 0 none ∷ event 0 0 none ∷ root ∷ []) → ⊥

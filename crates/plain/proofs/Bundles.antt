@@ -7,17 +7,18 @@ use mathlib.Core.List.{List, [], _∷_}
 use native.Mathlib.Omega.{arith}
 use lib.Dec.{eqb}
 use lib.ListN.{length}
-use borrow.Author.Tests.{ne-eqb}
+use borrow.Author.Tests.{eqb-false, ne-eqb}
+use Rattle.lists.proofs.Cases.{or-false}
 use Rattle.lists.proofs.Changed.{changed-other}
 use Rattle.updates.specs.declared.kind.Kind.{Kind}
 use Rattle.bundles.specs.declared.entry.Entry.{Entry}
-use Rattle.bundles.specs.Records.{entriesIn, isWrong}
+use Rattle.bundles.specs.Records.{entryAt}
 use Rattle.bundles.proofs.First.{first-entry}
 use Rattle.diagram.specs.Day.{meant}
 use Rattle.diagram.specs.Steps as Steps
 use Rattle.diagram.specs.Steps.{AcceptedFrom, Event, Step, accepted, after, runFrom}
 use Rattle.diagram.proofs.Days.Moves.{yield-updates}
-use Rattle.plain.specs.Calls.{Update, Yield, Bundle}
+use Rattle.plain.specs.Calls.{Update, Yield, Bundle, Records, Entries, Batch, entriesOf, isWrongBatch}
 use Rattle.plain.specs.Record.{PlainDay, noted}
 use Rattle.plain.specs.Answers.{Outcome, afterTaken, bundled, called, dayFrom, refused, sent, taken}
 use Rattle.plain.specs.Taken.{bundleSteps}
@@ -119,32 +120,41 @@ sent-means p c n e es z =
     let h = first-taken p c n (e .kind) (e .bib) (e .v) (update-ends p c n (e .kind) (e .bib) (e .v)) (λ q. sent q c n es) z in
     (h .step .revision, h .step .means)
 
-pub record BundleTaken (p : PlainDay) (c n : ℕ) (records : List ℕ) (o : Outcome) : Type 0 where
-  pub right : isWrong records ≡ false
+-- a batch that is not wrong has a first entry
+some-entry : (es : List Entry) → (length es ≡ 0 → ⊥) → (e : Entry) × (rest : List Entry) × (es ≡ e ∷ rest)
+some-entry [] h = absurd (h refl)
+some-entry (e ∷ es) h = (e, es, refl)
+
+pub first-of : (batch : Batch) → isWrongBatch batch ≡ false → (e : Entry) × (rest : List Entry) × (entriesOf batch ≡ e ∷ rest)
+first-of (Records bytes) h = let f = first-entry bytes h in (entryAt bytes 0, f .0, f .1)
+first-of (Entries es) h = some-entry es (eqb-false (length es) 0 (or-false (eqb (length es) 0) _ h .0))
+
+pub record BundleTaken (p : PlainDay) (c n : ℕ) (batch : Batch) (o : Outcome) : Type 0 where
+  pub right : isWrongBatch batch ≡ false
   pub revision : ℕ
   pub means : meant (p .day) n ≡ some revision
-  pub all : sent p c n (entriesIn records) .answer .code ≡ 0
-  pub is : o ≡ taken (sent p c n (entriesIn records) .next) (p .day .updates)
+  pub all : sent p c n (entriesOf batch) .answer .code ≡ 0
+  pub is : o ≡ taken (sent p c n (entriesOf batch) .next) (p .day .updates)
 
-by-sent : (p : PlainDay) (c n : ℕ) (records : List ℕ) → isWrong records ≡ false → SentEnds (sent p c n (entriesIn records)) → Ends p (BundleTaken p c n records) (bundled p (sent p c n (entriesIn records)))
-by-sent p c n records e (stops k z) = subst (Ends p (BundleTaken p c n records)) (sym (ends ∙ ap (refused p) z)) (no k)
+by-sent : (p : PlainDay) (c n : ℕ) (batch : Batch) → isWrongBatch batch ≡ false → SentEnds (sent p c n (entriesOf batch)) → Ends p (BundleTaken p c n batch) (bundled p (sent p c n (entriesOf batch)))
+by-sent p c n batch e (stops k z) = subst (Ends p (BundleTaken p c n batch)) (sym (ends ∙ ap (refused p) z)) (no k)
   where
     o : Outcome
-    o = sent p c n (entriesIn records)
+    o = sent p c n (entriesOf batch)
 
     ends : bundled p o ≡ refused p (o .answer .code)
     ends = rw (ap (λ i. eqb i 0) z ∙ ne-eqb (suc (suc k)) 0 (λ q. omega arith))
-by-sent p c n records e (passes z) = yes {o = bundled p (sent p c n (entriesIn records))} (record { right = e; revision = means .0; means = means .1; all = z; is = rw z })
+by-sent p c n batch e (passes z) = yes {o = bundled p (sent p c n (entriesOf batch))} (record { right = e; revision = means .0; means = means .1; all = z; is = rw z })
   where
     means : (r : ℕ) × (meant (p .day) n ≡ some r)
-    means = let f = first-entry records e in sent-means p c n _ (f .0) (ap (λ es. sent p c n es .answer .code) (sym (f .1)) ∙ z)
+    means = let f = first-of batch e in sent-means p c n (f .0) (f .1) (ap (λ es. sent p c n es .answer .code) (sym (f .2)) ∙ z)
 
-pub bundle-ends : (p : PlainDay) (c n : ℕ) (records : List ℕ) → Ends p (BundleTaken p c n records) (called p (Bundle c n records))
+pub bundle-ends : (p : PlainDay) (c n : ℕ) (batch : Batch) → Ends p (BundleTaken p c n batch) (called p (Bundle c n batch))
 unfolding called
-bundle-ends p c n records = by-check (isWrong records) 12 _ λ e14. by-sent p c n records e14 (sent-ends (entriesIn records) p c n)
+bundle-ends p c n batch = by-check (isWrongBatch batch) 12 _ λ e14. by-sent p c n batch e14 (sent-ends (entriesOf batch) p c n)
 
-pub bundle-ran : (p : PlainDay) (c n : ℕ) (records : List ℕ) (o : Outcome) (h : BundleTaken p c n records o) → RanTo p (o .next) (bundleSteps c (h .revision) (entriesIn records)) (length (entriesIn records))
-bundle-ran p c n records o h = subst (λ o. RanTo p (o .next) (bundleSteps c (h .revision) (entriesIn records)) (length (entriesIn records))) (sym (h .is)) (sent-ran c n (h .revision) (entriesIn records) p (h .means) (h .all))
+pub bundle-ran : (p : PlainDay) (c n : ℕ) (batch : Batch) (o : Outcome) (h : BundleTaken p c n batch o) → RanTo p (o .next) (bundleSteps c (h .revision) (entriesOf batch)) (length (entriesOf batch))
+bundle-ran p c n batch o h = subst (λ o. RanTo p (o .next) (bundleSteps c (h .revision) (entriesOf batch)) (length (entriesOf batch))) (sym (h .is)) (sent-ran c n (h .revision) (entriesOf batch) p (h .means) (h .all))
 
 -- an update that is taken has the next number
 pub update-number : (p : PlainDay) (c n k bib v : ℕ) → called p (Update c n k bib v) .answer .code ≡ 0 → p .day .updates ≡ called p (Update c n k bib v) .answer .value

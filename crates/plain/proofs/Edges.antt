@@ -19,10 +19,10 @@ use Rattle.diagram.specs.Day.{meant, nextNumber}
 use Rattle.diagram.specs.Checks.{unknownClient, openElsewhere, busyByOther, busy, stale, logFull, noneLeft, notJoinable}
 use Rattle.diagram.specs.Steps.{after}
 use Rattle.diagram.specs.Examples.{withCounts}
-use Rattle.plain.specs.Calls.{Call, Update, Query, Yield, Fork, Join, Show, Fill, Bundle, Entry, Line}
+use Rattle.plain.specs.Calls.{Call, Update, Query, Yield, Fork, Join, Show, Fill, Entry, Line}
 use Rattle.plain.specs.Record.{PlainDay, freshDay}
 use Rattle.plain.specs.Answers.{called, sent, dayFrom, dayAfter, answersFrom, answers}
-use Rattle.plain.specs.Edges.{edges, codes, said, expected, computed, ok, refusal, neither, filled, small, unknownBib}
+use Rattle.plain.specs.Edges.{edges, codes, said, expected, computed, ok, refusal, neither, filled, sends, small, unknownBib}
 
 pub edges-hold : computed edges ≡ expected edges
 unfolding called answersFrom answers after leads tabulate meant nextNumber unknownClient openElsewhere busyByOther busy anyBelow stale logFull noneLeft notJoinable revisionLimit clientLimit updateLimit kindCheck effect earliest penalized stateOf valueIn applied sent entriesIn entriesFrom isWrong number
@@ -73,13 +73,13 @@ unfolding called answersFrom answers after leads tabulate meant nextNumber unkno
 fills-told = (refl, refl)
 
 -- a bundle on a log that has room for one more: 9 of its second entry, before 5 of its third, after 5 of the second itself
-bundle-fills-log : said (answersFrom (counted 4095 1) (Bundle 0 0 (small 1 7 5 ++ small 1 7 5 ++ unknownBib) ∷ Bundle 0 0 (small 1 7 5 ++ unknownBib) ∷ Bundle 0 0 (small 1 7 5) ∷ Bundle 0 0 (small 1 7 5) ∷ []))
+bundle-fills-log : said (answersFrom (counted 4095 1) (sends 0 0 (small 1 7 5 ++ small 1 7 5 ++ unknownBib) ∷ sends 0 0 (small 1 7 5 ++ unknownBib) ∷ sends 0 0 (small 1 7 5) ∷ sends 0 0 (small 1 7 5) ∷ []))
     ≡ refusal 9 ∷ refusal 5 ∷ ok 4095 ∷ refusal 9 ∷ []
 unfolding called answersFrom answers after leads tabulate meant nextNumber unknownClient openElsewhere busyByOther busy anyBelow stale logFull noneLeft notJoinable revisionLimit clientLimit updateLimit kindCheck effect earliest penalized stateOf valueIn applied sent entriesIn entriesFrom isWrong number
 bundle-fills-log = refl
 
 -- 64 records are taken, 65 are 14, and so are bytes that are not a multiple of 12
-most-records : said (answersFrom freshDay (Bundle 0 0 (replicate 780 1) ∷ Bundle 0 0 (replicate 767 1) ∷ Bundle 0 0 (replicate 768 1) ∷ Fill 0 ∷ []))
+most-records : said (answersFrom freshDay (sends 0 0 (replicate 780 1) ∷ sends 0 0 (replicate 767 1) ∷ sends 0 0 (replicate 768 1) ∷ Fill 0 ∷ []))
     ≡ refusal 14 ∷ refusal 14 ∷ ok 0 ∷ filled 64 64 ∷ []
 unfolding called answersFrom answers after leads tabulate meant nextNumber unknownClient openElsewhere busyByOther busy anyBelow stale logFull noneLeft notJoinable revisionLimit clientLimit updateLimit kindCheck effect earliest penalized stateOf valueIn applied sent entriesIn entriesFrom isWrong number
 most-records = refl

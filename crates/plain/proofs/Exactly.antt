@@ -7,10 +7,9 @@ use mathlib.Core.List.{List, [], _∷_}
 use lib.ListN.{length}
 use borrow.Author.Tests.{le-ltb, ltb-false}
 use Rattle.bundles.specs.declared.entry.Entry.{Entry}
-use Rattle.bundles.specs.Records.{entriesIn}
 use Rattle.diagram.specs.Steps.{Event}
 use Rattle.diagram.proofs.Days.Accepting.{event-tests, fork-tests, join-tests, yield-test}
-use Rattle.plain.specs.Calls.{Call, Update, Query, Yield, Fork, Join, Show, Fill, Bundle, Preview}
+use Rattle.plain.specs.Calls.{Call, Update, Query, Yield, Fork, Join, Show, Fill, Bundle, Preview, entriesOf}
 use Rattle.plain.specs.Record.{PlainDay}
 use Rattle.plain.specs.Answers.{called, joining, sent}
 use Rattle.plain.specs.Bundles.{AllTaken, parts}
@@ -40,9 +39,9 @@ taken-allowed p (Show n room) e =
 taken-allowed p (Fill n) e =
     let h = was-taken (fill-ends p n) e in
     record { revision = h .revision; means = h .means; holds = h .out }
-taken-allowed p (Bundle c n records) e =
-    let h = was-taken (bundle-ends p c n records) e in
-    (h .right, sent-parts c n (h .revision) (entriesIn records) p (h .means) (h .all) .0)
+taken-allowed p (Bundle c n batch) e =
+    let h = was-taken (bundle-ends p c n batch) e in
+    (h .right, sent-parts c n (h .revision) (entriesOf batch) p (h .means) (h .all) .0)
 taken-allowed p (Preview n m bib) e =
     let h = was-taken (preview-ends p n m bib) e in
     (join-means p n m (h .join), h .known-bib)
@@ -73,7 +72,7 @@ allowed-taken p (Fork n) A =
 allowed-taken p (Join n m) A = join-taken p n m A
 allowed-taken p (Show n room) A = rw (A .means, A .holds .0, A .holds .1, le-ltb room _ (A .holds .2))
 allowed-taken p (Fill n) A = rw (A .means, A .holds)
-allowed-taken p (Bundle c n records) A = rw (A .0, sent-taken (entriesIn records) p c n (A .1))
+allowed-taken p (Bundle c n batch) A = rw (A .0, sent-taken (entriesOf batch) p c n (A .1))
 allowed-taken p (Preview n m bib) A = rw (join-taken p n m (A .0), A .1)
 
 pub exactly : (p : PlainDay) (c : Call) → (called p c .answer .code ≡ 0) ↔ Allowed p c

@@ -38,7 +38,7 @@ refused-none (Fork n) i = refl
 refused-none (Join n m) i = refl
 refused-none (Show n room) i = refl
 refused-none (Fill n) i = refl
-refused-none (Bundle c n records) i = rw (ne-eqb (suc (suc i)) 0 (λ e. omega arith))
+refused-none (Bundle c n batch) i = rw (ne-eqb (suc (suc i)) 0 (λ e. omega arith))
 refused-none (Preview n m bib) i = refl
 
 adds-end : (p : PlainDay) {Yes : Outcome → Type 0} {o : Outcome} (c : Call) → ((o : Outcome) → Yes o → Adds p c o) → Ends p Yes o → Adds p c o
@@ -54,7 +54,7 @@ adds p (Fork n) = adds-end p (Fork n) (λ o h. rw (h .is) (none-more (p .day .up
 adds p (Join n m) = adds-end p (Join n m) (λ o h. rw (h .is) (none-more (p .day .updates))) (join-ends p n m)
 adds p (Show n room) = adds-end p (Show n room) (λ o h. rw (h .is) (none-more (p .day .updates))) (show-ends p n room)
 adds p (Fill n) = adds-end p (Fill n) (λ o h. rw (h .is) (none-more (p .day .updates))) (fill-ends p n)
-adds p (Bundle c n records) = adds-end p (Bundle c n records) (λ o h. bundle-ran p c n records o h .more ∙ ap (λ k. p .day .updates + countsOne (Bundle c n records) k) (sym (ap (λ z. z .answer .code) (h .is)))) (bundle-ends p c n records)
+adds p (Bundle c n batch) = adds-end p (Bundle c n batch) (λ o h. bundle-ran p c n batch o h .more ∙ ap (λ k. p .day .updates + countsOne (Bundle c n batch) k) (sym (ap (λ z. z .answer .code) (h .is)))) (bundle-ends p c n batch)
 adds p (Preview n m bib) = adds-end p (Preview n m bib) (λ o h. rw (h .is) (none-more (p .day .updates))) (preview-ends p n m bib)
 
 counted-from : (cs : List Call) (p : PlainDay) → dayFrom p cs .day .updates ≡ p .day .updates + acceptedIn cs (codesOf (answersFrom p cs))

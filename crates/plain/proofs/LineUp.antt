@@ -7,8 +7,6 @@ use mathlib.Core.List.{List, List·Memᴰ·head, List·Memᴰ·tail, [], _++_, _
 use native.Mathlib.Omega.{arith}
 use lib.ListN.{length}
 use Rattle.bundles.specs.declared.entry.Entry as Sent
-use Rattle.bundles.proofs.First.{first-entry}
-use Rattle.bundles.specs.Records.{entriesIn, entryAt}
 use Rattle.diagram.proofs.Days.Accepting.{meant-low}
 use Rattle.diagram.proofs.Days.Moves.{step-moves}
 use Rattle.diagram.proofs.Graph.Visible.{visible}
@@ -30,7 +28,7 @@ use Rattle.diagram.specs.Steps.{Accepted, AcceptedFrom, Event, Step, after, run
 use Rattle.lists.proofs.Blocks.{flat-from}
 use Rattle.lists.proofs.Changed.{changed-same}
 use Rattle.lists.specs.Lists.{_∈_}
-use Rattle.plain.proofs.Bundles.{bundle-ends, sent-parts, update-number}
+use Rattle.plain.proofs.Bundles.{bundle-ends, first-of, sent-parts, update-number}
 use Rattle.plain.proofs.Ends.{QueryTaken, ShowTaken, UpdateTaken, query-ends, show-ends, update-ends, was-taken}
 use Rattle.plain.proofs.Exactly.{exactly}
 use Rattle.plain.proofs.Values.{fill-value, fork-value, join-value}
@@ -38,7 +36,7 @@ use Rattle.plain.proofs.Previews.{foresees}
 use Rattle.plain.proofs.Steps.{day-both, did, ran, steps-both}
 use Rattle.plain.specs.Taken.{bundleSteps, ifTaken, onRevision, stepOf, stepsAfter, stepsFrom, stepsOf}
 use Rattle.plain.specs.Answers.{called, dayAfter, dayFrom, shown, stepped}
-use Rattle.plain.specs.Calls.{Bundle, Call, Entry, Fill, Fork, Join, Query, Show, Update, Yield, Preview}
+use Rattle.plain.specs.Calls.{Bundle, Call, Entry, Fill, Fork, Join, Query, Show, Update, Yield, Preview, Batch, entriesOf}
 use Rattle.plain.specs.Bundles.{AllTaken, Bundled, parts}
 use Rattle.plain.specs.LineUp.{AnsweredBy, GrowsEach, LineUp, ListedBy, Taken, endOf}
 use Rattle.plain.specs.Record.{PlainDay, freshDay, linesOf, noted, ofBib, pathResult, standingOf}
@@ -91,7 +89,7 @@ short-step p (Fork n) = short-on (meant (p .day) n) _ (λ r. one-of _)
 short-step p (Join n m) = short-on (meant (p .day) n) _ (λ a. short-on (meant (p .day) m) _ (λ b. one-of _))
 short-step p (Show n room) = none-of
 short-step p (Fill n) = none-of
-short-step p (Bundle c n records) = short-on (meant (p .day) n) _ (λ r. sent-of c r (entriesIn records))
+short-step p (Bundle c n batch) = short-on (meant (p .day) n) _ (λ r. sent-of c r (entriesOf batch))
 short-step p (Preview n m bib) = none-of
 
 short-if : (k : ℕ) (ss : List Step) → Short ss → Short (ifTaken k ss)
@@ -269,27 +267,29 @@ module _ (cs : List Call) where
       same-kind : h .kind ≡ kind
       same-kind = let g = h .is-kind in cc
 
-  bundles : (before rest : List Call) (c n : ℕ) (records : List ℕ) → Taken cs before (Bundle c n records) rest → Bundled before c n records
-  bundles before rest c n records T =
+  bundles : (before rest : List Call) (c n : ℕ) (batch : Batch) → Taken cs before (Bundle c n batch) rest → Bundled before c n batch
+  bundles before rest c n batch T =
       let q = dayAfter before in
-      let h = was-taken (bundle-ends q c n records) (T .code) in
-      let s = sent-parts c n (h .revision) (entriesIn records) q (h .means) (h .all) in
-      let f = first-entry records (h .right) in
-      let e = entryAt records 0 in
-      let first = subst (λ es. AllTaken q (parts c n es)) (f .1) (s .0) .0 in
+      let h = was-taken (bundle-ends q c n batch) (T .code) in
+      let s = sent-parts c n (h .revision) (entriesOf batch) q (h .means) (h .all) in
+      let f = first-of batch (h .right) in
+      let first = subst (λ es. AllTaken q (parts c n es)) (f .2) (s .0) .0 in
       record {
         right = h .right;
         each = s .0;
         day = ap (λ o. o .next) (h .is) ∙ s .1;
-        value = ap (λ o. o .answer .value) (h .is) ∙ update-number q c n (e .kind) (e .bib) (e .v) first;
+        first = f .0;
+        others = f .1;
+        begins = f .2;
+        value = ap (λ o. o .answer .value) (h .is) ∙ update-number q c n (f .0 .kind) (f .0 .bib) (f .0 .v) first;
       }
 
-  unbundled : (before rest : List Call) (c n : ℕ) (records : List ℕ) → Taken cs before (Bundle c n records) rest → dayAfter cs ≡ dayAfter (before ++ (parts c n (entriesIn records) ++ rest))
+  unbundled : (before rest : List Call) (c n : ℕ) (batch : Batch) → Taken cs before (Bundle c n batch) rest → dayAfter cs ≡ dayAfter (before ++ (parts c n (entriesOf batch) ++ rest))
   unfolding dayFrom dayAfter
-  unbundled before rest c n records T =
-      day-is before (Bundle c n records) rest T
-      ∙ ap (λ p. dayFrom p rest) (bundles before rest c n records T .day)
-      ∙ sym (day-both before (parts c n (entriesIn records) ++ rest) freshDay ∙ day-both (parts c n (entriesIn records)) rest (dayAfter before))
+  unbundled before rest c n batch T =
+      day-is before (Bundle c n batch) rest T
+      ∙ ap (λ p. dayFrom p rest) (bundles before rest c n batch T .day)
+      ∙ sym (day-both before (parts c n (entriesOf batch) ++ rest) freshDay ∙ day-both (parts c n (entriesOf batch)) rest (dayAfter before))
 
   pub lined-up : LineUp cs
   lined-up = record {

@@ -19,5 +19,5 @@ never-one p (Fork n) = not-one (λ o h. ap (λ (o : Outcome). o .answer .code) (
 never-one p (Join n m) = not-one (λ o h. ap (λ (o : Outcome). o .answer .code) (h .is)) (join-ends p n m)
 never-one p (Show n room) = not-one (λ o h. ap (λ (o : Outcome). o .answer .code) (h .is)) (show-ends p n room)
 never-one p (Fill n) = not-one (λ o h. ap (λ (o : Outcome). o .answer .code) (h .is)) (fill-ends p n)
-never-one p (Bundle c n records) = not-one (λ o h. ap (λ (o : Outcome). o .answer .code) (h .is)) (bundle-ends p c n records)
+never-one p (Bundle c n batch) = not-one (λ o h. ap (λ (o : Outcome). o .answer .code) (h .is)) (bundle-ends p c n batch)
 never-one p (Preview n m bib) = not-one (λ o h. ap (λ (o : Outcome). o .answer .code) (h .is)) (preview-ends p n m bib)

@@ -5,7 +5,6 @@ use mathlib.Core.Path.{_∙_, _≡_, ap, refl, subst, sym}
 use mathlib.Core.Option.{Option, none, some}
 use mathlib.Core.List.{List, [], _++_, _∷_, append-assoc}
 use native.Mathlib.Omega.{arith}
-use Rattle.bundles.specs.Records.{entriesIn}
 use Rattle.diagram.proofs.Order.Runs.{accepted-both, run-both}
 use Rattle.diagram.specs.Day.{Day, meant}
 use Rattle.diagram.specs.Steps.{AcceptedFrom, Event, Step, accepted, after, runFrom, yield}
@@ -13,7 +12,7 @@ use Rattle.lists.proofs.Changed.{changed-other}
 use Rattle.plain.proofs.Ends.{Ends, fill-ends, fork-ends, join-ends, no, query-ends, show-ends, update-ends, yes, yield-ends, preview-ends}
 use Rattle.plain.proofs.Bundles.{RanTo, bundle-ends, bundle-ran}
 use Rattle.plain.specs.Answers.{Outcome, called, dayFrom, stepped, taken}
-use Rattle.plain.specs.Calls.{Answer, Bundle, Call, Fill, Fork, Join, Query, Show, Update, Yield, Preview}
+use Rattle.plain.specs.Calls.{Answer, Bundle, Call, Fill, Fork, Join, Query, Show, Update, Yield, Preview, entriesOf}
 use Rattle.plain.specs.Taken.{bundleSteps, ifTaken, onRevision, stepOf, stepsFrom, stepsOf}
 use Rattle.plain.specs.Record.{PlainDay, noted}
 use Rattle.updates.specs.declared.kind.Kind.{Kind}
@@ -66,9 +65,9 @@ did p (Join n m) =
     (join-ends p n m)
 did p (Show n room) = did-end (λ o h. rw (h .is) (record { accepts = tt; same = refl; more = omega arith; kept = λ i q. refl })) (show-ends p n room)
 did p (Fill n) = did-end (λ o h. rw (h .is) (record { accepts = tt; same = refl; more = omega arith; kept = λ i q. refl })) (fill-ends p n)
-did p (Bundle c n records) =
-    did-end (λ o h. subst (λ m. Did p o (onRevision m (λ r. bundleSteps c r (entriesIn records)))) (sym (h .means)) (did-ran p _ _ o (ap (λ z. z .answer .code) (h .is)) (bundle-ran p c n records o h)))
-    (bundle-ends p c n records)
+did p (Bundle c n batch) =
+    did-end (λ o h. subst (λ m. Did p o (onRevision m (λ r. bundleSteps c r (entriesOf batch)))) (sym (h .means)) (did-ran p _ _ o (ap (λ z. z .answer .code) (h .is)) (bundle-ran p c n batch o h)))
+    (bundle-ends p c n batch)
 did p (Preview n m bib) = did-end (λ o h. rw (h .is) (record { accepts = tt; same = refl; more = omega arith; kept = λ i q. refl })) (preview-ends p n m bib)
 
 -- whole lists of calls

@@ -8,13 +8,12 @@ use lib.ListN.{length}
 use Rattle.updates.specs.declared.kind.Kind.{Kind}
 use Rattle.updates.specs.declared.kind.KindCheck.the-variants.{Known}
 use Rattle.updates.specs.Kinds.{kindCheck, badBib}
-use Rattle.bundles.specs.Records.{entriesIn, isWrong}
 use Rattle.diagram.specs.Effects.{view}
 use Rattle.diagram.specs.Day.{Day, meant}
 use Rattle.diagram.specs.Checks.{busy}
 use Rattle.diagram.specs.Steps as Steps
 use Rattle.diagram.specs.Steps.{Event, accepted}
-use Rattle.plain.specs.Calls.{Call, Update, Query, Yield, Fork, Join, Show, Fill, Bundle, Preview}
+use Rattle.plain.specs.Calls.{Call, Update, Query, Yield, Fork, Join, Show, Fill, Bundle, Preview, entriesOf, isWrongBatch}
 use Rattle.plain.specs.Record.{PlainDay}
 use Rattle.plain.specs.Bundles.{AllTaken, parts}
 
@@ -45,5 +44,5 @@ Allowed p (Show n room) =
     Meaning (p .day) n (λ r. (p .day .joined r ≡ false) × (busy (p .day) r ≡ false) × (12 * length (view (p .day .diagram) (p .day .terminal r)) ≤ room))
 Allowed p (Fill n) = Meaning (p .day) n (λ r. p .day .joined r ≡ false)
 -- a right bundle, whose updates and yield are taken one by one
-Allowed p (Bundle c n records) = (isWrong records ≡ false) × AllTaken p (parts c n (entriesIn records))
+Allowed p (Bundle c n batch) = (isWrongBatch batch ≡ false) × AllTaken p (parts c n (entriesOf batch))
 Allowed p (Preview n m bib) = JoinAllowed p n m × (badBib bib ≡ false)

@@ -14,13 +14,12 @@ use Rattle.updates.specs.declared.standing.State.the-variants as state
 use Rattle.updates.specs.Kinds.{kindCheck, badBib}
 use Rattle.updates.specs.Effect.{stateOf, valueIn}
 use Rattle.bundles.specs.declared.entry.Entry.{Entry}
-use Rattle.bundles.specs.Records.{entriesIn, isWrong}
 use Rattle.diagram.specs.Effects.{own, view}
 use Rattle.diagram.specs.Day.{meant, nextNumber}
 use Rattle.diagram.specs.Checks.{unknownClient, openElsewhere, busyByOther, busy, stale, logFull, noneLeft, notJoinable}
 use Rattle.diagram.specs.Steps as Steps
 use Rattle.diagram.specs.Steps.{after}
-use Rattle.plain.specs.Calls.{Call, Update, Query, Yield, Fork, Join, Show, Fill, Bundle, Answer, Preview}
+use Rattle.plain.specs.Calls.{Call, Update, Query, Yield, Fork, Join, Show, Fill, Bundle, Answer, Preview, entriesOf, isWrongBatch}
 use Rattle.plain.specs.Record.{PlainDay, freshDay, pathResult, linesOf, noted}
 
 pub record Outcome : Type 0 where
@@ -149,9 +148,9 @@ called p (Fill n) =
     check (p .day .joined r) 4 p (
     told p (length (own (p .day .diagram) (p .day .terminal r))) (p .day .updates)))
 -- 02, U4, bundle: 14 "checked right after 1", then all checks of its first entry, then of the next
-called p (Bundle c n records) =
-    check (isWrong records) 14 p (
-    bundled p (sent p c n (entriesIn records)))
+called p (Bundle c n batch) =
+    check (isWrongBatch batch) 14 p (
+    bundled p (sent p c n (entriesOf batch)))
 -- 02, U6, preview: "equal to joining on a copy of the table and reading there"; "Refusals are those of the join, then 5 for the bib"
 called p (Preview n m bib) =
     check (not (eqb (joining p n m .answer .code) 0)) (joining p n m .answer .code) p (

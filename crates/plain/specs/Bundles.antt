@@ -4,8 +4,7 @@ use mathlib.Core.Bool.{false}
 use mathlib.Core.Path.{_≡_}
 use mathlib.Core.List.{List, [], _∷_}
 use Rattle.bundles.specs.declared.entry.Entry.{Entry}
-use Rattle.bundles.specs.Records.{entriesIn, entryAt, isWrong}
-use Rattle.plain.specs.Calls.{Call, Update, Yield, Bundle}
+use Rattle.plain.specs.Calls.{Call, Update, Yield, Bundle, Batch, entriesOf, isWrongBatch}
 use Rattle.plain.specs.Record.{PlainDay}
 use Rattle.plain.specs.Answers.{called, dayAfter, dayFrom}
 
@@ -23,9 +22,12 @@ AllTaken p [] = Unit {0}
 AllTaken p (c ∷ cs) = (called p c .answer .code ≡ 0) × AllTaken (called p c .next) cs
 
 -- a bundle that is taken after some calls
-pub record Bundled (before : List Call) (c n : ℕ) (records : List ℕ) : Type 0 where
-  pub right : isWrong records ≡ false
-  pub each : AllTaken (dayAfter before) (parts c n (entriesIn records))
-  pub day : called (dayAfter before) (Bundle c n records) .next ≡ dayFrom (dayAfter before) (parts c n (entriesIn records))
+pub record Bundled (before : List Call) (c n : ℕ) (batch : Batch) : Type 0 where
+  pub right : isWrongBatch batch ≡ false
+  pub each : AllTaken (dayAfter before) (parts c n (entriesOf batch))
+  pub day : called (dayAfter before) (Bundle c n batch) .next ≡ dayFrom (dayAfter before) (parts c n (entriesOf batch))
   -- "The value is the first entry's number."
-  pub value : called (dayAfter before) (Bundle c n records) .answer .value ≡ called (dayAfter before) (part c n (entryAt records 0)) .answer .value
+  pub first : Entry
+  pub others : List Entry
+  pub begins : entriesOf batch ≡ first ∷ others
+  pub value : called (dayAfter before) (Bundle c n batch) .answer .value ≡ called (dayAfter before) (part c n first) .answer .value

@@ -1,8 +1,27 @@
 -- The calls of a day and what they answer with: 01, "Codes of the desk" and "Listing a box"; 02, U1, U2, U4 and U6.
 use Prim.Native.Nat.{ℕ}
+use mathlib.Core.Bool.{Bool, _||_}
 use mathlib.Core.List.{List}
+use lib.Dec.{eqb, ltb}
+use lib.ListN.{length}
+use Rattle.bundles.specs.declared.entry.Entry as Sent
+use Rattle.bundles.specs.Records.{entriesIn, isWrong}
 use Rattle.updates.specs.declared.kind.Kind.{Kind}
 use Rattle.updates.specs.declared.standing.State.{State}
+
+-- 02, U4: "first as 12-byte records, then as a lent list of entries"
+pub data Batch : Type 0 where
+  Records : List ℕ → Batch
+  Entries : List Sent.Entry → Batch
+
+-- the entries of a batch, and 14: "if the count is 0 or above 64 or the bytes aren't a multiple of 12"
+abbrev pub entriesOf : Batch → List Sent.Entry
+entriesOf (Records bytes) = entriesIn bytes
+entriesOf (Entries es) = es
+
+abbrev pub isWrongBatch : Batch → Bool
+isWrongBatch (Records bytes) = isWrong bytes
+isWrongBatch (Entries es) = eqb (length es) 0 || ltb 64 (length es)
 
 -- arguments as they come, of any size. Of a list's sheet the day is told "only the length".
 pub data Call : Type 0 where
@@ -14,7 +33,7 @@ pub data Call : Type 0 where
   -- 01: list
   Show : (revision room : ℕ) → Call
   Fill : (revision : ℕ) → Call
-  Bundle : (client revision : ℕ) (records : List ℕ) → Call
+  Bundle : (client revision : ℕ) (batch : Batch) → Call
   Preview : (joiner joinee bib : ℕ) → Call
 
 -- an update as it was entered

@@ -3,7 +3,8 @@ use Prim.Native.Nat.{ℕ}
 use mathlib.Core.List.{List, [], _∷_, _++_}
 use Rattle.updates.specs.declared.standing.State.{State}
 use Rattle.updates.specs.declared.standing.State.the-variants as state
-use Rattle.plain.specs.Calls.{Call, Update, Query, Yield, Fork, Join, Show, Fill, Bundle, Answer, Preview}
+use Rattle.bundles.specs.declared.entry.Entry as Sent
+use Rattle.plain.specs.Calls.{Call, Update, Query, Yield, Fork, Join, Show, Fill, Bundle, Answer, Preview, Entries, Records}
 use Rattle.plain.specs.Answers.{answers}
 
 -- what a call gives
@@ -64,6 +65,13 @@ small kind bib v = kind ∷ 99 ∷ bib ∷ 0 ∷ v ∷ 0 ∷ 0 ∷ 0 ∷ 7 ∷ 7
 
 abbrev pub unknownBib : List ℕ
 unknownBib = time ∷ 0 ∷ 232 ∷ 3 ∷ 5 ∷ 0 ∷ 0 ∷ 0 ∷ 0 ∷ 0 ∷ 0 ∷ 0 ∷ []
+
+-- an entry of a lent list, and a bundle of records
+abbrev pub lent : ℕ → ℕ → ℕ → Sent.Entry
+lent kind bib v = record { kind = kind; bib = bib; v = v }
+
+abbrev pub sends : ℕ → ℕ → List ℕ → Call
+sends c n bytes = Bundle c n (Records bytes)
 
 abbrev pub edges : List Edge
 edges =
@@ -134,14 +142,20 @@ codes =
     ∷ ok 0 ∷ ok 0 ∷ ok 1 ∷ filled 2 3 ∷ refusal 4 ∷ ok 2 ∷ filled 3 3 ∷ refusal 4 ∷ [])
     -- bundle (02, U4): an open transaction is continued and closed; the value is the first entry's number
     ∷ edge
-    (Update 0 0 time 8 9 ∷ Bundle 0 0 (small time 7 50 ++ small earliest 7 40 ++ small strike 8 1) ∷ Fork 0 ∷ Query 1 0 7 ∷ Query 1 0 8 ∷ Fill 0 ∷ Bundle 0 1 (small time 7 1) ∷ [])
+    (Update 0 0 time 8 9 ∷ sends 0 0 (small time 7 50 ++ small earliest 7 40 ++ small strike 8 1) ∷ Fork 0 ∷ Query 1 0 7 ∷ Query 1 0 8 ∷ Fill 0 ∷ sends 0 1 (small time 7 1) ∷ [])
     (ok 0 ∷ ok 1 ∷ ok 1 ∷ timed 40 ∷ struck ∷ filled 4 4 ∷ ok 4 ∷ [])
     -- 14 before 2; then all checks of the first entry, 5 of it before 7, then of the next; the earliest refusal is given and nothing is taken
     ∷ edge
-    (Bundle 16 9 [] ∷ Bundle 16 9 (1 ∷ small time 7 5) ∷ Bundle 16 9 (small time 7 5) ∷ Bundle 0 9 unknownBib ∷ Bundle 0 0 (small time 7 5 ++ small 5 7 5 ++ small time 7 5)
-    ∷ Bundle 0 0 (small time 7 5 ++ unknownBib) ∷ Fill 0 ∷ Query 1 0 7 ∷ Bundle 0 0 (unknownBib ++ small time 7 5) ∷ Bundle 0 0 (small time 7 5 ++ unknownBib) ∷ Bundle 1 0 (small time 7 5) ∷ Bundle 0 0 (small time 7 6) ∷ [])
+    (sends 16 9 [] ∷ sends 16 9 (1 ∷ small time 7 5) ∷ sends 16 9 (small time 7 5) ∷ sends 0 9 unknownBib ∷ sends 0 0 (small time 7 5 ++ small 5 7 5 ++ small time 7 5)
+    ∷ sends 0 0 (small time 7 5 ++ unknownBib) ∷ Fill 0 ∷ Query 1 0 7 ∷ sends 0 0 (unknownBib ++ small time 7 5) ∷ sends 0 0 (small time 7 5 ++ unknownBib) ∷ sends 1 0 (small time 7 5) ∷ sends 0 0 (small time 7 6) ∷ [])
     (refusal 14 ∷ refusal 14 ∷ refusal 2 ∷ refusal 3 ∷ refusal 5
     ∷ refusal 5 ∷ filled 0 0 ∷ neither ∷ refusal 5 ∷ refusal 7 ∷ ok 0 ∷ ok 1 ∷ [])
+    -- the same as a lent list of entries: of 14 only the count can apply
+    ∷ edge
+    (Bundle 16 9 (Entries []) ∷ Bundle 16 0 (Entries (lent time 7 5 ∷ [])) ∷ Bundle 0 0 (Entries (lent time 7 5 ∷ lent time 1000 5 ∷ [])) ∷ Fill 0 ∷ Update 0 0 time 8 9
+    ∷ Bundle 0 0 (Entries (lent time 7 50 ∷ lent earliest 7 40 ∷ lent strike 8 1 ∷ [])) ∷ Query 1 0 7 ∷ Query 1 0 8 ∷ Fill 0 ∷ [])
+    (refusal 14 ∷ refusal 2 ∷ refusal 5 ∷ filled 0 0 ∷ ok 0
+    ∷ ok 1 ∷ timed 40 ∷ struck ∷ filled 4 4 ∷ [])
     ∷ edge (Update 0 0 time 7 5 ∷ Update 0 0 time 8 6 ∷ Query 0 0 7 ∷ Query 0 0 8 ∷ Query 0 0 9 ∷ []) (ok 0 ∷ ok 1 ∷ timed 5 ∷ timed 6 ∷ neither ∷ [])
     -- preview (02, U6) on the day of E1: 7 of either box; then, before the join, what the query after it gives, with the join's gain;
     -- of another bib neither, with the same gain; nothing is moved by it

@@ -7,8 +7,7 @@ use mathlib.Core.List.{List, [], _∷_}
 use lib.Dec.{eqb}
 use lib.ListN.{length}
 use Rattle.lists.specs.Sums.{sumBelow}
-use Rattle.bundles.specs.Records.{entriesIn}
-use Rattle.plain.specs.Calls.{Call, Update, Query, Yield, Fork, Join, Show, Fill, Bundle, Answer, Preview}
+use Rattle.plain.specs.Calls.{Call, Update, Query, Yield, Fork, Join, Show, Fill, Bundle, Answer, Preview, entriesOf}
 use Rattle.plain.specs.Record.{PlainDay}
 use Rattle.plain.specs.Answers.{called, dayAfter, answers}
 
@@ -26,7 +25,7 @@ countsOne (Fork n) code = 0
 countsOne (Join n m) code = 0
 countsOne (Show n room) code = 0
 countsOne (Fill n) code = 0
-countsOne (Bundle c n records) code = cond (eqb code 0) (length (entriesIn records)) 0
+countsOne (Bundle c n batch) code = cond (eqb code 0) (length (entriesOf batch)) 0
 countsOne (Preview n m bib) code = 0
 
 unfoldable pub acceptedIn : List Call → List ℕ → ℕ

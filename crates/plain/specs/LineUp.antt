@@ -11,7 +11,6 @@ use Rattle.lists.specs.Lists.{_∈_, _⊑_, flat}
 use Rattle.updates.specs.declared.kind.Kind.{Kind}
 use Rattle.updates.specs.declared.kind.KindCheck.the-variants.{Known}
 use Rattle.updates.specs.Kinds.{kindCheck}
-use Rattle.bundles.specs.Records.{entriesIn}
 use Rattle.updates.specs.Effect.{stateOf, valueIn}
 use Rattle.diagram.specs.Effects.{own, view, number, numbers}
 use Rattle.diagram.specs.Day.{Day, IsOut, meant}
@@ -20,7 +19,7 @@ use Rattle.diagram.specs.Rules.{ByRules}
 use Rattle.diagram.specs.Pool.{ByPool}
 use Rattle.diagram.specs.Witness.{Witness}
 use Rattle.diagram.specs.Arbitration.{IsEvent, eventsOf, Numbered, Sees, SeesTransaction, Shows, WholeAt, Extends}
-use Rattle.plain.specs.Calls.{Call, Update, Query, Fork, Join, Show, Fill, Bundle, Answer, Preview}
+use Rattle.plain.specs.Calls.{Call, Update, Query, Fork, Join, Show, Fill, Bundle, Answer, Preview, Batch, entriesOf}
 use Rattle.plain.specs.Record.{PlainDay, freshDay, standingOf, linesOf}
 use Rattle.plain.specs.Answers.{Outcome, called, dayAfter}
 use Rattle.plain.specs.Taken.{stepsAfter}
@@ -105,9 +104,9 @@ pub record LineUp (cs : List Call) : Type 0 where
   pub filled : (before rest : List Call) (n r : ℕ) → Taken cs before (Fill n) rest → meant (endOf before) n ≡ some r
       → Filled (endOf before) r (called (dayAfter before) (Fill n) .answer)
   -- 02, U4: a bundle is its updates and a yield, and the day is the one of the calls with these in the bundle's place
-  pub unbundled : (before rest : List Call) (c n : ℕ) (records : List ℕ) → Taken cs before (Bundle c n records) rest
-      → dayAfter cs ≡ dayAfter (before ++ (parts c n (entriesIn records) ++ rest))
-  pub bundles : (before rest : List Call) (c n : ℕ) (records : List ℕ) → Taken cs before (Bundle c n records) rest → Bundled before c n records
+  pub unbundled : (before rest : List Call) (c n : ℕ) (batch : Batch) → Taken cs before (Bundle c n batch) rest
+      → dayAfter cs ≡ dayAfter (before ++ (parts c n (entriesOf batch) ++ rest))
+  pub bundles : (before rest : List Call) (c n : ℕ) (batch : Batch) → Taken cs before (Bundle c n batch) rest → Bundled before c n batch
   -- 00: "each stands after all others that it sees"
   pub after-seen : (s t : ℕ) → s < endOf cs .transactions → t < endOf cs .transactions → (s ≡ t → ⊥) → SeesTransaction (endOf cs) t s → (s ∷ t ∷ []) ⊑ order
   -- "A taken query answers as its bib stands after the updates it sees, and no others, are applied to the fresh values, each

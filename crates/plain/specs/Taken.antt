@@ -4,11 +4,10 @@ use mathlib.Core.Bool.{false, true}
 use mathlib.Core.Option.{Option, none, some}
 use mathlib.Core.List.{List, [], _∷_, _++_}
 use Rattle.bundles.specs.declared.entry.Entry.{Entry}
-use Rattle.bundles.specs.Records.{entriesIn}
 use Rattle.diagram.specs.Day.{meant}
 use Rattle.diagram.specs.Steps as Steps
 use Rattle.diagram.specs.Steps.{Step, Event}
-use Rattle.plain.specs.Calls.{Call, Update, Query, Yield, Fork, Join, Show, Fill, Bundle, Preview}
+use Rattle.plain.specs.Calls.{Call, Update, Query, Yield, Fork, Join, Show, Fill, Bundle, Preview, entriesOf}
 use Rattle.plain.specs.Record.{PlainDay, freshDay}
 use Rattle.plain.specs.Answers.{called}
 
@@ -30,7 +29,7 @@ stepOf p (Fork n) = onRevision (meant (p .day) n) (λ r. Steps.Fork r ∷ [])
 stepOf p (Join n m) = onRevision (meant (p .day) n) (λ a. onRevision (meant (p .day) m) (λ b. Steps.Join a b ∷ []))
 stepOf p (Show n room) = []
 stepOf p (Fill n) = []
-stepOf p (Bundle c n records) = onRevision (meant (p .day) n) (λ r. bundleSteps c r (entriesIn records))
+stepOf p (Bundle c n batch) = onRevision (meant (p .day) n) (λ r. bundleSteps c r (entriesOf batch))
 stepOf p (Preview n m bib) = []
 
 -- the steps of a call that ended with a code: none if it was refused

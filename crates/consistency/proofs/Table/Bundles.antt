@@ -13,7 +13,7 @@ use Rattle.plain.specs.Answers as Plain
 use Rattle.plain.specs.Answers.{Outcome, called, sent}
 use Rattle.table.specs.Answers as Table
 use Rattle.table.specs.Answers.{Out}
-use Rattle.table.specs.Calls.{bundleOut, sentOut, settled}
+use Rattle.table.specs.Calls.{bundleOut, entriesOut, sentOut, settled}
 use Rattle.consistency.proofs.Table.Stands.{Stands, bytes-are}
 use Rattle.consistency.proofs.Table.Same.{Same, by-check, by-table}
 use Rattle.consistency.proofs.Table.Calls.{OnTable, update-same, yield-same}
@@ -38,9 +38,16 @@ settled-same p t S o u h =
     (λ e. rw e (record { code = refl; state = refl; value = bytes-are p t S .follow .same-updates; total = refl; gain = refl; lent = h .lent }))
     (λ e. rw e (record { code = refl; state = refl; value = refl; total = refl; gain = refl; lent = S })))
 
-pub bundle-same : (p : PlainDay) (t : List ℕ) (S : Stands p t) (c n : ℕ) (records : List ℕ) → Same (OnTable p t S) (called p (Paper.Bundle c n records)) (bundleOut t c n records)
+pub bundle-same : (p : PlainDay) (t : List ℕ) (S : Stands p t) (c n : ℕ) (bytes : List ℕ) → Same (OnTable p t S) (called p (Paper.Bundle c n (Paper.Records bytes))) (bundleOut t c n bytes)
 unfolding called bundleOut
-bundle-same p t S c n records =
+bundle-same p t S c n bytes =
     by-table p t S (OnTable p t S) t S _ _ (
-    by-check p t S (OnTable p t S) t S _ (isWrong records) 14 _ _ refl λ e14.
-    settled-same p t S _ _ (sent-same (entriesIn records) p t S c n))
+    by-check p t S (OnTable p t S) t S _ (isWrong bytes) 14 _ _ refl λ e14.
+    settled-same p t S _ _ (sent-same (entriesIn bytes) p t S c n))
+
+pub entries-same : (p : PlainDay) (t : List ℕ) (S : Stands p t) (c n : ℕ) (es : List Entry) → Same (OnTable p t S) (called p (Paper.Bundle c n (Paper.Entries es))) (entriesOut t c n es)
+unfolding called entriesOut
+entries-same p t S c n es =
+    by-table p t S (OnTable p t S) t S _ _ (
+    by-check p t S (OnTable p t S) t S _ (Paper.isWrongBatch (Paper.Entries es)) 14 _ _ refl λ e14.
+    settled-same p t S _ _ (sent-same es p t S c n))

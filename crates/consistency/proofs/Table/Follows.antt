@@ -10,6 +10,7 @@ use Rattle.cells.specs.Sizes as Lower
 use Rattle.cells.specs.Steps.{freshBytes}
 use Rattle.entries.specs.Sizes as Upper
 use Rattle.updates.specs.declared.standing.State.{State}
+use Rattle.plain.specs.Calls as Paper
 use Rattle.plain.specs.Record.{PlainDay, freshDay}
 use Rattle.plain.specs.Answers.{Outcome, called, answers, answersFrom, dayFrom}
 use Rattle.table.specs.Halves.{bytes}
@@ -22,7 +23,7 @@ use Rattle.consistency.proofs.Follow.{bytes-follow}
 use Rattle.consistency.proofs.Table.Stands.{Stands}
 use Rattle.consistency.proofs.Table.Same.{Same}
 use Rattle.consistency.proofs.Table.Calls.{OnTable, update-same, query-same, yield-same, fork-same, join-same, list-same, fill-same}
-use Rattle.consistency.proofs.Table.Bundles.{bundle-same}
+use Rattle.consistency.proofs.Table.Bundles.{bundle-same, entries-same}
 use Rattle.consistency.proofs.Table.Previews.{preview-same}
 
 same-reply : (c d : ℕ) (a b : State) (v w i j x y : ℕ) (s z : List ℕ) → c ≡ d → a ≡ b → v ≡ w → i ≡ j → x ≡ y → s ≡ z
@@ -46,7 +47,8 @@ module _ (p : PlainDay) (t : List ℕ) (S : Stands p t) where
   call-same (Join n m) = let h = on-table _ _ (join-same p t S n m) in record { reply = h .0; stands = h .1 }
   call-same (Show n s) = let h = list-same p t S n s in record { reply = same-reply _ _ _ _ _ _ _ _ _ _ _ _ (h .code) (h .state) (h .value) (h .total) (h .gain) (h .lent .1); stands = h .lent .0 }
   call-same (Fill n) = let h = fill-same p t S n in record { reply = same-reply _ _ _ _ _ _ _ _ _ _ [] [] (h .code) (h .state) (h .own) (h .total) (h .gain) refl; stands = subst (λ q. Stands q t) (sym (h .next)) S }
-  call-same (Bundle c n records) = let h = on-table _ _ (bundle-same p t S c n records) in record { reply = h .0; stands = h .1 }
+  call-same (Bundle c n (Paper.Records bytes)) = let h = on-table _ _ (bundle-same p t S c n bytes) in record { reply = h .0; stands = h .1 }
+  call-same (Bundle c n (Paper.Entries es)) = let h = on-table _ _ (entries-same p t S c n es) in record { reply = h .0; stands = h .1 }
   call-same (Preview n m bib) = let h = preview-same p t S n m bib in record { reply = same-reply _ _ _ _ _ _ _ _ _ _ [] [] (h .code) (h .state) (h .value) (h .total) (h .gain) refl; stands = subst (λ q. Stands q t) (sym (h .next)) S }
 
 filled : (a : List ℕ) (n m k : ℕ) → length a ≡ n → n + m ≡ k → length (a ++ replicate m 0) ≡ k
