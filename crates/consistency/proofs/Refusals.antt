@@ -20,7 +20,7 @@ use Rattle.plain.specs.Calls as Paper
 use Rattle.table.specs.Halves as Halves
 use Rattle.table.specs.Halves.{cellsOf, isTable}
 use Rattle.table.specs.Answers.{Out, afterTaken, check, named, refused}
-use Rattle.table.specs.Calls.{bundleOut, entriesOut, fillIn, fillOut, forkOut, freshOut, joinOut, listOut, noFill, noProspect, previewOut, queryOut, sentOut, settled, shownOut, updateOut, yieldOut}
+use Rattle.table.specs.Calls.{bundleOut, entriesOut, fillIn, fillOut, forkOut, freshOut, joinOut, listOut, noFill, noProspect, previewOut, queryOut, readOn, sentOut, settled, shownOut, updateOut, yieldOut}
 use Rattle.table.specs.declared.answer.Level.{Level}
 use Rattle.table.specs.declared.answer.Prospect.{Prospect}
 use Rattle.consistency.specs.Table.{Request, Update, Query, Yield, Fork, Join, Show, Fill, Bundle, Preview}
@@ -125,11 +125,12 @@ module _ (t : List ℕ) where
       yes refl)))
 
   preview-ends : (n m bib : ℕ) → Ends (λ (f : Prospect). f .code) noProspect (previewOut t n m bib)
-  unfolding previewOut
+  unfolding previewOut readOn
   preview-ends n m bib =
       by-check (not (eqb (joinOut t n m .code) 0)) (joinOut t n m .code) (code-low (join-ends n m)) (
       by-check (badBib bib) 5 refl (
-      yes refl))
+      by-check (not (isTable (joinOut t n m .lent))) 1 refl (
+      yes refl)))
 
 -- the updates of a bundle, one by one: the number of the first refusal is in the list
 after-low : (o : Out) (rest : List ℕ → Out) → ltb (o .code) 15 ≡ true → ((d : List ℕ) → ltb (rest d .code) 15 ≡ true) → ltb (afterTaken o rest .code) 15 ≡ true

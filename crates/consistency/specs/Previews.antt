@@ -1,25 +1,15 @@
--- 02, U6, at a table: a preview is "equal to joining on a copy of the table and reading there". Claimed on a day as in demand 3: on
--- contents that no day made it answers from the cells as they are, and the list that a join there would leave may be another.
+-- 02, U6, at a table, by the calls themselves and for every buffer: a taken preview is "equal to joining on a copy of the table and reading there".
 use Prim.Native.Nat.{ℕ}
-use mathlib.Core.Bool.{cond, not}
 use mathlib.Core.Path.{_≡_}
 use mathlib.Core.List.{List}
-use lib.Dec.{eqb}
-use lib.ListN.{length}
-use Rattle.updates.specs.Kinds.{badBib}
-use Rattle.table.specs.Halves.{bytes}
-use Rattle.table.specs.Calls.{foreseen, freshOut, joinOut, noProspect, previewOut, standingAt}
-use Rattle.table.specs.declared.answer.Prospect.{Prospect}
-use Rattle.consistency.specs.Table.{Request, tableAfter}
+use Rattle.table.specs.Calls.{joinOut, previewOut, queryOut}
 
--- the join is made on a copy, and the copy is read at the joiner. A reading is no query: no client's checks are asked there.
-unfoldable pub onCopy : List ℕ → ℕ → ℕ → ℕ → Prospect
-onCopy t n m bib =
-    cond (not (eqb (joinOut t n m .code) 0)) (noProspect (joinOut t n m .code)) (
-    cond (badBib bib) (noProspect 5) (
-    foreseen (standingAt (joinOut t n m .lent) n bib) (joinOut t n m .value)))
+-- the join on a copy is taken, with the preview's gain, and whatever client may query the joiner there has the preview's state and value
+pub record FollowsJoin (t : List ℕ) (n m bib : ℕ) : Type 0 where
+  pub joins : joinOut t n m .code ≡ 0
+  pub gain : previewOut t n m bib .gain ≡ joinOut t n m .value
+  pub state : (c : ℕ) → queryOut (joinOut t n m .lent) c n bib .code ≡ 0 → queryOut (joinOut t n m .lent) c n bib .state ≡ previewOut t n m bib .state
+  pub value : (c : ℕ) → queryOut (joinOut t n m .lent) c n bib .code ≡ 0 → queryOut (joinOut t n m .lent) c n bib .value ≡ previewOut t n m bib .value
 
 abbrev pub PreviewsFollowJoins : Type 0
-PreviewsFollowJoins =
-    (t : List ℕ) → length t ≡ bytes → (qs : List Request) → (n m bib : ℕ)
-    → previewOut (tableAfter (freshOut t .lent) qs) n m bib ≡ onCopy (tableAfter (freshOut t .lent) qs) n m bib
+PreviewsFollowJoins = (t : List ℕ) (n m bib : ℕ) → previewOut t n m bib .code ≡ 0 → FollowsJoin t n m bib

@@ -31,7 +31,7 @@ pub fn caught(d: &mut [u8])
     marks::rows::store16(&mut d[CAUGHT..STATE], Table::fresh_caught());
 }
 
-fn copy(t: &mut [u8], from: &[u8])
+pub fn copy(t: &mut [u8], from: &[u8])
     requires { ⌜ length (now t) ≡ length (now from) ⌝ }
     ensures { λ _. ⌜ now (t .exit) ≡ now (from .entry) ⌝ }
 {

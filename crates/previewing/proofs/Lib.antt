@@ -1,3 +1,2 @@
--- Laws of a standing after a join, and a preview from what its checks find.
-pub mod Along
+-- A preview from what its checks find, and its end on the joined copy.
 pub mod Foreseen

@@ -1,78 +1,39 @@
-// The call preview (02, U6): how a bib will stand at the joiner after a join, and the join's gain. The table is only read.
+// The call preview (02, U6): "equal to joining on a copy of the table and reading there". The table is only read.
 ghost use mathlib.Core.Bool.{true};
 ghost use mathlib.Core.List.{_++_};
 ghost use mathlib.Core.Path.{_≡_};
-ghost use Prim.Native.Nat.{_<_, _≤_};
-ghost use lib.ListN.{drop, length};
+ghost use Prim.Native.Nat.{_<_};
+ghost use lib.ListN.{length};
 ghost use Rattle.cells.specs.Sizes as Lower;
-ghost use Rattle.cells.specs.Sizes.{revisions, updates};
-ghost use Rattle.cells.specs.Cells.{own};
+ghost use Rattle.cells.specs.Sizes.{revisions};
+ghost use Rattle.cells.specs.Decode.{cells};
+ghost use Rattle.cells.specs.Order.{order};
 ghost use Rattle.cells.specs.Range.{inRange};
+ghost use Rattle.cells.specs.Steps.{joinBytes};
 ghost use Rattle.entries.specs.Entries.{entryAt};
-ghost use Rattle.entries.specs.Folded.{ofBib};
-ghost use Rattle.updates.specs.Applied.{applied};
+ghost use Rattle.entries.specs.Folded.{standingOf};
 ghost use Rattle.table.specs.Halves.{bytes, cellsOf, high, isTable, low};
-ghost use Rattle.table.specs.Calls.{foreseen, noProspect, previewOut, standingAfter};
+ghost use Rattle.table.specs.Calls.{noProspect, previewOut, readOn};
 ghost use Rattle.table.specs.Checks.{pairIn};
 ghost use Rattle.previewing.specs.Checks.{previewCheck};
+use checks::range::RangeCheck;
+use checks::range::check_range;
+use fields::fresh::copy;
 use fields::table::Revision;
-use reading::standing::standing_at;
+use fields::table::Table;
 use reading::standing::tell;
+use revisions::join::join;
 use table::answer::Prospect;
 use table::bib;
 use table::bib::BibCheck;
 use table::counts;
 use table::join::check_join;
 use table::pair::PairCheck;
+use table::sizes::Whole;
 use table::sound;
 use table::sound::TableCheck;
 use updates::standing::Standing;
 use updates::standing::State;
-
-// The own list of r into the first places of `out`; how many it has.
-fn own_of(t: &[u8], r: Revision, out: &mut [u16]) -> usize
-    requires { ⌜ (length (now t) ≡ bytes) × (inRange (low (now t)) ≡ true) × (r .0 < revisions) × (length (now out) ≡ updates) ⌝ }
-    ensures { λ n. ⌜ (n ≡ cellsOf (now (t .entry)) .count (r .0)) × (n ≤ updates) × (now (out .exit) ≡ own (cellsOf (now (t .entry))) (r .0) ++ drop n (now (out .entry))) ⌝ }
-{
-    order::links::own_list(&t[0..40960], r, out)
-}
-
-// A standing, and on along r's own updates.
-fn standing_along(t: &[u8], r: Revision, bib: u16, start: Standing) -> Standing
-    requires { ⌜ (length (now t) ≡ bytes) × (inRange (low (now t)) ≡ true) × (r .0 < revisions) ⌝ }
-    ensures { λ s. ⌜ s ≡ applied (ofBib (entryAt (high (now (t .entry)))) bib (own (cellsOf (now (t .entry))) (r .0))) start ⌝ }
-{
-    let mut out = order::links::room();
-    let n = own_of(t, r, &mut out);
-    entries::standing::standing_from(&t[40960..65536], &out, n, bib, start)
-}
-
-// The standing of a bib after what is visible at a, then b's own updates.
-fn standing_after(t: &[u8], a: Revision, b: Revision, bib: u16) -> Standing
-    requires { ⌜ (length (now t) ≡ bytes) × (inRange (low (now t)) ≡ true) × (a .0 < revisions) × (b .0 < revisions) ⌝ }
-    ensures { λ s. ⌜ s ≡ standingAfter (now (t .entry)) (a .0) (b .0) bib ⌝ }
-{
-    let start = standing_at(t, a, bib);
-    standing_along(t, b, bib, start)
-}
-
-// The end of a preview that the checks allow.
-fn foresee(t: &[u8], a: Revision, b: Revision, bib: u16) -> Prospect
-    requires { ⌜ (length (now t) ≡ bytes) × (inRange (low (now t)) ≡ true) × (a .0 < revisions) × (b .0 < revisions) ⌝ }
-    ensures { λ p. ⌜ p ≡ foreseen (standingAfter (now (t .entry)) (a .0) (b .0) bib) (cellsOf (now (t .entry)) .count (b .0)) ⌝ }
-{
-    let standing = standing_after(t, a, b, bib);
-    // what a join of b brings is b's own
-    let gain = counts::own(t, b) as u16;
-    let told = tell(standing);
-    let state = told.state;
-    Prospect {
-        code: 0,
-        state,
-        value: told.value,
-        gain,
-    }
-}
 
 fn refused(code: u8) -> Prospect
     ensures { λ p. ⌜ p ≡ noProspect code ⌝ }
@@ -83,6 +44,63 @@ fn refused(code: u8) -> Prospect
         value: 0,
         gain: 0,
     }
+}
+
+// Room for a copy of the lower half.
+fn room() -> [u8; Table::LOWER]
+    ensures { λ r. ⌜ Lower.bytes ≡ length r ⌝ }
+{
+    [0; Table::LOWER]
+}
+
+// The lower half of t into d, and there b joined into a.
+fn join_copy(t: &[u8], d: &mut [u8], a: Revision, b: Revision)
+    requires { ⌜ (length (now t) ≡ bytes) × (inRange (low (now t)) ≡ true) × (length (now d) ≡ Lower.bytes) × (a .0 < revisions) × (b .0 < revisions) ⌝ }
+    ensures { λ _. ⌜ now (d .exit) ≡ joinBytes (low (now (t .entry))) (a .0) (b .0) ⌝ }
+{
+    copy(d, &t[0..Table::LOWER]);
+    join(d, a, b);
+}
+
+// The standing of a bib at r, by the revisions in d and the entries in t.
+fn standing_on(d: &[u8], t: &[u8], r: Revision, bib: u16) -> Standing
+    requires { ⌜ (length (now d) ≡ Lower.bytes) × (inRange (now d) ≡ true) × (length (now t) ≡ bytes) × (r .0 < revisions) ⌝ }
+    ensures { λ s. ⌜ s ≡ standingOf (entryAt (high (now (t .entry)))) bib (order (cells (now (d .entry))) (r .0)) ⌝ }
+{
+    let mut out = order::links::room();
+    let n = order::visible::list(d, r, &mut out);
+    entries::standing::standing(&t[Table::LOWER..Whole::BYTES], &out, n, bib)
+}
+
+// A copy of t that has been joined, d its lower half, read at a.
+fn read_on(d: &[u8], t: &[u8], a: Revision, bib: u16, gain: u16) -> Prospect
+    requires { ⌜ (length (now d) ≡ Lower.bytes) × (length (now t) ≡ bytes) × (a .0 < revisions) ⌝ }
+    ensures { λ p. ⌜ p ≡ readOn (now (d .entry) ++ high (now (t .entry))) (a .0) bib gain ⌝ }
+{
+    let RangeCheck::Sound = check_range(d) else {
+        return refused(1);
+    };
+    let standing = standing_on(d, t, a, bib);
+    let told = tell(standing);
+    let state = told.state;
+    Prospect {
+        code: 0,
+        state,
+        value: told.value,
+        gain,
+    }
+}
+
+// The end of a preview that the checks allow: b is joined into a on a copy.
+fn foresee(t: &[u8], a: Revision, b: Revision, bib: u16) -> Prospect
+    requires { ⌜ (length (now t) ≡ bytes) × (inRange (low (now t)) ≡ true) × (a .0 < revisions) × (b .0 < revisions) ⌝ }
+    ensures { λ p. ⌜ p ≡ readOn (joinBytes (low (now (t .entry))) (a .0) (b .0) ++ high (now (t .entry))) (a .0) bib (cellsOf (now (t .entry)) .count (b .0)) ⌝ }
+{
+    // what the join brings is b's own
+    let gain = counts::own(t, b) as u16;
+    let mut d = room();
+    join_copy(t, &mut d, a, b);
+    read_on(&d, t, a, bib, gain)
 }
 
 // The checks of the join, then 5.

@@ -12,7 +12,10 @@ use Rattle.table.specs.Halves.{bytes, high, cellsOf}
 use Rattle.table.specs.Calls.{standingAt}
 use Rattle.table.proofs.Halves.{high-whole}
 
--- the standing along what was listed
-pub standing-along : (t l : List ℕ) (r b : ℕ) (s : Standing) → length t ≡ bytes → l ≡ order (cellsOf t) r → s ≡ standingOf (entryAt (take Upper.bytes (high t))) b l → s ≡ standingAt t r b
+-- the standing along what was listed, from the upper half as it was lent
+pub along-entries : (t l o : List ℕ) (bib : ℕ) (s : Standing) → length t ≡ bytes → l ≡ o → s ≡ standingOf (entryAt (take Upper.bytes (high t))) bib l → s ≡ standingOf (entryAt (high t)) bib o
+along-entries t l o bib s h e ev = ev ∙ ap (λ (u : List ℕ). standingOf (entryAt u) bib l) (high-whole t h) ∙ ap (standingOf (entryAt (high t)) bib) e
+
+pub standing-along : (t l : List ℕ) (r bib : ℕ) (s : Standing) → length t ≡ bytes → l ≡ order (cellsOf t) r → s ≡ standingOf (entryAt (take Upper.bytes (high t))) bib l → s ≡ standingAt t r bib
 unfolding standingAt
-standing-along t l r b s h e ev = ev ∙ ap (λ (u : List ℕ). standingOf (entryAt u) b l) (high-whole t h) ∙ ap (standingOf (entryAt (high t)) b) e
+standing-along t l r bib s h e ev = along-entries t l (order (cellsOf t) r) bib s h e ev

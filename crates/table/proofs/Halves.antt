@@ -45,3 +45,7 @@ to-end a k t h = take-all k (drop a t) (rw length-drop (omega arith))
 pub high-whole : (t : List ℕ) → length t ≡ bytes → take Upper.bytes (high t) ≡ high t
 unfolding high
 high-whole t h = to-end Lower.bytes Upper.bytes t h
+
+pub upper-length : (t : List ℕ) → length t ≡ bytes → length (high t) ≡ Upper.bytes
+unfolding high
+upper-length t h = rw length-drop (omega (arith, h))

@@ -8,7 +8,7 @@ use Rattle.bundles.specs.declared.entry.Entry.{Entry}
 use Rattle.bundles.specs.Records.{entriesIn, isWrong}
 use Rattle.updates.specs.Kinds.{kindCheck, badBib}
 use Rattle.updates.specs.Effect.{stateOf, valueIn}
-use Rattle.cells.specs.Cells.{Cells, own}
+use Rattle.cells.specs.Cells.{Cells}
 use Rattle.cells.specs.Order.{order}
 use Rattle.cells.specs.Checks.{isClient, givenOut, joined, openElsewhere, busy, busyByOther, stale, logFull, noneLeft, joinable}
 use Rattle.cells.specs.Steps.{freshBytes, updateBytes, queryBytes, closeBytes, forkBytes, joinBytes}
@@ -150,18 +150,18 @@ entriesOut t c n es =
 abbrev pub noProspect : ℕ → Prospect
 noProspect code = record { code = code; state = Neither; value = 0; gain = 0 }
 
--- the standing of a bib once m is joined into n: what is visible at n, then what the join brings, m's own updates. On a day as in demand 3 it
--- is what the joined copy shows (`previews-follow-joins`, `consistency`); on contents that no day made it follows from the cells as they are
-unfoldable pub standingAfter : List ℕ → ℕ → ℕ → ℕ → Standing
-standingAfter t n m bib = standingOf (entryAt (high t)) bib (order (cellsOf t) n ++ own (cellsOf t) m)
-
 -- "the state and value at the joiner's line end and the gain"
 abbrev pub foreseen : Standing → ℕ → Prospect
 foreseen s gain = record { code = 0; state = stateOf s; value = valueIn s; gain = gain }
 
--- "Refusals are those of the join, then 5 for the bib"
+-- read at n on the joined copy. A reading is no query: no client's checks are asked there. A copy that is no table any more is refused as every
+-- call refuses it; no day makes one
+unfoldable pub readOn : List ℕ → ℕ → ℕ → ℕ → Prospect
+readOn copy n bib gain = cond (not (isTable copy)) (noProspect 1) (foreseen (standingAt copy n bib) gain)
+
+-- "equal to joining on a copy of the table and reading there"; "Refusals are those of the join, then 5 for the bib"
 unfoldable pub previewOut : List ℕ → ℕ → ℕ → ℕ → Prospect
 previewOut t n m bib =
     cond (not (eqb (joinOut t n m .code) 0)) (noProspect (joinOut t n m .code)) (
     cond (badBib bib) (noProspect 5) (
-    foreseen (standingAfter t n m bib) (joinOut t n m .value)))
+    readOn (joinOut t n m .lent) n bib (joinOut t n m .value)))
