@@ -93,7 +93,7 @@ pub(crate) fn answer(packed: u64) -> Result<u32, Refusal> {
     if code == 0 {
         return Ok(packed as u32);
     }
-    debug_assert_eq!(packed as u32, 0, "a refusal gives value 0");
+    assert_eq!(packed as u32, 0, "a refusal gives value 0");
     match ALL.into_iter().find(|&refusal| refusal as u64 == code) {
         Some(refusal) => Err(refusal),
         None => unreachable!("code {code}"),
@@ -117,5 +117,11 @@ mod tests {
     #[should_panic(expected = "code 13")]
     fn no_call_gives_13() {
         let _ = answer(13 << 32);
+    }
+
+    #[test]
+    #[should_panic(expected = "a refusal gives value 0")]
+    fn a_refusal_has_no_value() {
+        let _ = answer(7 << 32 | 1);
     }
 }
