@@ -2,8 +2,8 @@
 
 use std::fmt::Write;
 
+use baseline::Day;
 use calls::{Answer, Code, State};
-use plain::Day;
 
 use crate::file::read_file;
 use crate::record::Record;

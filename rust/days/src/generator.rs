@@ -9,10 +9,10 @@ use crate::rng::Rng;
 /// Room for the longest listing.
 pub(crate) const ENOUGH: usize = 4_096 * 12;
 
-/// A random day: its calls, picked by the answers of the plain implementation.
+/// A random day: its calls, picked by the answers of the baseline.
 pub fn random_day(profile: &Profile, seed: u64) -> Vec<Call> {
     let mut generator = Generator::new(profile, seed);
-    let mut day = plain::Day::fresh();
+    let mut day = baseline::Day::fresh();
     let count = profile.calls / 2 + generator.rng.below(profile.calls / 2 + 1);
     (0..profile.first + count)
         .map(|at| {

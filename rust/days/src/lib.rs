@@ -3,7 +3,7 @@
 //! Days are made from a seed, but for the short ones of [`late_days`]. A failed check prints the
 //! seed, and the shortest day found that still fails. There are five checks:
 //!
-//! - the literal replay and the plain implementation agree on every answer;
+//! - the literal replay and the baseline agree on every answer;
 //! - an arbitration order (01: line-up) has what demand 3 says of it, by brute force;
 //! - the fills of all revisions come to the updates accepted;
 //! - a bundle is its updates and a yield;

@@ -1,5 +1,5 @@
-//! Random days of all kinds: the literal replay and the plain implementation give the same code,
-//! state, value, total, gain and listing for every call.
+//! Random days of all kinds: the literal replay and the baseline give the same code, state, value,
+//! total, gain and listing for every call.
 
 use std::collections::BTreeMap;
 
@@ -61,7 +61,7 @@ fn days_with_late_updates_agree() {
 fn every_call_meets_each_of_its_codes() {
     let mut met: BTreeMap<(&str, u8), usize> = BTreeMap::new();
     for Sample { calls, .. } in one_in(1) {
-        let mut day = plain::Day::fresh();
+        let mut day = baseline::Day::fresh();
         for call in calls {
             *met.entry((call.name(), day.call(&call).code.number())).or_default() += 1;
         }
@@ -184,7 +184,7 @@ fn kind_of(day: &literal::Day, number: usize) -> &'static str {
 
 /// The codes of a day's calls.
 fn codes(calls: &[Call]) -> Vec<Code> {
-    let mut day = plain::Day::fresh();
+    let mut day = baseline::Day::fresh();
     calls.iter().map(|call| day.call(call).code).collect()
 }
 
@@ -203,7 +203,7 @@ fn full_logs_are_reached_and_joins_follow() {
 #[test]
 fn all_64_revisions_are_started() {
     let starts_63 = |day: &Sample| {
-        let mut table = plain::Day::fresh();
+        let mut table = baseline::Day::fresh();
         day.calls.iter().any(|call| table.call(call).value == 63 && call.name() == "fork")
     };
     let days = Profile::FORKS.days(0..100).filter(starts_63).count();

@@ -16,13 +16,13 @@ const KINDS: [(Profile, u64); 7] = [
     (Profile::NEARLY_FULL, 60),
 ];
 
-fn by_plain(calls: &[Call]) -> Option<String> {
-    fault_of_bundles(plain::Day::fresh(), calls, plain::Day::call)
+fn by_baseline(calls: &[Call]) -> Option<String> {
+    fault_of_bundles(baseline::Day::fresh(), calls, baseline::Day::call)
 }
 
 #[test]
 fn bundles_are_their_updates_and_a_yield() {
-    must_pass(days_of(&KINDS), by_plain);
+    must_pass(days_of(&KINDS), by_baseline);
 }
 
 /// Bundles of nearly every size are accepted, the log is filled by some to its last place, and others find

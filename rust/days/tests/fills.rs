@@ -19,10 +19,10 @@ const KINDS: [(Profile, u64); 10] = [
     (Profile::NEARLY_FULL, 5),
 ];
 
-/// By the literal replay, and by the plain implementation.
+/// By the literal replay, and by the baseline.
 fn by_either(calls: &[Call]) -> Option<String> {
     fault_of_fills(Day::fresh(), calls, Day::call)
-        .or_else(|| fault_of_fills(plain::Day::fresh(), calls, plain::Day::call))
+        .or_else(|| fault_of_fills(baseline::Day::fresh(), calls, baseline::Day::call))
 }
 
 #[test]

@@ -20,15 +20,15 @@ const KINDS: [(Profile, u64); 8] = [
     (Profile::BUNDLES, 100),
 ];
 
-fn by_plain(calls: &[Call]) -> Option<String> {
-    fault_of_previews(plain::Day::fresh(), calls, plain::Day::call)
+fn by_baseline(calls: &[Call]) -> Option<String> {
+    fault_of_previews(baseline::Day::fresh(), calls, baseline::Day::call)
 }
 
 #[test]
 fn previews_are_the_join_and_a_query_on_a_copy() {
-    must_pass(days_of(&KINDS), by_plain);
-    must_pass(chains_of_joins(seeds(50)), by_plain);
-    must_pass(late_days(), by_plain);
+    must_pass(days_of(&KINDS), by_baseline);
+    must_pass(chains_of_joins(seeds(50)), by_baseline);
+    must_pass(late_days(), by_baseline);
 }
 
 /// Previews find bibs in every state, changed by the join or not, and joins follow many of them.

@@ -10,7 +10,7 @@ use std::collections::BTreeMap;
 use calls::{Answer, Call, Code, Line, State};
 use cells::{cells, is_table, Cell};
 use common::{
-    answered, difference, first_difference, fresh, library, only_reads, plainly, sheet, Given,
+    answered, by_baseline, difference, first_difference, fresh, library, only_reads, sheet, Given,
 };
 use days::{fault_of_bundles, random_day, seeds, Profile, Rng};
 use silttongs::{Refusal, Table, BYTES, SHEET};
@@ -73,7 +73,7 @@ fn the_other_bytes_have_every_value_in_range() {
         t[at] ^= 0xff;
         let given = library(&mut t, &call);
         assert_eq!(given.answer, Answer::accepted(0), "byte {at}");
-        assert_eq!(plainly(&mut t, &call), given, "byte {at}, by plain");
+        assert_eq!(by_baseline(&mut t, &call), given, "byte {at}, by baseline");
     }
 }
 
@@ -102,7 +102,7 @@ fn wrong_lengths() {
             assert_eq!(given, Ok(refused(call, Code::NoTable)), "{length} bytes, `{call}`");
         }
         assert_eq!(Table::fresh(&mut t[..]).err(), Some(Refusal::NoTable), "{length} bytes");
-        assert_eq!(plain::fresh(&mut t), Err(Code::NoTable), "{length} bytes");
+        assert_eq!(baseline::fresh(&mut t), Err(Code::NoTable), "{length} bytes");
         assert!(t == before, "{length} bytes: changed");
     }
 }
@@ -113,7 +113,7 @@ fn fresh_on_any_content() {
     for seed in seeds(100) {
         let made = Table::fresh(random_bytes(&mut Rng::new(seed))).expect("the length is right");
         assert!(made.bytes() == fresh(), "seed {seed}");
-        assert!(made.bytes() == plain::Day::fresh().bytes(), "seed {seed}");
+        assert!(made.bytes() == baseline::Day::fresh().bytes(), "seed {seed}");
     }
 }
 
@@ -174,7 +174,7 @@ fn random_calls_on_damaged_buffers() {
 
 /// Makes the call, or says what is wrong with it.
 fn judged(cells: &[Cell], t: &mut Vec<u8>, call: &Call) -> Result<Given, String> {
-    let [mut again, mut plain, before] = [(); 3].map(|()| t.clone());
+    let [mut again, mut baseline, before] = [(); 3].map(|()| t.clone());
     let given = library(t, call);
     if library(&mut again, call) != given || again != *t {
         return Err("a second run differs".to_string());
@@ -196,11 +196,11 @@ fn judged(cells: &[Cell], t: &mut Vec<u8>, call: &Call) -> Result<Given, String>
     if only_reads(call) && *t != before {
         return Err("a call that only reads changed the table".to_string());
     }
-    if let Some(fault) = difference(&given, &plainly(&mut plain, call)) {
-        return Err(format!("against plain: {fault}"));
+    if let Some(fault) = difference(&given, &by_baseline(&mut baseline, call)) {
+        return Err(format!("against baseline: {fault}"));
     }
-    match first_difference(t, &plain) {
-        Some(at) => Err(format!("byte {at} is {}, plain has {}", t[at], plain[at])),
+    match first_difference(t, &baseline) {
+        Some(at) => Err(format!("byte {at} is {}, baseline has {}", t[at], baseline[at])),
         None => Ok(given),
     }
 }

@@ -1,5 +1,5 @@
 //! Random days: for every call the static library gives the code, state, value, total, gain and sheet
-//! of the literal replay, and leaves the bytes that the plain implementation leaves.
+//! of the literal replay, and leaves the bytes that the baseline leaves.
 
 mod common;
 
@@ -137,19 +137,19 @@ fn fault_of_entries(t: &mut Vec<u8>, call: &Call) -> Option<String> {
 struct Day {
     table: Vec<u8>,
     literal: literal::Day,
-    plain: plain::Day,
+    baseline: baseline::Day,
 }
 
 impl Day {
     fn fresh() -> Self {
-        Day { table: fresh(), literal: literal::Day::fresh(), plain: plain::Day::fresh() }
+        Day { table: fresh(), literal: literal::Day::fresh(), baseline: baseline::Day::fresh() }
     }
 
-    /// Makes the call. The plain implementation is not asked to list, to fill or to preview: its bytes
-    /// are then the table's before the call.
+    /// Makes the call. The baseline is not asked to list, to fill or to preview: its bytes are then
+    /// the table's before the call.
     fn fault(&mut self, call: &Call) -> Option<String> {
         if !only_reads(call) {
-            self.plain.call(call);
+            self.baseline.call(call);
         }
         let fault = self.fault_of_answer(call).or_else(|| self.fault_of_bytes());
         fault.map(|fault| format!("`{call}`: {fault}"))
@@ -169,9 +169,9 @@ impl Day {
     }
 
     fn fault_of_bytes(&self) -> Option<String> {
-        let bytes = self.plain.bytes();
+        let bytes = self.baseline.bytes();
         let at = first_difference(&self.table, bytes)?;
-        Some(format!("byte {at} is {}, plain has {}", self.table[at], bytes[at]))
+        Some(format!("byte {at} is {}, baseline has {}", self.table[at], bytes[at]))
     }
 
     /// Makes these calls, which only read. The bytes are compared after the last: that takes most of

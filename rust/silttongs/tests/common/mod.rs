@@ -79,15 +79,15 @@ pub(crate) fn refused(refusal: Refusal) -> Answer {
     Answer::refused(code)
 }
 
-/// What the plain implementation gives.
+/// What the baseline gives.
 #[allow(dead_code, reason = "for the damaged buffers alone")]
-pub(crate) fn plainly(bytes: &mut [u8], call: &Call) -> Given {
+pub(crate) fn by_baseline(bytes: &mut [u8], call: &Call) -> Given {
     let mut sheet = sheet(call);
     let answer = match *call {
         Call::List { revision, .. } => {
-            plain::list(bytes, revision, &mut sheet).map(Answer::accepted)
+            baseline::list(bytes, revision, &mut sheet).map(Answer::accepted)
         }
-        _ => plain::call(bytes, call),
+        _ => baseline::call(bytes, call),
     };
     Given { answer: answer.unwrap_or_else(Answer::refused), sheet }
 }
