@@ -170,7 +170,7 @@ impl<B: AsMut<[u8]>> Table<B> {
     ///
     /// Codes 1, 3, 4, 7 and 10.
     pub fn fork(&mut self, revision: u8) -> Result<u8, Refusal> {
-        exports::fork(self.0.as_mut(), revision).map(|number| number as u8)
+        exports::fork(self.0.as_mut(), revision)
     }
 
     /// Hands a box in: the joiner takes over the joinee's updates, behind its own. How many it
