@@ -13,7 +13,7 @@ pub fn answers(records: &[Record]) -> Vec<Answer> {
     let mut day = Day::fresh();
     let answer = |record: &Record| match record.call() {
         Some(call) => day.call(&call),
-        None => Answer::refused(Code::StrangeStep),
+        None => Answer::refused(Code::UnknownStep),
     };
     records.iter().map(answer).collect()
 }

@@ -133,8 +133,8 @@ const WRONG: [(&str, Wrong); 13] = [
     ("a wrong bundle is found after 2 and 3", |day, client, revision, records| {
         let known = usize::from(revision) < day.revisions().len();
         match (client, known) {
-            (16.., _) => Answer::refused(Code::StrangeClient),
-            (_, false) => Answer::refused(Code::NeverForked),
+            (16.., _) => Answer::refused(Code::UnknownClient),
+            (_, false) => Answer::refused(Code::NeverGiven),
             _ => right(day, client, revision, records),
         }
     }),

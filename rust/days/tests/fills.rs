@@ -46,7 +46,7 @@ const WRONG: [(&str, Wrong); 8] = [
         _ => right,
     }),
     ("numbers never given out are told too", |day, _, right| match right.code {
-        Code::NeverForked => Answer::filled(0, day.updates().len() as u32),
+        Code::NeverGiven => Answer::filled(0, day.updates().len() as u32),
         _ => right,
     }),
     ("busy revisions are refused", |day, r, right| match open(day, r).next() {

@@ -19,7 +19,7 @@
 //! table.yield_(1)?;
 //! table.update(0, 0, Kind::Time, 7, 60_000)?;
 //! table.yield_(0)?;
-//! assert_eq!(table.query(0, sent, 7), Err(Refusal::NotCaughtUp));
+//! assert_eq!(table.query(0, sent, 7), Err(Refusal::Stale));
 //! assert_eq!(table.join(0, sent), Ok(1));
 //! assert_eq!(table.query(1, 0, 7), Ok(Standing::Timed(65_000)));
 //! # Ok::<(), Refusal>(())

@@ -162,7 +162,7 @@ impl<B: AsMut<[u8]>> Table<B> {
     /// let mut table = Table::fresh([0; BYTES])?;
     /// assert_eq!(table.fork(0), Ok(1));
     /// assert_eq!(table.fork(1), Ok(2));
-    /// assert_eq!(table.fork(3), Err(Refusal::NeverSent));
+    /// assert_eq!(table.fork(3), Err(Refusal::NeverGiven));
     /// # Ok::<(), Refusal>(())
     /// ```
     ///
@@ -307,8 +307,8 @@ impl<B: AsRef<[u8]>> Table<B> {
     /// table.yield_(3)?;
     /// table.join(0, 1)?;
     /// assert_eq!(table.fill(0), Ok(Fill { own: 3, total: 3 }));
-    /// assert_eq!(table.fill(1), Err(Refusal::HandedIn));
-    /// assert_eq!(table.fill(2), Err(Refusal::NeverSent));
+    /// assert_eq!(table.fill(1), Err(Refusal::Joined));
+    /// assert_eq!(table.fill(2), Err(Refusal::NeverGiven));
     /// # Ok::<(), Refusal>(())
     /// ```
     ///

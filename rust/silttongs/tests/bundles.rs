@@ -59,8 +59,8 @@ fn all_or_nothing() -> Result<(), Refusal> {
         entries[place] = bad;
         assert_eq!(sent(&mut table, 0, 0, &entries), Err(Refusal::BadEntry), "{bad:?}");
         assert_eq!(sent(&mut table, 1, 0, &entries), Err(Refusal::InUse), "{bad:?}");
-        assert_eq!(sent(&mut table, 16, 0, &entries), Err(Refusal::StrangeTablet), "{bad:?}");
-        assert_eq!(sent(&mut table, 0, 1, &entries), Err(Refusal::NeverSent), "{bad:?}");
+        assert_eq!(sent(&mut table, 16, 0, &entries), Err(Refusal::UnknownClient), "{bad:?}");
+        assert_eq!(sent(&mut table, 0, 1, &entries), Err(Refusal::NeverGiven), "{bad:?}");
         assert!(table == before);
     }
     Ok(())

@@ -134,7 +134,7 @@ impl Met {
         let (Call::List { revision, .. }, 1..) = (call, value) else { return };
         // It is accepted with just the room that it needs, and not with a byte less.
         let needed = 12 * value as usize;
-        for (room, code) in [(needed, Code::Accepted), (needed - 1, Code::ListingShort)] {
+        for (room, code) in [(needed, Code::Accepted), (needed - 1, Code::SheetShort)] {
             let list = Call::List { revision, room };
             assert_eq!(judged(&list).answer.code, code, "{at}, `{list}`");
         }

@@ -84,10 +84,10 @@ fn refusals_are_those_of_the_join_and_then_5() -> Result<(), Refusal> {
     let before = table.clone();
     for bib in [7, 1_000, 65_535] {
         let cases = [
-            (1, 9, Refusal::NeverSent),
-            (64, 1, Refusal::NeverSent),
-            (2, 1, Refusal::HandedIn),
-            (1, 2, Refusal::HandedIn),
+            (1, 9, Refusal::NeverGiven),
+            (64, 1, Refusal::NeverGiven),
+            (2, 1, Refusal::Joined),
+            (1, 2, Refusal::Joined),
             (0, 2, Refusal::InUse),
             (2, 0, Refusal::InUse),
             (0, 0, Refusal::NotJoinable),

@@ -72,10 +72,12 @@ fn found(standing: Standing) -> Answer {
     Answer::found(state, standing.value())
 }
 
-/// The answer of a refused call. The wrapper has numbers and names of its own: they are those of 01.
+/// The answer of a refused call. The wrapper has numbers and names of its own: they are those of 01,
+/// and in code those of [`Code`].
 pub(crate) fn refused(refusal: Refusal) -> Answer {
     let code = Code::of(refusal.code()).expect("a code of the desk");
     assert_eq!(refusal.name(), code.name());
+    assert_eq!(format!("{refusal:?}"), format!("{code:?}"));
     Answer::refused(code)
 }
 
