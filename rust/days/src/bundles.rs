@@ -12,12 +12,12 @@ pub fn fault_of_bundles<D: Clone + PartialEq>(
     calls: &[Call],
     make: impl Fn(&mut D, &Call) -> Answer,
 ) -> Option<String> {
-    fault_on_copies(day, calls, &make, |call, before, _| match *call {
+    fault_on_copies(day, calls, &make, |call, before| match *call {
         Call::Bundle { client, revision, ref records } => {
             let mut after = before.clone();
             let answer = singly(&mut after, client, revision, records, &make);
             let left = if answer.code == Code::Accepted { after } else { before };
-            Some((answer, left))
+            Some((vec![answer], left))
         }
         _ => None,
     })

@@ -7,7 +7,7 @@
 //! - an arbitration order (01: line-up) has what demand 3 says of it, by brute force;
 //! - the fills of all revisions come to the updates accepted;
 //! - a bundle is its updates and a yield;
-//! - a preview is the join on a copy and a query there.
+//! - a preview is the join on a copy, as a list and a query there have it.
 
 #![forbid(unsafe_code)]
 

@@ -60,7 +60,7 @@ fn small_days_with_every_preview_after_every_step() {
 }
 
 /// 02, U4 and U6, by the library alone: a bundle is its updates and a yield, or changes nothing; a
-/// preview is the join on a copy and a query there.
+/// preview is the join on a copy, as a list and a query there have it.
 #[test]
 fn bundles_and_previews_are_what_other_calls_come_to() {
     let bundles = |calls: &[Call]| fault_of_bundles(fresh(), calls, answered);
@@ -68,6 +68,7 @@ fn bundles_and_previews_are_what_other_calls_come_to() {
     must_pass(days_of(&one_in(8)), bundles);
     must_pass(days_of(&one_in(8)), previews);
     must_pass(late_days(), previews);
+    must_pass(chains_of_joins(seeds(10)), previews);
 }
 
 /// Random days on the library, each bundle of whole records sent in both forms.

@@ -2,7 +2,7 @@
 
 mod fresh;
 
-use calls::{Answer, Call, Code, State};
+use calls::{Answer, Call, Code, Line, State};
 use silttongs::{Refusal, Standing, Table};
 
 /// What a call left, but for the table.
@@ -58,9 +58,12 @@ pub(crate) fn library(bytes: &mut [u8], call: &Call) -> Given {
     Given { answer: answer.unwrap_or_else(refused), sheet }
 }
 
-/// What the library answers, without the sheet.
+/// What the library answers; of a list, with the lines on its sheet.
 pub(crate) fn answered(t: &mut impl AsMut<[u8]>, call: &Call) -> Answer {
-    library(t.as_mut(), call).answer
+    let Given { answer, sheet } = library(t.as_mut(), call);
+    let (places, _) = sheet.as_chunks();
+    let listed = places.iter().take(answer.value as usize);
+    Answer { lines: listed.map(|&place| Line::from_bytes(place)).collect(), ..answer }
 }
 
 fn found(standing: Standing) -> Answer {
