@@ -9,6 +9,7 @@ use std::path::{Path, PathBuf};
 use std::process::{Command, Stdio};
 use std::time::{Duration, Instant};
 
+use calls::BIBS;
 use dayfile::{write_file, Record, MOST_STEPS};
 
 /// How many runs each program has.
@@ -22,8 +23,8 @@ fn longest(queries: bool) -> Vec<u8> {
             11 => 3,
             _ => 1,
         };
-        let bib = (i % 1_000) as u16;
-        Record { step, kind: 1, bib, v: i as u32, ..Record::from_bytes([0; 12]) }
+        let bib = (i % usize::from(BIBS)) as u16;
+        Record { step, kind: 1, bib, v: i as u32, ..Record::default() }
     };
     let records: Vec<Record> = (0..MOST_STEPS).map(record).collect();
     write_file(&records).expect("as many steps as fit")

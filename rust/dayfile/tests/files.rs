@@ -117,7 +117,7 @@ fn fields_that_a_step_does_not_use_are_not_looked_at() {
 fn more_steps_than_fit_are_not_written() {
     let record = Record { step: 3, ..Record::default() };
     let most = write_file(&vec![record; MOST_STEPS]).unwrap();
-    assert!(most.len() <= LONGEST && most.len() + 12 > LONGEST);
+    assert!(most.len() <= LONGEST && most.len() + Record::SIZE > LONGEST);
     assert_eq!(write_file(&vec![record; MOST_STEPS + 1]), None);
 }
 

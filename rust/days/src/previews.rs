@@ -1,12 +1,11 @@
 //! 02, U6: "the state and value at the joiner's line end and the gain, equal to joining on a copy of
 //! the table and reading there. Every byte of the real table stays."
 
-use calls::{Answer, Call, Code, Line};
+use calls::{Answer, Call, Code, Line, BIBS, CLIENTS, SHEET};
 use literal::Update;
 
 use crate::copies::fault_on_copies;
 use crate::facts::stands;
-use crate::generator::ENOUGH;
 
 /// The first preview of a day that is not the join on a copy, read there in each way there is, or
 /// that changes the day, in words. `make` makes one call; it is asked for the join, a list and
@@ -22,7 +21,7 @@ pub fn fault_of_previews<D: Clone + PartialEq>(
             let joined = make(&mut copy, &Call::Join { joiner, joinee });
             let right = if joined.code != Code::Accepted {
                 vec![Answer::refused(joined.code)]
-            } else if bib > 999 {
+            } else if bib >= BIBS {
                 vec![Answer::refused(Code::BadEntry)]
             } else {
                 let listed = listed(&mut copy, joiner, bib, &make);
@@ -43,7 +42,7 @@ fn listed<D>(
     bib: u16,
     make: impl Fn(&mut D, &Call) -> Answer,
 ) -> Answer {
-    let list = make(day, &Call::List { revision, room: ENOUGH });
+    let list = make(day, &Call::List { revision, room: SHEET });
     if list.code != Code::Accepted {
         return list;
     }
@@ -60,9 +59,9 @@ fn queried<D>(
     bib: u16,
     make: impl Fn(&mut D, &Call) -> Answer,
 ) -> Option<Answer> {
-    for client in 0..16 {
+    for client in 0..CLIENTS {
         make(day, &Call::Yield { client });
     }
-    let mut queries = (0..16).map(|client| make(day, &Call::Query { client, revision, bib }));
+    let mut queries = (0..CLIENTS).map(|client| make(day, &Call::Query { client, revision, bib }));
     queries.find(|answer| answer.code == Code::Accepted)
 }

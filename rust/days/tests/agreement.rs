@@ -3,7 +3,7 @@
 
 use std::collections::BTreeMap;
 
-use calls::{Call, Code, State, KINDS as NAMES};
+use calls::{Call, Code, State, BIBS, KINDS as NAMES, REVISIONS};
 use days::{
     chains_of_joins, days_of, disagreement, disagreement_with_previews, disagreement_with_reads,
     late_days, must_pass, seeds, Profile, Sample,
@@ -23,6 +23,9 @@ const KINDS: [(Profile, u64); 10] = [
     (Profile::NEARLY_FULL, 60),
 ];
 
+/// The last revision's number, which is how many can be joined.
+const LAST: u32 = REVISIONS as u32 - 1;
+
 /// A part of these days, the same whatever `DAYS_FACTOR` is.
 fn one_in(part: u64) -> impl Iterator<Item = Sample> {
     KINDS.into_iter().flat_map(move |(profile, count)| profile.days(0..count / part))
@@ -36,7 +39,7 @@ fn small_days_agree_in_every_listing_and_fill_after_every_step() {
 #[test]
 fn small_days_agree_in_every_preview_after_every_step() {
     must_pass(Profile::SMALL.days(seeds(200)), |calls| {
-        disagreement_with_previews(calls, &[0, 1, 1_000])
+        disagreement_with_previews(calls, &[0, 1, BIBS])
     });
 }
 
@@ -174,7 +177,7 @@ fn fills_of_every_kind_are_made() {
 fn kind_of(day: &literal::Day, number: usize) -> &'static str {
     let open = |t: &literal::Transaction| t.revision == number && t.is_open();
     match day.revisions().get(number) {
-        None if number > 63 => "above 63",
+        None if number >= usize::from(REVISIONS) => "above 63",
         None => "never forked",
         Some(revision) if revision.joined => "joined",
         _ if day.transactions().iter().any(open) => "busy",
@@ -204,7 +207,7 @@ fn full_logs_are_reached_and_joins_follow() {
 fn all_64_revisions_are_started() {
     let starts_63 = |day: &Sample| {
         let mut table = baseline::Day::fresh();
-        day.calls.iter().any(|call| table.call(call).value == 63 && call.name() == "fork")
+        day.calls.iter().any(|call| table.call(call).value == LAST && call.name() == "fork")
     };
     let days = Profile::FORKS.days(0..100).filter(starts_63).count();
     assert!(days >= 30, "days with 64 revisions: {days}");
@@ -219,5 +222,5 @@ fn chains_of_joins_are_accepted_and_as_long_as_can_be() {
         }
         day.calls.iter().filter(|call| call.name() == "join").count()
     });
-    assert_eq!(joins.max(), Some(63), "joins of one day");
+    assert_eq!(joins.max(), Some(LAST as usize), "joins of one day");
 }

@@ -1,7 +1,7 @@
 //! 02, U6, on random days: each preview is the join on a copy, as a list and a query there have it,
 //! and changes nothing. And wrong previews are found.
 
-use calls::{Answer, Call, Code, State};
+use calls::{Answer, Call, Code, State, BIBS, CLIENTS};
 use days::{
     chains_of_joins, days_of, fault_of_previews, late_days, must_find, must_pass, seeds, stands,
     Profile, Sample,
@@ -89,7 +89,7 @@ const WRONG: [(&str, Wrong); 11] = [
         })
     }),
     ("the bib before the refusals of a join", |_, _, bib, right| match bib {
-        1_000.. => Answer::refused(Code::BadEntry),
+        BIBS.. => Answer::refused(Code::BadEntry),
         _ => right,
     }),
     ("no gain if the bib is neither", |_, _, _, right| match right.state {
@@ -124,14 +124,14 @@ const WRONG: [(&str, Wrong); 11] = [
 /// The day with every transaction closed.
 fn all_yielded(day: &Day) -> Day {
     let mut day = day.clone();
-    (0..16).for_each(|client| _ = day.call(&Call::Yield { client }));
+    (0..CLIENTS).for_each(|client| _ = day.call(&Call::Yield { client }));
     day
 }
 
 /// Whether some client may query on a revision.
 fn may_query(day: &Day, revision: usize) -> bool {
     let query = |client| Call::Query { client, revision: revision as u8, bib: 0 };
-    (0..16).any(|client| day.clone().call(&query(client)).code == Code::Accepted)
+    (0..CLIENTS).any(|client| day.clone().call(&query(client)).code == Code::Accepted)
 }
 
 /// What is right, but of an accepted preview the standing after these updates.

@@ -7,13 +7,13 @@ mod common;
 
 use std::collections::BTreeMap;
 
-use calls::{Answer, Call, Code, Line, State};
+use calls::{Answer, Call, Code, Line, State, BIBS, CLIENTS, REVISIONS};
 use cells::{cells, is_table, Cell};
 use common::{
     answered, by_baseline, difference, first_difference, fresh, library, only_reads, sheet, Given,
 };
 use days::{fault_of_bundles, random_day, seeds, Profile, Rng};
-use silttongs::{Refusal, Table, BYTES, SHEET};
+use silttongs::{Refusal, Table, BUNDLE, BYTES, SHEET};
 
 /// How many damaged buffers are tried.
 const BUFFERS: u64 = 8_000;
@@ -133,15 +133,16 @@ impl Met {
         *self.codes.entry(code).or_default() += 1;
         let (Call::List { revision, .. }, 1..) = (call, value) else { return };
         // It is accepted with just the room that it needs, and not with a byte less.
-        let needed = 12 * value as usize;
+        let needed = Line::BYTES * value as usize;
         for (room, code) in [(needed, Code::Accepted), (needed - 1, Code::SheetShort)] {
             let list = Call::List { revision, room };
             assert_eq!(judged(&list).answer.code, code, "{at}, `{list}`");
         }
         // The bib of its last entry is queried, by the first client that may.
-        let bib = u16::from_le_bytes([sheet[needed - 10], sheet[needed - 9]]);
+        let (places, _) = sheet.as_chunks();
+        let Line { bib, .. } = Line::from_bytes(places[value as usize - 1]);
         let mut queries =
-            (0..16).map(|client| judged(&Call::Query { client, revision, bib }).answer);
+            (0..CLIENTS).map(|client| judged(&Call::Query { client, revision, bib }).answer);
         if let Some(found) = queries.find(|answer| answer.code == Code::Accepted) {
             *self.states.entry(found.state).or_default() += 1;
         }
@@ -248,18 +249,18 @@ fn damaged(cells: &[Cell], rng: &mut Rng) -> Vec<u8> {
 /// Mostly numbers in range.
 fn any_call(rng: &mut Rng) -> Call {
     let mut below = |n: usize| if rng.percent(3) { rng.below(256) } else { rng.below(n) };
-    let (client, revision, other, kind) = (below(16), below(64), below(64), 1 + below(4));
-    let (client, revision, kind) = (client as u8, revision as u8, kind as u8);
-    let bib = rng.below(1_010) as u16;
+    let [client, revision, other] = [CLIENTS, REVISIONS, REVISIONS].map(|n| below(n.into()) as u8);
+    let kind = (1 + below(4)) as u8;
+    let bib = rng.below(usize::from(BIBS) + 10) as u16;
     match rng.below(12) {
         0 => Call::Query { client, revision, bib },
         1 => Call::Yield { client },
         2 => Call::Fork { revision },
-        3 => Call::Join { joiner: revision, joinee: other as u8 },
+        3 => Call::Join { joiner: revision, joinee: other },
         4 => Call::List { revision, room: SHEET },
         5 => Call::List { revision, room: rng.below(200) },
         6 => Call::Fill { revision },
-        7 => Call::Preview { joiner: revision, joinee: other as u8, bib },
+        7 => Call::Preview { joiner: revision, joinee: other, bib },
         8 => Call::Bundle { client, revision, records: any_records(rng) },
         _ => Call::Update { client, revision, kind, bib, v: rng.bits() as u32 },
     }
@@ -267,11 +268,11 @@ fn any_call(rng: &mut Rng) -> Call {
 
 /// The records of a bundle, most of them good; in some cases a wrong one.
 fn any_records(rng: &mut Rng) -> Vec<u8> {
-    let (few, any) = (1 + rng.below(4), 1 + rng.below(66));
-    let count = rng.pick(&[few, few, 64, any]);
+    let (few, any) = (1 + rng.below(4), 1 + rng.below(BUNDLE + 2));
+    let count = rng.pick(&[few, few, BUNDLE, any]);
     let record = |_| {
         let [kind, client, bib, rest] = [0; 4].map(|_: u8| rng.bits());
-        let bib = if bib % 100 == 0 { 1_000 } else { (bib % 1_000) as u16 };
+        let bib = if bib % 100 == 0 { BIBS } else { (bib % u64::from(BIBS)) as u16 };
         let kind = 1 + (kind % 4) as u8;
         Line { kind, client: client as u8, bib, v: rest as u32, number: (rest >> 32) as u32 }
     };

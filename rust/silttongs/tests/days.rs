@@ -3,7 +3,7 @@
 
 mod common;
 
-use calls::{Answer, Call, Line};
+use calls::{Answer, Call, Line, BIBS};
 use common::{
     answered, as_given, difference, first_difference, fresh, library, only_reads, refused,
 };
@@ -107,7 +107,7 @@ fn fault_with_reads(calls: &[Call]) -> Option<String> {
 fn fault_with_previews(calls: &[Call]) -> Option<String> {
     let mut day = Day::fresh();
     calls.iter().find_map(|call| {
-        day.fault(call).or_else(|| day.fault_of_reads(&every_preview(&day.literal, &[0, 1_000])))
+        day.fault(call).or_else(|| day.fault_of_reads(&every_preview(&day.literal, &[0, BIBS])))
     })
 }
 

@@ -3,6 +3,7 @@
 #[path = "common/fresh.rs"]
 mod fresh;
 
+use calls::{BIBS, CLIENTS, REVISIONS};
 use fresh::fresh;
 use silttongs::Kind::{Earliest, Penalty, Strike, Time};
 use silttongs::Standing::{Neither, Struck, Timed};
@@ -14,7 +15,7 @@ fn shows(table: &Table<Vec<u8>>, joiner: u8, joinee: u8, bib: u16, standing: Sta
     assert_eq!(table.preview(joiner, joinee, bib), Ok(Preview { standing, gain }));
     assert!(copy == *table, "the table is only read");
     assert_eq!(copy.join(joiner, joinee), Ok(gain));
-    assert_eq!(copy.query(15, joiner, bib), Ok(standing));
+    assert_eq!(copy.query(CLIENTS - 1, joiner, bib), Ok(standing));
 }
 
 /// A box with an update of bib 7, and then one of the box that sent it.
@@ -82,10 +83,10 @@ fn refusals_are_those_of_the_join_and_then_5() -> Result<(), Refusal> {
     table.update(3, 3, Time, 7, 6)?;
     table.yield_(3)?;
     let before = table.clone();
-    for bib in [7, 1_000, 65_535] {
+    for bib in [7, BIBS, u16::MAX] {
         let cases = [
             (1, 9, Refusal::NeverGiven),
-            (64, 1, Refusal::NeverGiven),
+            (REVISIONS, 1, Refusal::NeverGiven),
             (2, 1, Refusal::Joined),
             (1, 2, Refusal::Joined),
             (0, 2, Refusal::InUse),
@@ -98,8 +99,8 @@ fn refusals_are_those_of_the_join_and_then_5() -> Result<(), Refusal> {
             assert_eq!(table.clone().join(joiner, joinee), Err(refusal), "{joiner} {joinee}");
         }
     }
-    assert_eq!(table.preview(0, 3, 1_000), Err(Refusal::BadEntry));
-    assert_eq!(table.preview(0, 3, 999), Ok(Preview { standing: Neither, gain: 1 }));
+    assert_eq!(table.preview(0, 3, BIBS), Err(Refusal::BadEntry));
+    assert_eq!(table.preview(0, 3, BIBS - 1), Ok(Preview { standing: Neither, gain: 1 }));
     assert!(table == before);
     Ok(())
 }
@@ -110,6 +111,6 @@ fn a_preview_reads_alone() -> Result<(), Refusal> {
     let bytes = late((Time, 5), (Time, 6))?.into_bytes();
     let preview = Table::from_bytes(&bytes[..]).preview(0, 1, 7);
     assert_eq!(preview, Ok(Preview { standing: Timed(5), gain: 1 }));
-    assert_eq!(Table::from_bytes(&bytes[1..]).preview(0, 1, 1_000), Err(Refusal::NoTable));
+    assert_eq!(Table::from_bytes(&bytes[1..]).preview(0, 1, BIBS), Err(Refusal::NoTable));
     Ok(())
 }

@@ -3,6 +3,7 @@
 #[path = "common/fresh.rs"]
 mod fresh;
 
+use calls::{BIBS, CLIENTS};
 use fresh::fresh;
 use silttongs::Kind::{Earliest, Penalty, Strike, Time};
 use silttongs::Standing::{Neither, Struck, Timed};
@@ -85,9 +86,9 @@ fn a_refused_query_of_a_struck_bib_answers_neither() -> Result<(), Refusal> {
     table.fork(0)?;
     table.update(0, 0, Strike, 7, 0)?;
     let before = table.clone();
-    assert_eq!(table.query(16, 0, 7), Err(Refusal::UnknownClient));
+    assert_eq!(table.query(CLIENTS, 0, 7), Err(Refusal::UnknownClient));
     assert_eq!(table.query(0, 2, 7), Err(Refusal::NeverGiven));
-    assert_eq!(table.query(0, 0, 1_007), Err(Refusal::BadEntry));
+    assert_eq!(table.query(0, 0, BIBS + 7), Err(Refusal::BadEntry));
     assert_eq!(table.query(0, 1, 7), Err(Refusal::OpenElsewhere));
     assert_eq!(table.query(1, 0, 7), Err(Refusal::InUse));
     assert!(table == before);

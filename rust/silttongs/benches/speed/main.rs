@@ -11,7 +11,7 @@ mod sides;
 use std::hint::black_box;
 use std::time::Instant;
 
-use calls::Call;
+use calls::{Call, CLIENTS, UPDATES};
 use days::{bundle, chain, update, whole};
 use sides::{made, Side, Work};
 use silttongs::SHEET;
@@ -89,11 +89,11 @@ fn clock() -> u64 {
 /// The calls that 01's users make, on middling and on full tables, and whole days.
 fn single_calls() -> Vec<Case> {
     let middle = chain(2_048, 8);
-    let one_revision = chain(4_096, 1);
-    let full = chain(4_096, 8);
+    let one_revision = chain(UPDATES, 1);
+    let full = chain(UPDATES, 8);
     let query = |revision| [Call::Query { client: 0, revision, bib: 7 }];
     let list = |revision| [Call::List { revision, room: SHEET }];
-    let strange = [Call::Yield { client: 16 }];
+    let strange = [Call::Yield { client: CLIENTS }];
     let pair = [update(0, 7, 7), Call::Yield { client: 0 }];
     let preview = |joiner, joinee| [Call::Preview { joiner, joinee, bib: 7 }];
     vec![

@@ -101,7 +101,7 @@ pub(crate) fn by_baseline(bytes: &mut [u8], call: &Call) -> Given {
 #[allow(dead_code, reason = "for the random days alone")]
 pub(crate) fn as_given(call: &Call, answer: Answer) -> Given {
     let mut sheet = sheet(call);
-    for (place, line) in sheet.chunks_exact_mut(12).zip(&answer.lines) {
+    for (place, line) in sheet.chunks_exact_mut(Line::BYTES).zip(&answer.lines) {
         place.copy_from_slice(&line.to_bytes());
     }
     Given { answer: Answer { lines: Vec::new(), ..answer }, sheet }
