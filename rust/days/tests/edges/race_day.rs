@@ -1,5 +1,5 @@
 //! 01, "Edges of a race day", and the listing. The edge of a file without steps is one of
-//! `dayfile/tests/files.rs`.
+//! `dayfile/tests/suite/files.rs`.
 
 use calls::{Line, SHEET};
 

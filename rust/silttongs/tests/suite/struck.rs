@@ -1,13 +1,11 @@
 //! 02, U2 and U3, of the static library: "A struck bib stays struck", "No penalty without a time".
 
-#[path = "common/fresh.rs"]
-mod fresh;
-
 use calls::{BIBS, CLIENTS};
-use fresh::fresh;
 use silttongs::Kind::{Earliest, Penalty, Strike, Time};
 use silttongs::Standing::{Neither, Struck, Timed};
 use silttongs::{Kind, Refusal, Standing};
+
+use super::fresh;
 
 /// Enters updates of bib 7, and compares how it then stands.
 fn stands(updates: &[(Kind, u32)], standing: Standing) {

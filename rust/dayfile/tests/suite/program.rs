@@ -1,17 +1,15 @@
 //! The proved program `day` on random and malformed day files: every byte that it prints is the
 //! literal replay's.
 
-mod common;
-#[path = "common/run.rs"]
-mod run;
-
 use std::path::Path;
 use std::process::Command;
 
 use calls::{Call, UPDATES};
-use common::{file, printed_by_literal, random_record, random_records};
 use dayfile::{read_file, read_text, write_file, Record, LONGEST, MOST_STEPS};
 use days::{chains_of_joins, days_of, late_days, seeds, Profile, Rng, Sample};
+
+use super::run;
+use super::samples::{file, printed_by_literal, random_record, random_records};
 
 /// What the program prints of a file on standard input.
 fn printed(bytes: &[u8]) -> String {

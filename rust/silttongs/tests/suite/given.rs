@@ -1,9 +1,9 @@
 //! The library's calls as values, and what they are compared with.
 
-mod fresh;
-
 use calls::{Answer, Call, Code, Line, State};
 use silttongs::{Refusal, Standing, Table};
+
+use super::fresh;
 
 /// What a call left, but for the table.
 #[derive(Clone, Debug, PartialEq, Eq)]
@@ -15,8 +15,8 @@ pub(crate) struct Given {
 }
 
 /// The bytes of a fresh table.
-pub(crate) fn fresh() -> Vec<u8> {
-    fresh::fresh().into_bytes()
+pub(crate) fn fresh_bytes() -> Vec<u8> {
+    fresh().into_bytes()
 }
 
 /// The sheet of a list before the call: as long as the call says, up to more than any listing
@@ -85,7 +85,6 @@ pub(crate) fn refused(refusal: Refusal) -> Answer {
 }
 
 /// What the baseline gives.
-#[allow(dead_code, reason = "for the damaged buffers alone")]
 pub(crate) fn by_baseline(bytes: &mut [u8], call: &Call) -> Given {
     let mut sheet = sheet(call);
     let answer = match *call {
@@ -98,7 +97,6 @@ pub(crate) fn by_baseline(bytes: &mut [u8], call: &Call) -> Given {
 }
 
 /// What the literal replay's answer comes to: its lines, and behind them the sheet as it was.
-#[allow(dead_code, reason = "for the random days alone")]
 pub(crate) fn as_given(call: &Call, answer: Answer) -> Given {
     let mut sheet = sheet(call);
     for (place, line) in sheet.chunks_exact_mut(Line::BYTES).zip(&answer.lines) {

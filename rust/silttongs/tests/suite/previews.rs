@@ -1,13 +1,11 @@
 //! 02, U6, of the static library: "Look before taking over".
 
-#[path = "common/fresh.rs"]
-mod fresh;
-
 use calls::{BIBS, CLIENTS, REVISIONS};
-use fresh::fresh;
 use silttongs::Kind::{Earliest, Penalty, Strike, Time};
 use silttongs::Standing::{Neither, Struck, Timed};
 use silttongs::{Kind, Preview, Refusal, Standing, Table};
+
+use super::fresh;
 
 /// Compares a preview, leaves every byte, and finds the same by a join and a query on a copy.
 fn shows(table: &Table<Vec<u8>>, joiner: u8, joinee: u8, bib: u16, standing: Standing, gain: u32) {

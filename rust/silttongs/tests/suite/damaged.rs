@@ -1,19 +1,17 @@
 //! Buffers that no day made: every call returns, a refusal changes no byte of table and sheet, two
 //! runs give the same, and code 1 is given exactly if docs/CELLS.md says so.
 
-#[path = "common/cells.rs"]
-mod cells;
-mod common;
-
 use std::collections::BTreeMap;
 
 use calls::{Answer, Call, Code, Line, State, BIBS, CLIENTS, REVISIONS};
-use cells::{cells, is_table, Cell};
-use common::{
-    answered, by_baseline, difference, first_difference, fresh, library, only_reads, sheet, Given,
-};
 use days::{fault_of_bundles, random_day, seeds, Profile, Rng};
 use silttongs::{Refusal, Table, BUNDLE, BYTES, SHEET};
+
+use super::cells::{cells, is_table, Cell};
+use super::given::{
+    answered, by_baseline, difference, first_difference, fresh_bytes, library, only_reads, sheet,
+    Given,
+};
 
 /// How many damaged buffers are tried.
 const BUFFERS: u64 = 8_000;
@@ -25,7 +23,7 @@ const CALLS: usize = 16;
 fn the_cells_with_a_range() {
     let cells = cells();
     assert_eq!(cells.iter().map(|cell| cell.width).sum::<usize>(), 796);
-    assert!(is_table(&cells, &fresh()));
+    assert!(is_table(&cells, &fresh_bytes()));
 }
 
 /// What a refusal gives: no state, no number, and the sheet as it was.
@@ -44,7 +42,7 @@ fn each_cell_at_its_limits() {
         values.extend((high < cell.most()).then(|| high + 1));
         values.push(cell.most());
         for value in values {
-            let mut t = fresh();
+            let mut t = fresh_bytes();
             cell.set(&mut t, value);
             let mut made = |call: Call| {
                 judged(&cells, &mut t, &call)
@@ -63,7 +61,7 @@ fn each_cell_at_its_limits() {
 /// Every other byte is in range, whatever it is.
 #[test]
 fn the_other_bytes_have_every_value_in_range() {
-    let mut t = fresh();
+    let mut t = fresh_bytes();
     let mut ranged = vec![false; BYTES];
     for cell in cells() {
         ranged[cell.at..cell.at + cell.width].fill(true);
@@ -94,7 +92,7 @@ fn wrong_lengths() {
     ];
     let cells = cells();
     for length in [0, 1, 12, 40_959, 40_960, BYTES - 1, BYTES + 1, 2 * BYTES] {
-        let mut t = fresh();
+        let mut t = fresh_bytes();
         t.resize(length, 0);
         let before = t.clone();
         for call in &calls {
@@ -112,7 +110,7 @@ fn wrong_lengths() {
 fn fresh_on_any_content() {
     for seed in seeds(100) {
         let made = Table::fresh(random_bytes(&mut Rng::new(seed))).expect("the length is right");
-        assert!(made.bytes() == fresh(), "seed {seed}");
+        assert!(made.bytes() == fresh_bytes(), "seed {seed}");
         assert!(made.bytes() == baseline::Day::fresh().bytes(), "seed {seed}");
     }
 }
@@ -214,10 +212,10 @@ fn random_bytes(rng: &mut Rng) -> Vec<u8> {
 /// range, so that the calls get past code 1.
 fn damaged(cells: &[Cell], rng: &mut Rng) -> Vec<u8> {
     let mut t = match rng.below(4) {
-        0 => fresh(),
+        0 => fresh_bytes(),
         1 => random_bytes(rng),
         _ => {
-            let mut t = fresh();
+            let mut t = fresh_bytes();
             for call in random_day(&Profile::MIXED, rng.bits()) {
                 library(&mut t, &call);
             }

@@ -1,12 +1,10 @@
 //! 02, U4, of the static library: "A whole bundle from a tablet", as records and as entries.
 
-#[path = "common/fresh.rs"]
-mod fresh;
-
 use calls::{Line, BIBS, CLIENTS, REVISIONS, UPDATES};
-use fresh::fresh;
 use silttongs::Kind::{Penalty, Strike, Time};
 use silttongs::{lines, Entry, Fill, Refusal, Standing, Table, BUNDLE, BYTES, SHEET};
+
+use super::fresh;
 
 fn records(entries: &[Entry]) -> Vec<u8> {
     entries.iter().flat_map(|entry| entry.to_bytes()).collect()

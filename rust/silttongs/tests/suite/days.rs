@@ -1,17 +1,16 @@
 //! Random days: for every call the static library gives the code, state, value, total, gain and sheet
 //! of the literal replay, and leaves the bytes that the baseline leaves.
 
-mod common;
-
 use calls::{Answer, Call, Line, BIBS};
-use common::{
-    answered, as_given, difference, first_difference, fresh, library, only_reads, refused,
-};
 use days::{
     chains_of_joins, days_of, every_fill, every_list, every_preview, fault_of_bundles,
     fault_of_fills, fault_of_previews, late_days, must_pass, seeds, Profile,
 };
 use silttongs::{lines, Entry, Table};
+
+use super::given::{
+    answered, as_given, difference, first_difference, fresh_bytes, library, only_reads, refused,
+};
 
 /// How many days of each kind are replayed.
 const KINDS: [(Profile, u64); 10] = [
@@ -63,8 +62,8 @@ fn small_days_with_every_preview_after_every_step() {
 /// preview is the join on a copy, as a list and a query there have it.
 #[test]
 fn bundles_and_previews_are_what_other_calls_come_to() {
-    let bundles = |calls: &[Call]| fault_of_bundles(fresh(), calls, answered);
-    let previews = |calls: &[Call]| fault_of_previews(fresh(), calls, answered);
+    let bundles = |calls: &[Call]| fault_of_bundles(fresh_bytes(), calls, answered);
+    let previews = |calls: &[Call]| fault_of_previews(fresh_bytes(), calls, answered);
     must_pass(days_of(&one_in(8)), bundles);
     must_pass(days_of(&one_in(8)), previews);
     must_pass(late_days(), previews);
@@ -76,7 +75,7 @@ fn bundles_and_previews_are_what_other_calls_come_to() {
 fn both_forms_on_random_days() {
     let kinds = [(Profile::BUNDLES, 100), (Profile::NEARLY_FULL, 30), (Profile::STRANGE, 100)];
     must_pass(days_of(&kinds), |calls| {
-        let mut t = fresh();
+        let mut t = fresh_bytes();
         calls.iter().find_map(|call| fault_of_entries(&mut t, call))
     });
 }
@@ -112,7 +111,7 @@ fn fault_with_previews(calls: &[Call]) -> Option<String> {
 }
 
 fn fault_of_a_sum(calls: &[Call]) -> Option<String> {
-    fault_of_fills(fresh(), calls, answered)
+    fault_of_fills(fresh_bytes(), calls, answered)
 }
 
 fn fault_of_entries(t: &mut Vec<u8>, call: &Call) -> Option<String> {
@@ -143,7 +142,11 @@ struct Day {
 
 impl Day {
     fn fresh() -> Self {
-        Day { table: fresh(), literal: literal::Day::fresh(), baseline: baseline::Day::fresh() }
+        Day {
+            table: fresh_bytes(),
+            literal: literal::Day::fresh(),
+            baseline: baseline::Day::fresh(),
+        }
     }
 
     /// Makes the call. The baseline is not asked to list, to fill or to preview: its bytes are then
