@@ -43,4 +43,4 @@ pub use previews::fault_of_previews;
 pub use profile::{Profile, Weights};
 pub use reads::{every_fill, every_list, every_preview};
 pub use rng::Rng;
-pub use sample::{days_of, seeds, Sample};
+pub use sample::{days_of, one_in, seeds, Sample};

@@ -3,33 +3,14 @@
 
 use std::collections::BTreeMap;
 
-use calls::{Call, Code, State, BIBS, KINDS as NAMES, REVISIONS};
+use calls::{Call, Code, State, BIBS, KINDS, REVISIONS};
 use days::{
-    chains_of_joins, days_of, disagreement, disagreement_with_previews, disagreement_with_reads,
-    late_days, must_pass, seeds, Profile, Sample,
+    chains_of_joins, disagreement, disagreement_with_previews, disagreement_with_reads, late_days,
+    must_pass, one_in, seeds, Profile, Sample,
 };
-
-/// How many days of each kind are replayed.
-const KINDS: [(Profile, u64); 10] = [
-    (Profile::MIXED, 600),
-    (Profile::NESTED, 600),
-    (Profile::STALE, 400),
-    (Profile::QUERIES, 400),
-    (Profile::STRIKES, 400),
-    (Profile::FORKS, 200),
-    (Profile::STRANGE, 400),
-    (Profile::FULL, 12),
-    (Profile::BUNDLES, 200),
-    (Profile::NEARLY_FULL, 60),
-];
 
 /// The last revision's number, which is how many can be joined.
 const LAST: u32 = REVISIONS as u32 - 1;
-
-/// A part of these days, the same whatever `DAYS_FACTOR` is.
-fn one_in(part: u64) -> impl Iterator<Item = Sample> {
-    KINDS.into_iter().flat_map(move |(profile, count)| profile.days(0..count / part))
-}
 
 #[test]
 fn small_days_agree_in_every_listing_and_fill_after_every_step() {
@@ -45,7 +26,7 @@ fn small_days_agree_in_every_preview_after_every_step() {
 
 #[test]
 fn days_of_all_kinds_agree() {
-    must_pass(days_of(&KINDS), disagreement);
+    must_pass(one_in(1), disagreement);
 }
 
 #[test]
@@ -152,7 +133,7 @@ fn queries_find_bibs_in_every_state() {
 fn name_of(update: literal::Update) -> &'static str {
     match (update.kind, update.v) {
         (1, 0) => "Time 0",
-        (kind, _) => NAMES[usize::from(kind) - 1],
+        (kind, _) => KINDS[usize::from(kind) - 1],
     }
 }
 

@@ -2,22 +2,8 @@
 //! the updates accepted, counted from the calls and their answers. And wrong fills are found.
 
 use calls::{Answer, Call, Code};
-use days::{chains_of_joins, days_of, fault_of_fills, must_find, must_pass, seeds, Profile};
+use days::{chains_of_joins, fault_of_fills, must_find, must_pass, one_in, seeds, Profile};
 use literal::{Day, VertexId, VertexKind};
-
-/// How many days of each kind are replayed.
-const KINDS: [(Profile, u64); 10] = [
-    (Profile::SMALL, 300),
-    (Profile::MIXED, 100),
-    (Profile::NESTED, 100),
-    (Profile::STALE, 100),
-    (Profile::QUERIES, 100),
-    (Profile::FORKS, 50),
-    (Profile::STRANGE, 100),
-    (Profile::FULL, 2),
-    (Profile::BUNDLES, 50),
-    (Profile::NEARLY_FULL, 5),
-];
 
 /// By the literal replay, and by the baseline.
 fn by_either(calls: &[Call]) -> Option<String> {
@@ -27,7 +13,8 @@ fn by_either(calls: &[Call]) -> Option<String> {
 
 #[test]
 fn fills_come_to_the_updates_accepted() {
-    must_pass(days_of(&KINDS), by_either);
+    must_pass(one_in(4), by_either);
+    must_pass(Profile::SMALL.days(seeds(300)), by_either);
     must_pass(chains_of_joins(seeds(30)), by_either);
 }
 

@@ -4,7 +4,7 @@
 use calls::{Answer, Call, Line, BIBS};
 use days::{
     chains_of_joins, days_of, every_fill, every_list, every_preview, fault_of_bundles,
-    fault_of_fills, fault_of_previews, late_days, must_pass, seeds, Profile,
+    fault_of_fills, fault_of_previews, late_days, must_pass, one_in, seeds, Profile,
 };
 use silttongs::{lines, Entry, Table};
 
@@ -12,28 +12,9 @@ use super::given::{
     answered, as_given, difference, first_difference, fresh_bytes, library, only_reads, refused,
 };
 
-/// How many days of each kind are replayed.
-const KINDS: [(Profile, u64); 10] = [
-    (Profile::MIXED, 400),
-    (Profile::NESTED, 400),
-    (Profile::STALE, 300),
-    (Profile::QUERIES, 300),
-    (Profile::STRIKES, 300),
-    (Profile::FORKS, 150),
-    (Profile::STRANGE, 300),
-    (Profile::FULL, 10),
-    (Profile::BUNDLES, 200),
-    (Profile::NEARLY_FULL, 60),
-];
-
-/// One of so many of these days.
-fn one_in(part: u64) -> [(Profile, u64); 10] {
-    KINDS.map(|(profile, count)| (profile, count.div_ceil(part)))
-}
-
 #[test]
 fn days_of_all_kinds() {
-    must_pass(days_of(&KINDS), fault);
+    must_pass(one_in(1), fault);
 }
 
 #[test]
@@ -64,8 +45,8 @@ fn small_days_with_every_preview_after_every_step() {
 fn bundles_and_previews_are_what_other_calls_come_to() {
     let bundles = |calls: &[Call]| fault_of_bundles(fresh_bytes(), calls, answered);
     let previews = |calls: &[Call]| fault_of_previews(fresh_bytes(), calls, answered);
-    must_pass(days_of(&one_in(8)), bundles);
-    must_pass(days_of(&one_in(8)), previews);
+    must_pass(one_in(8), bundles);
+    must_pass(one_in(8), previews);
     must_pass(late_days(), previews);
     must_pass(chains_of_joins(seeds(10)), previews);
 }
@@ -83,7 +64,7 @@ fn both_forms_on_random_days() {
 /// 02, U1: after every step, the own updates of all boxes out come to the updates accepted.
 #[test]
 fn fills_come_to_the_updates_accepted() {
-    must_pass(days_of(&one_in(4)), fault_of_a_sum);
+    must_pass(one_in(4), fault_of_a_sum);
     must_pass(Profile::SMALL.days(seeds(200)), fault_of_a_sum);
     must_pass(chains_of_joins(seeds(30)), fault_of_a_sum);
 }
