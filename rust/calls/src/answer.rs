@@ -51,8 +51,11 @@ pub struct Line {
 }
 
 impl Line {
+    /// Bytes of a line, and of a record of a bundle.
+    pub const BYTES: usize = 12;
+
     /// From the bytes of the listing, least significant first.
-    pub fn from_bytes(bytes: [u8; 12]) -> Self {
+    pub fn from_bytes(bytes: [u8; Line::BYTES]) -> Self {
         let [kind, client, bib_low, bib_high, v0, v1, v2, v3, number @ ..] = bytes;
         Line {
             kind,
@@ -64,7 +67,7 @@ impl Line {
     }
 
     /// The bytes in the listing.
-    pub fn to_bytes(self) -> [u8; 12] {
+    pub fn to_bytes(self) -> [u8; Line::BYTES] {
         let Line { kind, client, bib, v, number } = self;
         let [bib_low, bib_high] = bib.to_le_bytes();
         let [v0, v1, v2, v3] = v.to_le_bytes();

@@ -65,7 +65,7 @@ pub enum Call {
         client: u8,
         /// 01: box.
         revision: u8,
-        /// 12 bytes each, laid out as a [`Line`] of a listing. "their tablet and number aren't
+        /// [`Line::BYTES`] each, laid out as a line of a listing. "their tablet and number aren't
         /// looked at".
         records: Vec<u8>,
     },

@@ -1,4 +1,5 @@
-//! The codes of the desk: their numbers and names in 01 and 02.
+//! The codes of the desk: their numbers and names in 01 and 02. In code they go by the paper's
+//! terms, as the refusals of the wrapper `silttongs` do.
 
 use std::fmt;
 
@@ -11,29 +12,29 @@ pub enum Code {
     /// The buffer is no table. It arises on buffers only.
     NoTable = 1,
     /// Client above 15.
-    StrangeClient = 2,
+    UnknownClient = 2,
     /// Revision number not yet given out.
-    NeverForked = 3,
+    NeverGiven = 3,
     /// The revision was joined.
     Joined = 4,
     /// Bib above 999, or update kind not 1 to 4.
     BadEntry = 5,
     /// The client's open transaction is on another revision.
-    OtherRevisionOpen = 6,
+    OpenElsewhere = 6,
     /// Another client, or for fork, join and list any client, has an open transaction there.
     InUse = 7,
     /// No path from the client's last event to the terminal.
-    StaleClient = 8,
+    Stale = 8,
     /// 4,096 updates were accepted.
     LogFull = 9,
     /// 64 revisions started.
-    NoRevisionLeft = 10,
+    NoneLeft = 10,
     /// The join rule does not hold.
     NotJoinable = 11,
     /// The listing buffer is too small.
-    ListingShort = 12,
+    SheetShort = 12,
     /// A day file's step byte is not 1 to 5. Given by the program, by no call.
-    StrangeStep = 13,
+    UnknownStep = 13,
     /// 02, U4: the records of a bundle are none or above 64, or not whole.
     WrongBundle = 14,
 }
@@ -42,18 +43,18 @@ pub enum Code {
 const NAMED: [(Code, &str); 15] = [
     (Code::Accepted, "taken"),
     (Code::NoTable, "no table"),
-    (Code::StrangeClient, "strange tablet"),
-    (Code::NeverForked, "never sent"),
+    (Code::UnknownClient, "strange tablet"),
+    (Code::NeverGiven, "never sent"),
     (Code::Joined, "handed in"),
     (Code::BadEntry, "bad entry"),
-    (Code::OtherRevisionOpen, "other box open"),
+    (Code::OpenElsewhere, "other box open"),
     (Code::InUse, "in use"),
-    (Code::StaleClient, "not caught up"),
+    (Code::Stale, "not caught up"),
     (Code::LogFull, "log full"),
-    (Code::NoRevisionLeft, "no box left"),
+    (Code::NoneLeft, "no box left"),
     (Code::NotJoinable, "not joinable"),
-    (Code::ListingShort, "sheet short"),
-    (Code::StrangeStep, "strange step"),
+    (Code::SheetShort, "sheet short"),
+    (Code::UnknownStep, "strange step"),
     (Code::WrongBundle, "wrong bundle"),
 ];
 

@@ -1,7 +1,7 @@
 //! The calls of a day, what they answer with, and how both are written.
 //!
 //! Words only. No rule of the table stands here: the implementations that are compared with one
-//! another share these types and nothing else.
+//! another share these types and nothing else. The sizes of a day are for what makes and judges days.
 //!
 //! "01" is the scope document, "02" the change requests, "002" the paper "Eventually Consistent
 //! Transactions". Identifiers use the paper's terms: revision (01: box), client (tablet), terminal
@@ -12,7 +12,9 @@
 mod answer;
 mod call;
 mod code;
+mod sizes;
 
 pub use answer::{Answer, Line, State};
 pub use call::{Call, KINDS, STRIKE};
 pub use code::Code;
+pub use sizes::{BIBS, BUNDLE, CLIENTS, REVISIONS, SHEET, UPDATES};

@@ -9,6 +9,7 @@ use std::path::{Path, PathBuf};
 use std::process::{Command, Stdio};
 use std::time::{Duration, Instant};
 
+use calls::BIBS;
 use dayfile::{write_file, Record, MOST_STEPS};
 
 /// How many runs each program has.
@@ -22,8 +23,8 @@ fn longest(queries: bool) -> Vec<u8> {
             11 => 3,
             _ => 1,
         };
-        let bib = (i % 1_000) as u16;
-        Record { step, kind: 1, bib, v: i as u32, ..Record::from_bytes([0; 12]) }
+        let bib = (i % usize::from(BIBS)) as u16;
+        Record { step, kind: 1, bib, v: i as u32, ..Record::default() }
     };
     let records: Vec<Record> = (0..MOST_STEPS).map(record).collect();
     write_file(&records).expect("as many steps as fit")
@@ -40,20 +41,20 @@ fn timed(mut command: Command, file: &Path) -> (Vec<u8>, Duration) {
 fn main() {
     let day = Path::new(env!("CARGO_MANIFEST_DIR")).join("../../target/bin/day");
     assert!(day.is_file(), "{} is missing: run `rt check day`", day.display());
-    println!("{:30}{:>10}{:>10}{:>8}", "microseconds", "plain", "proved", "ratio");
+    println!("{:30}{:>10}{:>10}{:>8}", "microseconds", "baseline", "proved", "ratio");
     for (name, queries) in [("5,460 steps", false), ("5,460 steps with 455 queries", true)] {
         let file = PathBuf::from(env!("CARGO_TARGET_TMPDIR")).join("longest.day");
         std::fs::write(&file, longest(queries)).expect("the folder is cargo's");
         let mut fastest = [Duration::MAX; 2];
         for _ in 0..RUNS {
-            let mut plain = Command::new(env!("CARGO_BIN_EXE_dayfile"));
-            plain.arg("print");
-            let plain = timed(plain, &file);
+            let mut baseline = Command::new(env!("CARGO_BIN_EXE_dayfile"));
+            baseline.arg("print");
+            let baseline = timed(baseline, &file);
             let proved = timed(Command::new(&day), &file);
-            assert!(plain.0 == proved.0, "{name}: what they print differs");
-            fastest = [fastest[0].min(plain.1), fastest[1].min(proved.1)];
+            assert!(baseline.0 == proved.0, "{name}: what they print differs");
+            fastest = [fastest[0].min(baseline.1), fastest[1].min(proved.1)];
         }
-        let [plain, proved] = fastest.map(|time| time.as_secs_f64() * 1e6);
-        println!("{name:30}{plain:10.0}{proved:10.0}{:8.2}", proved / plain);
+        let [baseline, proved] = fastest.map(|time| time.as_secs_f64() * 1e6);
+        println!("{name:30}{baseline:10.0}{proved:10.0}{:8.2}", proved / baseline);
     }
 }

@@ -1,8 +1,8 @@
 //! Day files: 01, "Day file and printed day".
 //!
 //! A day file is a header and 12-byte records. This library reads and writes it, turns it into a
-//! text of one step a line and back, shows what a day answers, by the plain implementation, and
-//! draws its diagram.
+//! text of one step a line and back, shows what a day answers, by the baseline, and draws its
+//! diagram.
 //!
 //! ```
 //! let records = dayfile::read_text("update 0/0 Time bib 7 61000\nquery 0/0 bib 7\n")?;

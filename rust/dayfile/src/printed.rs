@@ -2,8 +2,8 @@
 
 use std::fmt::Write;
 
+use baseline::Day;
 use calls::{Answer, Code, State};
-use plain::Day;
 
 use crate::file::read_file;
 use crate::record::Record;
@@ -13,7 +13,7 @@ pub fn answers(records: &[Record]) -> Vec<Answer> {
     let mut day = Day::fresh();
     let answer = |record: &Record| match record.call() {
         Some(call) => day.call(&call),
-        None => Answer::refused(Code::StrangeStep),
+        None => Answer::refused(Code::UnknownStep),
     };
     records.iter().map(answer).collect()
 }

@@ -1,7 +1,7 @@
 //! 02, U4: "The outcome equals sending the updates one by one and then a yield. If any of them would
 //! be refused, the code of the earliest is given and the table keeps every byte."
 
-use calls::{Answer, Call, Code, Line};
+use calls::{Answer, Call, Code, Line, BUNDLE};
 
 use crate::copies::fault_on_copies;
 
@@ -12,12 +12,12 @@ pub fn fault_of_bundles<D: Clone + PartialEq>(
     calls: &[Call],
     make: impl Fn(&mut D, &Call) -> Answer,
 ) -> Option<String> {
-    fault_on_copies(day, calls, &make, |call, before, _| match *call {
+    fault_on_copies(day, calls, &make, |call, before| match *call {
         Call::Bundle { client, revision, ref records } => {
             let mut after = before.clone();
             let answer = singly(&mut after, client, revision, records, &make);
             let left = if answer.code == Code::Accepted { after } else { before };
-            Some((answer, left))
+            Some((vec![answer], left))
         }
         _ => None,
     })
@@ -42,8 +42,8 @@ fn singly<D>(
     records: &[u8],
     make: impl Fn(&mut D, &Call) -> Answer,
 ) -> Answer {
-    let count = records.len() / 12;
-    if !records.len().is_multiple_of(12) || !(1..=64).contains(&count) {
+    let (whole, rest) = records.as_chunks::<{ Line::BYTES }>();
+    if !rest.is_empty() || !(1..=BUNDLE).contains(&whole.len()) {
         return Answer::refused(Code::WrongBundle);
     }
     // On a table that no day made, the last update may have left no table for the yield.

@@ -2,9 +2,8 @@
 
 use std::ops::Range;
 
-use calls::Call;
+use calls::{Call, CLIENTS, REVISIONS, SHEET};
 
-use crate::generator::ENOUGH;
 use crate::rng::Rng;
 use crate::sample::Sample;
 
@@ -16,7 +15,7 @@ pub fn chains_of_joins(seeds: Range<u64>) -> impl Iterator<Item = Sample> {
 
 fn chain_of_joins(seed: u64) -> Vec<Call> {
     let mut rng = Rng::new(seed);
-    let length = 2 + rng.below(62) as u8;
+    let length = 2 + rng.below(usize::from(REVISIONS) - 2) as u8;
     let way = rng.below(3);
     let mut calls = Vec::new();
     for child in 1..=length {
@@ -38,7 +37,7 @@ fn chain_of_joins(seed: u64) -> Vec<Call> {
         calls.extend([0, 1].map(|bib| Call::Preview { joiner, joinee, bib }));
         calls.push(Call::Join { joiner, joinee });
         entries(&mut rng, joiner, &mut calls);
-        calls.push(Call::List { revision: joiner, room: ENOUGH });
+        calls.push(Call::List { revision: joiner, room: SHEET });
         calls.extend([joiner, joinee].map(|revision| Call::Fill { revision }));
     }
     calls
@@ -46,7 +45,7 @@ fn chain_of_joins(seed: u64) -> Vec<Call> {
 
 /// A transaction of up to three updates, or a query, by a client of any number.
 fn entries(rng: &mut Rng, revision: u8, calls: &mut Vec<Call>) {
-    let client = rng.below(16) as u8;
+    let client = rng.below(usize::from(CLIENTS)) as u8;
     for _ in 0..rng.below(4) {
         let (kind, bib, v) = (1 + rng.below(4) as u8, rng.below(2) as u16, rng.below(100) as u32);
         calls.push(Call::Update { client, revision, kind, bib, v });

@@ -1,4 +1,4 @@
-//! The literal replay against the plain implementation, answer by answer.
+//! The literal replay against the baseline, answer by answer.
 
 use calls::Call;
 use literal::Day;
@@ -31,16 +31,16 @@ fn disagreement_with(calls: &[Call], reads: impl Fn(&Day) -> Vec<Call>) -> Optio
 
 struct Both {
     literal: Day,
-    plain: plain::Day,
+    baseline: baseline::Day,
 }
 
 impl Both {
     fn fresh() -> Self {
-        Both { literal: Day::fresh(), plain: plain::Day::fresh() }
+        Both { literal: Day::fresh(), baseline: baseline::Day::fresh() }
     }
 
     fn differ(&mut self, call: &Call) -> Option<String> {
-        let (literal, plain) = (self.literal.call(call), self.plain.call(call));
-        (literal != plain).then(|| format!("`{call}`: literal {literal}, plain {plain}"))
+        let (literal, baseline) = (self.literal.call(call), self.baseline.call(call));
+        (literal != baseline).then(|| format!("`{call}`: literal {literal}, baseline {baseline}"))
     }
 }

@@ -3,7 +3,7 @@
 
 use std::collections::BTreeSet;
 
-use calls::{Answer, Call, Code};
+use calls::{Answer, Call, Code, Line, REVISIONS};
 
 /// The first time of a day, its start included, at which the fills of all revisions do not come to
 /// the updates accepted until then, in words. `make` makes one call, on a table that was fresh.
@@ -37,7 +37,9 @@ impl History {
         }
         match *call {
             Call::Update { .. } => self.accepted += 1,
-            Call::Bundle { ref records, .. } => self.accepted += records.len() as u32 / 12,
+            Call::Bundle { ref records, .. } => {
+                self.accepted += (records.len() / Line::BYTES) as u32;
+            }
             Call::Fork { .. } => {
                 self.out.insert(answer.value as u8);
             }
@@ -52,7 +54,7 @@ impl History {
     fn fault<D>(&self, day: &mut D, make: impl Fn(&mut D, &Call) -> Answer) -> Option<String> {
         let History { accepted, out } = self;
         let mut sum = 0;
-        for revision in (0..=64).chain([128, 255]) {
+        for revision in (0..=REVISIONS).chain([128, u8::MAX]) {
             let Answer { code, value: own, total, .. } = make(day, &Call::Fill { revision });
             let told = code == Code::Accepted;
             if told != out.contains(&revision) {

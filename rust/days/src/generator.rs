@@ -1,18 +1,15 @@
 //! Random days. The generator knows no rule of the table: it keeps a picture of the day from the
 //! answers alone and picks calls that are likely to be accepted, and some that are not.
 
-use calls::{Answer, Call, Code};
+use calls::{Answer, Call, Code, Line, BIBS, CLIENTS, REVISIONS, SHEET};
 
 use crate::profile::Profile;
 use crate::rng::Rng;
 
-/// Room for the longest listing.
-pub(crate) const ENOUGH: usize = 4_096 * 12;
-
-/// A random day: its calls, picked by the answers of the plain implementation.
+/// A random day: its calls, picked by the answers of the baseline.
 pub fn random_day(profile: &Profile, seed: u64) -> Vec<Call> {
     let mut generator = Generator::new(profile, seed);
-    let mut day = plain::Day::fresh();
+    let mut day = baseline::Day::fresh();
     let count = profile.calls / 2 + generator.rng.below(profile.calls / 2 + 1);
     (0..profile.first + count)
         .map(|at| {
@@ -35,9 +32,9 @@ pub(crate) struct Generator<'a> {
     /// Who forked each revision, or took over the one that did.
     forker: Vec<u8>,
     /// The revision of each client's open transaction.
-    open: [Option<u8>; 16],
+    open: [Option<u8>; CLIENTS as usize],
     /// Where each client was last, or who took that over.
-    last: [u8; 16],
+    last: [u8; CLIENTS as usize],
     pub(crate) updates: usize,
     /// What was picked together with the call before it.
     next: Option<Call>,
@@ -51,8 +48,8 @@ impl<'a> Generator<'a> {
             out: vec![0],
             given: 1,
             forker: vec![0],
-            open: [None; 16],
-            last: [0; 16],
+            open: [None; CLIENTS as usize],
+            last: [0; CLIENTS as usize],
             updates: 0,
             next: None,
         }
@@ -82,7 +79,7 @@ impl<'a> Generator<'a> {
             Call::Bundle { client, revision, ref records } => {
                 self.entered(client, revision);
                 self.open[usize::from(client)] = None;
-                self.updates += records.len() / 12;
+                self.updates += records.len() / Line::BYTES;
             }
             Call::List { .. } | Call::Fill { .. } | Call::Preview { .. } => {}
         }
@@ -189,7 +186,7 @@ impl<'a> Generator<'a> {
 
     /// In most cases, the yield of another client that keeps one of these revisions busy.
     pub(crate) fn settled(&mut self, caller: Option<u8>, revisions: &[u8], call: Call) -> Call {
-        let busy = (0..16).find(|&client| {
+        let busy = (0..CLIENTS).find(|&client| {
             let open = self.open[usize::from(client)];
             Some(client) != caller && open.is_some_and(|revision| revisions.contains(&revision))
         });
@@ -227,7 +224,7 @@ impl<'a> Generator<'a> {
             true => (self.forker[usize::from(entered)], entered),
             false => self.pair(),
         };
-        let strange = self.rng.pick(&[1_000, 65_535]);
+        let strange = self.rng.pick(&[BIBS, u16::MAX]);
         let bib = if self.rng.percent(5) { strange } else { self.bib() };
         let call = Call::Preview { joiner, joinee, bib };
         let call = self.settled(None, &[joiner, joinee], call);
@@ -239,8 +236,8 @@ impl<'a> Generator<'a> {
 
     fn list(&mut self) -> Call {
         let revision = self.any_out();
-        let some = 12 * self.rng.below(self.updates + 2);
-        let room = self.rng.pick(&[ENOUGH, ENOUGH, some, some + 11]);
+        let some = Line::BYTES * self.rng.below(self.updates + 2);
+        let room = self.rng.pick(&[SHEET, SHEET, some, some + Line::BYTES - 1]);
         self.settled(None, &[revision], Call::List { revision, room })
     }
 
@@ -256,15 +253,15 @@ impl<'a> Generator<'a> {
     fn any_number(&mut self) -> u8 {
         let given = self.rng.below(self.given) as u8;
         let any = self.rng.bits() as u8;
-        self.rng.pick(&[given, given, given, self.given as u8, 64, any])
+        self.rng.pick(&[given, given, given, self.given as u8, REVISIONS, any])
     }
 
     /// One argument replaced: the first number out of range, or any number.
     fn spoilt(&mut self, call: Call) -> Call {
         let any = self.rng.bits();
         let number = self.any_number();
-        let strange_client = self.rng.pick(&[16, any as u8]);
-        let strange_bib = self.rng.pick(&[999, 1_000, any as u16]);
+        let strange_client = self.rng.pick(&[CLIENTS, any as u8]);
+        let strange_bib = self.rng.pick(&[BIBS - 1, BIBS, any as u16]);
         let strange_kind = self.rng.pick(&[0, 5, any as u8]);
         let which = self.rng.below(4);
         match call {

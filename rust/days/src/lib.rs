@@ -3,11 +3,11 @@
 //! Days are made from a seed, but for the short ones of [`late_days`]. A failed check prints the
 //! seed, and the shortest day found that still fails. There are five checks:
 //!
-//! - the literal replay and the plain implementation agree on every answer;
+//! - the literal replay and the baseline agree on every answer;
 //! - an arbitration order (01: line-up) has what demand 3 says of it, by brute force;
 //! - the fills of all revisions come to the updates accepted;
 //! - a bundle is its updates and a yield;
-//! - a preview is the join on a copy and a query there.
+//! - a preview is the join on a copy, as a list and a query there have it.
 
 #![forbid(unsafe_code)]
 
@@ -43,4 +43,4 @@ pub use previews::fault_of_previews;
 pub use profile::{Profile, Weights};
 pub use reads::{every_fill, every_list, every_preview};
 pub use rng::Rng;
-pub use sample::{days_of, seeds, Sample};
+pub use sample::{days_of, one_in, seeds, Sample};

@@ -1,5 +1,7 @@
 //! Kinds of day: what a random day is mostly made of.
 
+use calls::{BIBS, CLIENTS, REVISIONS};
+
 /// How often each call is tried, against the others.
 #[derive(Clone, Copy, Debug)]
 pub struct Weights {
@@ -61,10 +63,10 @@ impl Profile {
         name: "mixed",
         first: 0,
         calls: 200,
-        clients: 16,
+        clients: CLIENTS,
         bibs: 5,
         kinds: ALIKE,
-        revisions: 65,
+        revisions: REVISIONS as usize + 1,
         weights: Weights {
             update: 35,
             query: 15,
@@ -228,7 +230,7 @@ impl Profile {
     pub const STRANGE: Profile = Profile {
         name: "strange",
         calls: 150,
-        bibs: 1_000,
+        bibs: BIBS,
         weights: Weights {
             update: 30,
             query: 15,

@@ -1,11 +1,11 @@
 //! The calls that only read, of every revision of a day: what small days are asked after each step.
 
-use calls::Call;
+use calls::{Call, Line, REVISIONS};
 use literal::Day;
 
 /// A fill of every revision, and of numbers that were not given out.
 pub fn every_fill(day: &Day) -> Vec<Call> {
-    numbers(day).chain([64, 255]).map(|revision| Call::Fill { revision }).collect()
+    numbers(day).chain([REVISIONS, u8::MAX]).map(|revision| Call::Fill { revision }).collect()
 }
 
 /// A listing of every revision, and of the number after the last: with so many bytes more than it
@@ -14,7 +14,7 @@ pub fn every_list(day: &Day, more: usize) -> Vec<Call> {
     let lists = |revision: u8| {
         let number = usize::from(revision);
         let visible = if number < day.revisions().len() { day.visible(number).len() } else { 0 };
-        let needed = 12 * visible;
+        let needed = Line::BYTES * visible;
         let rooms = [needed.saturating_add(more), needed, needed.saturating_sub(1)];
         rooms.map(|room| Call::List { revision, room })
     };

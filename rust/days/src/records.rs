@@ -1,13 +1,13 @@
 //! How the generator makes the records of a bundle.
 
-use calls::{Call, Line};
+use calls::{Call, Line, BIBS, BUNDLE, CLIENTS, UPDATES};
 
 use crate::generator::Generator;
 
 impl Generator<'_> {
     /// 64 entries of client 0 on the main revision.
     pub(crate) fn first(&mut self) -> Call {
-        let records = (0..64).flat_map(|_| self.line().to_bytes()).collect();
+        let records = (0..BUNDLE).flat_map(|_| self.line().to_bytes()).collect();
         Call::Bundle { client: 0, revision: 0, records }
     }
 
@@ -16,11 +16,12 @@ impl Generator<'_> {
         let client = self.client();
         let revision = self.place(client);
         let few = 1 + self.rng.below(6);
-        let any = 1 + self.rng.below(64);
-        let mut counts = vec![1, few, few, few, few, any, any, 63, 64, 64];
+        let any = 1 + self.rng.below(BUNDLE);
+        let mut counts = vec![1, few, few, few, few, any, any, BUNDLE - 1, BUNDLE, BUNDLE];
         // All that the log has room for, and one more.
-        let room = 4_096 - self.updates;
-        counts.extend([room, room, room + 1].into_iter().filter(|room| (1..=64).contains(room)));
+        let room = UPDATES - self.updates;
+        counts
+            .extend([room, room, room + 1].into_iter().filter(|room| (1..=BUNDLE).contains(room)));
         let count = self.rng.pick(&counts);
         let mut records = self.records(count);
         if self.rng.percent(8) {
@@ -38,7 +39,7 @@ impl Generator<'_> {
             let any = self.rng.bits();
             match self.rng.percent(50) {
                 true => bad.kind = self.rng.pick(&[0, 5, any as u8]),
-                false => bad.bib = self.rng.pick(&[1_000, 1_024, any as u16]),
+                false => bad.bib = self.rng.pick(&[BIBS, 1_024, any as u16]),
             }
         }
         lines.into_iter().flat_map(Line::to_bytes).collect()
@@ -48,16 +49,18 @@ impl Generator<'_> {
     fn line(&mut self) -> Line {
         let (kind, bib, v) = self.entry();
         let any = self.rng.bits();
-        let client = self.rng.pick(&[0, 3, 15, 16, any as u8]);
+        let client = self.rng.pick(&[0, 3, CLIENTS - 1, CLIENTS, any as u8]);
         let number = self.rng.pick(&[0, 1, (any >> 32) as u32]);
         Line { kind, client, bib, v, number }
     }
 
     /// No record, 65 or more, or some bytes too few or too many.
     fn resized(&mut self, records: &mut Vec<u8>) {
-        let some = self.rng.below(66 * 12);
-        let odd = (records.len() + self.rng.below(24)).saturating_sub(12);
-        let length = self.rng.pick(&[0, 65 * 12, 65 * 12, odd, odd, some, 256 * 12]);
+        let one_more = (BUNDLE + 1) * Line::BYTES;
+        let some = self.rng.below(one_more + Line::BYTES);
+        let odd = (records.len() + self.rng.below(2 * Line::BYTES)).saturating_sub(Line::BYTES);
+        let most = 256 * Line::BYTES;
+        let length = self.rng.pick(&[0, one_more, one_more, odd, odd, some, most]);
         while records.len() < length {
             records.extend(self.line().to_bytes());
         }

@@ -44,6 +44,26 @@ impl Profile {
     }
 }
 
+/// How many days of each kind are a thorough replay. Small days come besides: they are short enough
+/// to be looked at after each step.
+const KINDS: [(Profile, u64); 10] = [
+    (Profile::MIXED, 600),
+    (Profile::NESTED, 600),
+    (Profile::STALE, 400),
+    (Profile::QUERIES, 400),
+    (Profile::STRIKES, 400),
+    (Profile::FORKS, 200),
+    (Profile::STRANGE, 400),
+    (Profile::FULL, 12),
+    (Profile::BUNDLES, 200),
+    (Profile::NEARLY_FULL, 60),
+];
+
+/// The random days of a thorough replay, or one in so many of each kind.
+pub fn one_in(part: u64) -> impl Iterator<Item = Sample> {
+    KINDS.into_iter().flat_map(move |(profile, count)| profile.days(seeds(count.div_ceil(part))))
+}
+
 /// The random days of several kinds, with so many [`seeds`] of each.
 pub fn days_of(kinds: &[(Profile, u64)]) -> impl Iterator<Item = Sample> + '_ {
     kinds.iter().flat_map(|&(profile, count)| profile.days(seeds(count)))

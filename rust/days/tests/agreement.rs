@@ -1,32 +1,16 @@
-//! Random days of all kinds: the literal replay and the plain implementation give the same code,
-//! state, value, total, gain and listing for every call.
+//! Random days of all kinds: the literal replay and the baseline give the same code, state, value,
+//! total, gain and listing for every call.
 
 use std::collections::BTreeMap;
 
-use calls::{Call, Code, State, KINDS as NAMES};
+use calls::{Call, Code, State, BIBS, KINDS, REVISIONS};
 use days::{
-    chains_of_joins, days_of, disagreement, disagreement_with_previews, disagreement_with_reads,
-    late_days, must_pass, seeds, Profile, Sample,
+    chains_of_joins, disagreement, disagreement_with_previews, disagreement_with_reads, late_days,
+    must_pass, one_in, seeds, Profile, Sample,
 };
 
-/// How many days of each kind are replayed.
-const KINDS: [(Profile, u64); 10] = [
-    (Profile::MIXED, 600),
-    (Profile::NESTED, 600),
-    (Profile::STALE, 400),
-    (Profile::QUERIES, 400),
-    (Profile::STRIKES, 400),
-    (Profile::FORKS, 200),
-    (Profile::STRANGE, 400),
-    (Profile::FULL, 12),
-    (Profile::BUNDLES, 200),
-    (Profile::NEARLY_FULL, 60),
-];
-
-/// A part of these days, the same whatever `DAYS_FACTOR` is.
-fn one_in(part: u64) -> impl Iterator<Item = Sample> {
-    KINDS.into_iter().flat_map(move |(profile, count)| profile.days(0..count / part))
-}
+/// The last revision's number, which is how many can be joined.
+const LAST: u32 = REVISIONS as u32 - 1;
 
 #[test]
 fn small_days_agree_in_every_listing_and_fill_after_every_step() {
@@ -36,13 +20,13 @@ fn small_days_agree_in_every_listing_and_fill_after_every_step() {
 #[test]
 fn small_days_agree_in_every_preview_after_every_step() {
     must_pass(Profile::SMALL.days(seeds(200)), |calls| {
-        disagreement_with_previews(calls, &[0, 1, 1_000])
+        disagreement_with_previews(calls, &[0, 1, BIBS])
     });
 }
 
 #[test]
 fn days_of_all_kinds_agree() {
-    must_pass(days_of(&KINDS), disagreement);
+    must_pass(one_in(1), disagreement);
 }
 
 #[test]
@@ -61,7 +45,7 @@ fn days_with_late_updates_agree() {
 fn every_call_meets_each_of_its_codes() {
     let mut met: BTreeMap<(&str, u8), usize> = BTreeMap::new();
     for Sample { calls, .. } in one_in(1) {
-        let mut day = plain::Day::fresh();
+        let mut day = baseline::Day::fresh();
         for call in calls {
             *met.entry((call.name(), day.call(&call).code.number())).or_default() += 1;
         }
@@ -149,7 +133,7 @@ fn queries_find_bibs_in_every_state() {
 fn name_of(update: literal::Update) -> &'static str {
     match (update.kind, update.v) {
         (1, 0) => "Time 0",
-        (kind, _) => NAMES[usize::from(kind) - 1],
+        (kind, _) => KINDS[usize::from(kind) - 1],
     }
 }
 
@@ -174,7 +158,7 @@ fn fills_of_every_kind_are_made() {
 fn kind_of(day: &literal::Day, number: usize) -> &'static str {
     let open = |t: &literal::Transaction| t.revision == number && t.is_open();
     match day.revisions().get(number) {
-        None if number > 63 => "above 63",
+        None if number >= usize::from(REVISIONS) => "above 63",
         None => "never forked",
         Some(revision) if revision.joined => "joined",
         _ if day.transactions().iter().any(open) => "busy",
@@ -184,7 +168,7 @@ fn kind_of(day: &literal::Day, number: usize) -> &'static str {
 
 /// The codes of a day's calls.
 fn codes(calls: &[Call]) -> Vec<Code> {
-    let mut day = plain::Day::fresh();
+    let mut day = baseline::Day::fresh();
     calls.iter().map(|call| day.call(call).code).collect()
 }
 
@@ -203,8 +187,8 @@ fn full_logs_are_reached_and_joins_follow() {
 #[test]
 fn all_64_revisions_are_started() {
     let starts_63 = |day: &Sample| {
-        let mut table = plain::Day::fresh();
-        day.calls.iter().any(|call| table.call(call).value == 63 && call.name() == "fork")
+        let mut table = baseline::Day::fresh();
+        day.calls.iter().any(|call| table.call(call).value == LAST && call.name() == "fork")
     };
     let days = Profile::FORKS.days(0..100).filter(starts_63).count();
     assert!(days >= 30, "days with 64 revisions: {days}");
@@ -219,5 +203,5 @@ fn chains_of_joins_are_accepted_and_as_long_as_can_be() {
         }
         day.calls.iter().filter(|call| call.name() == "join").count()
     });
-    assert_eq!(joins.max(), Some(63), "joins of one day");
+    assert_eq!(joins.max(), Some(LAST as usize), "joins of one day");
 }

@@ -1,7 +1,7 @@
 //! 02, U4, on random days: each bundle is its updates one by one and then a yield, or, if one of them
 //! would be refused, changes nothing. And wrong bundles are found.
 
-use calls::{Answer, Call, Code, Line};
+use calls::{Answer, Call, Code, Line, BIBS, BUNDLE, CLIENTS, UPDATES};
 use days::{days_of, fault_of_bundles, must_find, must_pass, updates_of, Profile, Sample};
 use literal::Day;
 
@@ -16,20 +16,20 @@ const KINDS: [(Profile, u64); 7] = [
     (Profile::NEARLY_FULL, 60),
 ];
 
-fn by_plain(calls: &[Call]) -> Option<String> {
-    fault_of_bundles(plain::Day::fresh(), calls, plain::Day::call)
+fn by_baseline(calls: &[Call]) -> Option<String> {
+    fault_of_bundles(baseline::Day::fresh(), calls, baseline::Day::call)
 }
 
 #[test]
 fn bundles_are_their_updates_and_a_yield() {
-    must_pass(days_of(&KINDS), by_plain);
+    must_pass(days_of(&KINDS), by_baseline);
 }
 
 /// Bundles of nearly every size are accepted, the log is filled by some to its last place, and others find
 /// it full in their midst. Many continue an open transaction.
 #[test]
 fn bundles_of_every_kind_are_made() {
-    let mut sizes = [0; 65];
+    let mut sizes = [0; BUNDLE + 1];
     let (mut filled, mut full_within, mut late_bad, mut continued) = (0, 0, 0, 0);
     let kinds = [Profile::BUNDLES, Profile::NEARLY_FULL];
     for Sample { calls, .. } in kinds.into_iter().flat_map(|kind| kind.days(0..60)) {
@@ -40,21 +40,21 @@ fn bundles_of_every_kind_are_made() {
             let code = day.call(&call).code;
             let Call::Bundle { ref records, .. } = call else { continue };
             let left = day.transactions().iter().filter(|t| t.is_open()).count();
-            let count = records.len() / 12;
+            let count = records.len() / Line::BYTES;
             match code {
                 Code::Accepted => {
                     sizes[count] += 1;
-                    filled += usize::from(before + count == 4_096);
+                    filled += usize::from(before + count == UPDATES);
                     continued += usize::from(left < open);
                 }
-                Code::LogFull => full_within += usize::from(before < 4_096),
+                Code::LogFull => full_within += usize::from(before < UPDATES),
                 Code::BadEntry => late_bad += usize::from(good(records)),
                 _ => {}
             }
         }
     }
     let met = sizes.iter().filter(|&&times| times > 0).count();
-    assert!(met >= 60 && sizes[1] >= 50 && sizes[64] >= 50, "{sizes:?}");
+    assert!(met >= 60 && sizes[1] >= 50 && sizes[BUNDLE] >= 50, "{sizes:?}");
     let met = [filled, full_within, late_bad, continued];
     assert!(met.iter().all(|&times| times >= 20), "{met:?}");
 }
@@ -63,7 +63,7 @@ fn bundles_of_every_kind_are_made() {
 fn good(records: &[u8]) -> bool {
     let (whole, _) = records.as_chunks();
     let Line { kind, bib, .. } = Line::from_bytes(whole[0]);
-    (1..=4).contains(&kind) && bib < 1_000
+    (1..=4).contains(&kind) && bib < BIBS
 }
 
 /// What a wrong bundle answers and does.
@@ -98,14 +98,14 @@ const WRONG: [(&str, Wrong); 13] = [
     }),
     ("the last entry's number", |day, client, revision, records| {
         let answer = right(day, client, revision, records);
-        let more = (records.len() as u32 / 12).saturating_sub(1);
+        let more = (records.len() / Line::BYTES).saturating_sub(1) as u32;
         Answer {
             value: if answer.code == Code::Accepted { answer.value + more } else { 0 },
             ..answer
         }
     }),
     ("65 entries are taken", |day, client, revision, records| {
-        if records.len() != 65 * 12 {
+        if records.len() != (BUNDLE + 1) * Line::BYTES {
             return right(day, client, revision, records);
         }
         let mut copy = day.clone();
@@ -123,7 +123,7 @@ const WRONG: [(&str, Wrong); 13] = [
         right(day, client, revision, records)
     }),
     ("bytes left over are dropped", |day, client, revision, records| {
-        let whole = records.len() - records.len() % 12;
+        let whole = records.len() - records.len() % Line::BYTES;
         right(day, client, revision, &records[..whole])
     }),
     ("an empty bundle is a yield", |day, client, revision, records| match records {
@@ -133,25 +133,25 @@ const WRONG: [(&str, Wrong); 13] = [
     ("a wrong bundle is found after 2 and 3", |day, client, revision, records| {
         let known = usize::from(revision) < day.revisions().len();
         match (client, known) {
-            (16.., _) => Answer::refused(Code::StrangeClient),
-            (_, false) => Answer::refused(Code::NeverForked),
+            (CLIENTS.., _) => Answer::refused(Code::UnknownClient),
+            (_, false) => Answer::refused(Code::NeverGiven),
             _ => right(day, client, revision, records),
         }
     }),
     ("bad entries before all else", |day, client, revision, records| {
         let answer = right(day, client, revision, records);
         let refused = ![Code::Accepted, Code::WrongBundle].contains(&answer.code);
-        let bad = |bytes: &[u8; 12]| !good(bytes);
+        let bad = |bytes: &[u8; Line::BYTES]| !good(bytes);
         match refused && records.as_chunks().0.iter().any(bad) {
             true => Answer::refused(Code::BadEntry),
             false => answer,
         }
     }),
     ("a log too short before bad entries", |day, client, revision, records| {
-        let after = day.updates().len() + records.len() / 12;
+        let after = day.updates().len() + records.len() / Line::BYTES;
         let answer = right(day, client, revision, records);
         match answer.code {
-            Code::BadEntry if after > 4_096 => Answer::refused(Code::LogFull),
+            Code::BadEntry if after > UPDATES => Answer::refused(Code::LogFull),
             _ => answer,
         }
     }),

@@ -2,32 +2,19 @@
 //! the updates accepted, counted from the calls and their answers. And wrong fills are found.
 
 use calls::{Answer, Call, Code};
-use days::{chains_of_joins, days_of, fault_of_fills, must_find, must_pass, seeds, Profile};
+use days::{chains_of_joins, fault_of_fills, must_find, must_pass, one_in, seeds, Profile};
 use literal::{Day, VertexId, VertexKind};
 
-/// How many days of each kind are replayed.
-const KINDS: [(Profile, u64); 10] = [
-    (Profile::SMALL, 300),
-    (Profile::MIXED, 100),
-    (Profile::NESTED, 100),
-    (Profile::STALE, 100),
-    (Profile::QUERIES, 100),
-    (Profile::FORKS, 50),
-    (Profile::STRANGE, 100),
-    (Profile::FULL, 2),
-    (Profile::BUNDLES, 50),
-    (Profile::NEARLY_FULL, 5),
-];
-
-/// By the literal replay, and by the plain implementation.
+/// By the literal replay, and by the baseline.
 fn by_either(calls: &[Call]) -> Option<String> {
     fault_of_fills(Day::fresh(), calls, Day::call)
-        .or_else(|| fault_of_fills(plain::Day::fresh(), calls, plain::Day::call))
+        .or_else(|| fault_of_fills(baseline::Day::fresh(), calls, baseline::Day::call))
 }
 
 #[test]
 fn fills_come_to_the_updates_accepted() {
-    must_pass(days_of(&KINDS), by_either);
+    must_pass(one_in(4), by_either);
+    must_pass(Profile::SMALL.days(seeds(300)), by_either);
     must_pass(chains_of_joins(seeds(30)), by_either);
 }
 
@@ -46,7 +33,7 @@ const WRONG: [(&str, Wrong); 8] = [
         _ => right,
     }),
     ("numbers never given out are told too", |day, _, right| match right.code {
-        Code::NeverForked => Answer::filled(0, day.updates().len() as u32),
+        Code::NeverGiven => Answer::filled(0, day.updates().len() as u32),
         _ => right,
     }),
     ("busy revisions are refused", |day, r, right| match open(day, r).next() {

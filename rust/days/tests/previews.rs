@@ -1,7 +1,7 @@
-//! 02, U6, on random days: each preview is the join on a copy and a query there, and changes
-//! nothing. And wrong previews are found.
+//! 02, U6, on random days: each preview is the join on a copy, as a list and a query there have it,
+//! and changes nothing. And wrong previews are found.
 
-use calls::{Answer, Call, Code, State};
+use calls::{Answer, Call, Code, State, BIBS, CLIENTS};
 use days::{
     chains_of_joins, days_of, fault_of_previews, late_days, must_find, must_pass, seeds, stands,
     Profile, Sample,
@@ -20,15 +20,15 @@ const KINDS: [(Profile, u64); 8] = [
     (Profile::BUNDLES, 100),
 ];
 
-fn by_plain(calls: &[Call]) -> Option<String> {
-    fault_of_previews(plain::Day::fresh(), calls, plain::Day::call)
+fn by_baseline(calls: &[Call]) -> Option<String> {
+    fault_of_previews(baseline::Day::fresh(), calls, baseline::Day::call)
 }
 
 #[test]
-fn previews_are_the_join_and_a_query_on_a_copy() {
-    must_pass(days_of(&KINDS), by_plain);
-    must_pass(chains_of_joins(seeds(50)), by_plain);
-    must_pass(late_days(), by_plain);
+fn previews_are_the_join_on_a_copy_and_what_is_read_there() {
+    must_pass(days_of(&KINDS), by_baseline);
+    must_pass(chains_of_joins(seeds(50)), by_baseline);
+    must_pass(late_days(), by_baseline);
 }
 
 /// Previews find bibs in every state, changed by the join or not, and joins follow many of them.
@@ -89,7 +89,7 @@ const WRONG: [(&str, Wrong); 11] = [
         })
     }),
     ("the bib before the refusals of a join", |_, _, bib, right| match bib {
-        1_000.. => Answer::refused(Code::BadEntry),
+        BIBS.. => Answer::refused(Code::BadEntry),
         _ => right,
     }),
     ("no gain if the bib is neither", |_, _, _, right| match right.state {
@@ -116,11 +116,23 @@ const WRONG: [(&str, Wrong); 11] = [
         if right.code != Code::InUse {
             return right;
         }
-        let mut copy = day.clone();
-        (0..16).for_each(|client| _ = copy.call(&Call::Yield { client }));
-        copy.call(&Call::Preview { joiner: joiner as u8, joinee: joinee as u8, bib })
+        let [joiner, joinee] = [joiner as u8, joinee as u8];
+        all_yielded(day).call(&Call::Preview { joiner, joinee, bib })
     }),
 ];
+
+/// The day with every transaction closed.
+fn all_yielded(day: &Day) -> Day {
+    let mut day = day.clone();
+    (0..CLIENTS).for_each(|client| _ = day.call(&Call::Yield { client }));
+    day
+}
+
+/// Whether some client may query on a revision.
+fn may_query(day: &Day, revision: usize) -> bool {
+    let query = |client| Call::Query { client, revision: revision as u8, bib: 0 };
+    (0..CLIENTS).any(|client| day.clone().call(&query(client)).code == Code::Accepted)
+}
 
 /// What is right, but of an accepted preview the standing after these updates.
 fn told(day: &Day, bib: u16, right: Answer, numbers: impl Fn(&Day) -> Vec<usize>) -> Answer {
@@ -131,19 +143,37 @@ fn told(day: &Day, bib: u16, right: Answer, numbers: impl Fn(&Day) -> Vec<usize>
     Answer { state, value, ..right }
 }
 
+/// The day with previews made wrong, judged.
+fn by_wrong(wrong: Wrong) -> impl Fn(&[Call]) -> Option<String> {
+    move |calls| {
+        fault_of_previews(Day::fresh(), calls, |day, call| match *call {
+            Call::Preview { joiner, joinee, bib } => {
+                let right = day.call(call);
+                wrong(day, [joiner, joinee].map(usize::from), bib, right)
+            }
+            _ => day.call(call),
+        })
+    }
+}
+
 #[test]
 fn wrong_previews_are_found() {
     let kinds = [Profile::NESTED, Profile::STRIKES, Profile::STRANGE];
     for (name, wrong) in WRONG {
-        let by_wrong = |calls: &[Call]| {
-            fault_of_previews(Day::fresh(), calls, |day, call| match *call {
-                Call::Preview { joiner, joinee, bib } => {
-                    let right = day.call(call);
-                    wrong(day, [joiner, joinee].map(usize::from), bib, right)
-                }
-                _ => day.call(call),
-            })
-        };
-        must_find(name, kinds.into_iter().flat_map(|kind| kind.days(0..30)), by_wrong);
+        must_find(name, kinds.into_iter().flat_map(|kind| kind.days(0..30)), by_wrong(wrong));
     }
+}
+
+/// Where no client is caught up with the joiner, a list tells what is right.
+#[test]
+fn previews_are_compared_where_no_client_may_query() {
+    let wrong: Wrong = |day, [joiner, joinee], _, right| {
+        let mut copy = all_yielded(day);
+        copy.call(&Call::Join { joiner: joiner as u8, joinee: joinee as u8 });
+        match right.code == Code::Accepted && !may_query(&copy, joiner) {
+            true => Answer { value: right.value.wrapping_add(1), ..right },
+            false => right,
+        }
+    };
+    must_find("wrong where no client may query", chains_of_joins(0..50), by_wrong(wrong));
 }

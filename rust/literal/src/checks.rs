@@ -23,7 +23,7 @@ fn refuse_if(condition: bool, code: Code) -> Result<(), Code> {
 
 /// 2: "tablet above 15".
 pub(crate) fn client_known(client: usize) -> Result<(), Code> {
-    refuse_if(client >= CLIENTS, Code::StrangeClient)
+    refuse_if(client >= CLIENTS, Code::UnknownClient)
 }
 
 /// 5: "bib above 999".
@@ -38,7 +38,7 @@ pub(crate) fn kind_known(kind: u8) -> Result<(), Code> {
 
 /// 12: "the listing's buffer is smaller than it needs".
 pub(crate) fn listing_fits(visible: usize, room: usize) -> Result<(), Code> {
-    refuse_if(room < ENTRY * visible, Code::ListingShort)
+    refuse_if(room < ENTRY * visible, Code::SheetShort)
 }
 
 /// 14: "the count is 0 or above 64 or the bytes aren't a multiple of 12".
@@ -50,7 +50,7 @@ pub(crate) fn bundle_whole(bytes: usize) -> Result<(), Code> {
 impl Day {
     /// 3: "box number not yet given out".
     pub(crate) fn given_out(&self, revision: usize) -> Result<(), Code> {
-        refuse_if(revision >= self.revisions.len(), Code::NeverForked)
+        refuse_if(revision >= self.revisions.len(), Code::NeverGiven)
     }
 
     /// 4: "box already a joinee".
@@ -61,7 +61,7 @@ impl Day {
     /// 6: "the tablet's open transaction is on another box".
     pub(crate) fn open_nowhere_else(&self, client: usize, revision: usize) -> Result<(), Code> {
         let open = self.open_revision(client);
-        refuse_if(open.is_some_and(|other| other != revision), Code::OtherRevisionOpen)
+        refuse_if(open.is_some_and(|other| other != revision), Code::OpenElsewhere)
     }
 
     /// 7, update and query: "another tablet has the box busy".
@@ -80,7 +80,7 @@ impl Day {
     pub(crate) fn caught_up(&self, client: usize, revision: usize) -> Result<(), Code> {
         let terminal = self.revisions[revision].terminal;
         let last_event = self.clients[client].last_event;
-        refuse_if(last_event.is_some_and(|x| !self.diagram.leads(x, terminal)), Code::StaleClient)
+        refuse_if(last_event.is_some_and(|x| !self.diagram.leads(x, terminal)), Code::Stale)
     }
 
     /// 9: "4,096 updates taken".
@@ -90,7 +90,7 @@ impl Day {
 
     /// 10: "64 boxes started".
     pub(crate) fn revision_left(&self) -> Result<(), Code> {
-        refuse_if(self.revisions.len() >= REVISIONS, Code::NoRevisionLeft)
+        refuse_if(self.revisions.len() >= REVISIONS, Code::NoneLeft)
     }
 
     /// 11: "joinee is box 0, is the joiner, its fork isn't seen, or its start is".

@@ -2,7 +2,7 @@
 //!
 //! An explicit graph of vertices and edges, a path search each time a path is asked for, and the
 //! recursion of 002's Definitions 8 and 9. Nothing is clever and nothing is kept that can be worked
-//! out. It is the measure that the table and the plain implementation are compared with.
+//! out. It is the measure that the table and the baseline are compared with.
 
 #![forbid(unsafe_code)]
 

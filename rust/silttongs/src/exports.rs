@@ -73,9 +73,10 @@ pub(crate) fn yield_(t: &mut [u8], client: u8) -> Result<u32, Refusal> {
     answer(unsafe { silttongs_yield(t.as_mut_ptr(), t.len(), client) })
 }
 
-pub(crate) fn fork(t: &mut [u8], revision: u8) -> Result<u32, Refusal> {
+pub(crate) fn fork(t: &mut [u8], revision: u8) -> Result<u8, Refusal> {
     // SAFETY: as above.
-    answer(unsafe { silttongs_fork(t.as_mut_ptr(), t.len(), revision) })
+    let number = answer(unsafe { silttongs_fork(t.as_mut_ptr(), t.len(), revision) })?;
+    Ok(u8::try_from(number).expect("a box number is 63 at most"))
 }
 
 pub(crate) fn join(t: &mut [u8], joiner: u8, joinee: u8) -> Result<u32, Refusal> {

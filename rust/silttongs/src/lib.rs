@@ -2,7 +2,8 @@
 //!
 //! The calls are the exports of the crate `exports`, written in Rattle and proved against their
 //! definitions; this crate lends them a slice and unpacks their answers. It needs no standard
-//! library and no allocator. A call needs up to 48 KiB of stack.
+//! library and no allocator. A call needs up to 48 KiB of stack. An answer that no proved call gives,
+//! as a refusal with a value, is a panic: the archive is then another one.
 //!
 //! Two boxes, one bib: box 1 is sent off and gets a penalty, meanwhile box 0 gets a corrected time.
 //! What box 1 has comes behind when it is handed in.
@@ -18,7 +19,7 @@
 //! table.yield_(1)?;
 //! table.update(0, 0, Kind::Time, 7, 60_000)?;
 //! table.yield_(0)?;
-//! assert_eq!(table.query(0, sent, 7), Err(Refusal::NotCaughtUp));
+//! assert_eq!(table.query(0, sent, 7), Err(Refusal::Stale));
 //! assert_eq!(table.join(0, sent), Ok(1));
 //! assert_eq!(table.query(1, 0, 7), Ok(Standing::Timed(65_000)));
 //! # Ok::<(), Refusal>(())

@@ -18,7 +18,7 @@ impl Preview {
     pub(crate) fn from_packed(packed: u64) -> Result<Self, Refusal> {
         let gain = (packed >> 48) as u32;
         let found = Standing::from_packed(packed & 0xffff_ffff_ffff);
-        debug_assert!(found.is_ok() || gain == 0, "a refusal gives gain 0");
+        assert!(found.is_ok() || gain == 0, "a refusal gives gain 0");
         found.map(|standing| Preview { standing, gain })
     }
 }

@@ -2,7 +2,14 @@
 
 use core::fmt;
 
-/// A code of the desk but 0. The discriminant is its number.
+/// A code of the desk but 0. The discriminant is its number; it is displayed by the desk's name.
+///
+/// ```
+/// use silttongs::Refusal;
+///
+/// assert_eq!(Refusal::UnknownClient.code(), 2);
+/// assert_eq!(Refusal::UnknownClient.to_string(), "strange tablet");
+/// ```
 #[derive(Clone, Copy, Debug, PartialEq, Eq, PartialOrd, Ord, Hash)]
 #[non_exhaustive]
 #[repr(u8)]
@@ -10,23 +17,23 @@ pub enum Refusal {
     /// The bytes are not 65,536, or a cell is out of its range.
     NoTable = 1,
     /// Tablet above 15.
-    StrangeTablet = 2,
+    UnknownClient = 2,
     /// Box number not yet given out.
-    NeverSent = 3,
+    NeverGiven = 3,
     /// The box was joined already.
-    HandedIn = 4,
+    Joined = 4,
     /// Bib above 999, or update kind not 1 to 4.
     BadEntry = 5,
     /// The tablet's open transaction is on another box.
-    OtherBoxOpen = 6,
+    OpenElsewhere = 6,
     /// Another tablet, or for fork, join and list any tablet, has an open transaction on the box.
     InUse = 7,
     /// The box has not seen the tablet's last event.
-    NotCaughtUp = 8,
+    Stale = 8,
     /// 4,096 updates were taken.
     LogFull = 9,
     /// 64 boxes were started.
-    NoBoxLeft = 10,
+    NoneLeft = 10,
     /// The joinee is box 0 or the joiner, or the joiner has not seen its fork or has seen its start.
     NotJoinable = 11,
     /// The listing needs more bytes.
@@ -38,15 +45,15 @@ pub enum Refusal {
 /// In the order of their numbers. 13 is given by the program `day` alone.
 const ALL: [Refusal; 13] = [
     Refusal::NoTable,
-    Refusal::StrangeTablet,
-    Refusal::NeverSent,
-    Refusal::HandedIn,
+    Refusal::UnknownClient,
+    Refusal::NeverGiven,
+    Refusal::Joined,
     Refusal::BadEntry,
-    Refusal::OtherBoxOpen,
+    Refusal::OpenElsewhere,
     Refusal::InUse,
-    Refusal::NotCaughtUp,
+    Refusal::Stale,
     Refusal::LogFull,
-    Refusal::NoBoxLeft,
+    Refusal::NoneLeft,
     Refusal::NotJoinable,
     Refusal::SheetShort,
     Refusal::WrongBundle,
@@ -62,15 +69,15 @@ impl Refusal {
     pub fn name(self) -> &'static str {
         match self {
             Refusal::NoTable => "no table",
-            Refusal::StrangeTablet => "strange tablet",
-            Refusal::NeverSent => "never sent",
-            Refusal::HandedIn => "handed in",
+            Refusal::UnknownClient => "strange tablet",
+            Refusal::NeverGiven => "never sent",
+            Refusal::Joined => "handed in",
             Refusal::BadEntry => "bad entry",
-            Refusal::OtherBoxOpen => "other box open",
+            Refusal::OpenElsewhere => "other box open",
             Refusal::InUse => "in use",
-            Refusal::NotCaughtUp => "not caught up",
+            Refusal::Stale => "not caught up",
             Refusal::LogFull => "log full",
-            Refusal::NoBoxLeft => "no box left",
+            Refusal::NoneLeft => "no box left",
             Refusal::NotJoinable => "not joinable",
             Refusal::SheetShort => "sheet short",
             Refusal::WrongBundle => "wrong bundle",
@@ -93,7 +100,7 @@ pub(crate) fn answer(packed: u64) -> Result<u32, Refusal> {
     if code == 0 {
         return Ok(packed as u32);
     }
-    debug_assert_eq!(packed as u32, 0, "a refusal gives value 0");
+    assert_eq!(packed as u32, 0, "a refusal gives value 0");
     match ALL.into_iter().find(|&refusal| refusal as u64 == code) {
         Some(refusal) => Err(refusal),
         None => unreachable!("code {code}"),
@@ -117,5 +124,11 @@ mod tests {
     #[should_panic(expected = "code 13")]
     fn no_call_gives_13() {
         let _ = answer(13 << 32);
+    }
+
+    #[test]
+    #[should_panic(expected = "a refusal gives value 0")]
+    fn a_refusal_has_no_value() {
+        let _ = answer(7 << 32 | 1);
     }
 }

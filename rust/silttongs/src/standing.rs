@@ -49,7 +49,7 @@ mod tests {
         assert_eq!(standing(1, 1), Ok(Standing::Timed(1)));
         assert_eq!(standing(1, u32::MAX), Ok(Standing::Timed(u32::MAX)));
         assert_eq!(standing(2, 0), Ok(Standing::Struck));
-        assert_eq!(Standing::from_packed(packed(0, 8, 0)), Err(Refusal::NotCaughtUp));
+        assert_eq!(Standing::from_packed(packed(0, 8, 0)), Err(Refusal::Stale));
     }
 
     #[test]

@@ -162,7 +162,7 @@ impl<B: AsMut<[u8]>> Table<B> {
     /// let mut table = Table::fresh([0; BYTES])?;
     /// assert_eq!(table.fork(0), Ok(1));
     /// assert_eq!(table.fork(1), Ok(2));
-    /// assert_eq!(table.fork(3), Err(Refusal::NeverSent));
+    /// assert_eq!(table.fork(3), Err(Refusal::NeverGiven));
     /// # Ok::<(), Refusal>(())
     /// ```
     ///
@@ -170,7 +170,7 @@ impl<B: AsMut<[u8]>> Table<B> {
     ///
     /// Codes 1, 3, 4, 7 and 10.
     pub fn fork(&mut self, revision: u8) -> Result<u8, Refusal> {
-        exports::fork(self.0.as_mut(), revision).map(|number| number as u8)
+        exports::fork(self.0.as_mut(), revision)
     }
 
     /// Hands a box in: the joiner takes over the joinee's updates, behind its own. How many it
@@ -307,8 +307,8 @@ impl<B: AsRef<[u8]>> Table<B> {
     /// table.yield_(3)?;
     /// table.join(0, 1)?;
     /// assert_eq!(table.fill(0), Ok(Fill { own: 3, total: 3 }));
-    /// assert_eq!(table.fill(1), Err(Refusal::HandedIn));
-    /// assert_eq!(table.fill(2), Err(Refusal::NeverSent));
+    /// assert_eq!(table.fill(1), Err(Refusal::Joined));
+    /// assert_eq!(table.fill(2), Err(Refusal::NeverGiven));
     /// # Ok::<(), Refusal>(())
     /// ```
     ///

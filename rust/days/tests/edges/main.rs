@@ -1,5 +1,5 @@
-//! Edges of the literal replay and of the plain implementation, call by call: those of 01, those of
-//! 02's requests, and the readings of docs/DECISIONS.md.
+//! Edges of the literal replay and of the baseline, call by call: those of 01, those of 02's
+//! requests, and the readings of docs/DECISIONS.md.
 
 mod bundles;
 mod fills;
@@ -45,10 +45,10 @@ fn fill(revision: u8) -> Call {
 
 /// The answers of both implementations, which are the same.
 fn answers(calls: &[Call]) -> Vec<Answer> {
-    let (mut literal, mut plain) = (literal::Day::fresh(), plain::Day::fresh());
+    let (mut literal, mut baseline) = (literal::Day::fresh(), baseline::Day::fresh());
     let by_literal: Vec<Answer> = calls.iter().map(|call| literal.call(call)).collect();
-    let by_plain: Vec<Answer> = calls.iter().map(|call| plain.call(call)).collect();
-    assert_eq!(by_literal, by_plain);
+    let by_baseline: Vec<Answer> = calls.iter().map(|call| baseline.call(call)).collect();
+    assert_eq!(by_literal, by_baseline);
     by_literal
 }
 

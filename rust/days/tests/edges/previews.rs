@@ -126,10 +126,10 @@ fn busy_day() -> [Call; 9] {
 #[test]
 fn refusals_are_those_of_the_join() {
     let cases = [
-        (1, 9, Code::NeverForked),
-        (9, 1, Code::NeverForked),
-        (64, 0, Code::NeverForked),
-        (0, 255, Code::NeverForked),
+        (1, 9, Code::NeverGiven),
+        (9, 1, Code::NeverGiven),
+        (64, 0, Code::NeverGiven),
+        (0, 255, Code::NeverGiven),
         (2, 1, Code::Joined),
         (1, 2, Code::Joined),
         (1, 1, Code::Joined),

@@ -1,7 +1,7 @@
 //! 01, "Edges of a race day", and the listing. The edge of a file without steps is one of
-//! `dayfile/tests/files.rs`.
+//! `dayfile/tests/suite/files.rs`.
 
-use calls::Line;
+use calls::{Line, SHEET};
 
 use super::{
     answers, day, fork, join, list, query, update, yields, Row, EARLIEST, PENALTY, STRIKE, TIME,
@@ -126,8 +126,8 @@ fn the_log_is_full_after_4096_updates_of_all_revisions() {
         (query(0, 0, 7), 0, 4_096),
         (list(0, 0), 7, 0),
         (yields(0), 0, 0),
-        (list(0, 12 * 4_096 - 1), 12, 0),
-        (list(0, 12 * 4_096), 0, 4_096),
+        (list(0, SHEET - 1), 12, 0),
+        (list(0, SHEET), 0, 4_096),
     ]);
     day(&rows);
 }

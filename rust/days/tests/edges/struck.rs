@@ -90,9 +90,9 @@ fn a_strike_and_a_late_box() {
 #[test]
 fn a_refused_query_of_a_struck_bib_answers_neither() {
     let refused = [
-        (query(16, 0, 7), Code::StrangeClient),
-        (query(0, 2, 7), Code::NeverForked),
-        (query(0, 1, 7), Code::OtherRevisionOpen),
+        (query(16, 0, 7), Code::UnknownClient),
+        (query(0, 2, 7), Code::NeverGiven),
+        (query(0, 1, 7), Code::OpenElsewhere),
         (query(1, 0, 7), Code::InUse),
         (query(0, 0, 1007), Code::BadEntry),
     ];
@@ -107,7 +107,7 @@ fn a_refused_query_of_a_struck_bib_answers_neither() {
     let rest = [
         Answer::found(State::Struck, 0),
         Answer::accepted(0),
-        Answer::refused(Code::StaleClient),
+        Answer::refused(Code::Stale),
         Answer::accepted(0),
         Answer::refused(Code::Joined),
     ];

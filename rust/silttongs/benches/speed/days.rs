@@ -1,10 +1,10 @@
 //! The days that are timed.
 
-use calls::{Call, Line};
+use calls::{Call, Line, BIBS, BUNDLE, CLIENTS, REVISIONS, UPDATES};
 
 /// Kind, bib and argument of the n-th update of a day.
 fn entry(n: usize) -> (u8, u16, u32) {
-    (1 + (n % 4) as u8, (n * 7 % 1_000) as u16, n as u32)
+    (1 + (n % 4) as u8, (n * 7 % usize::from(BIBS)) as u16, n as u32)
 }
 
 /// The n-th update of a day.
@@ -19,7 +19,7 @@ pub(crate) fn bundle(client: u8, revision: u8, n: usize) -> Call {
         let (kind, bib, v) = entry(n);
         Line { kind, client, bib, v, number: n as u32 }
     };
-    let records = (n..n + 64).map(record).flat_map(Line::to_bytes).collect();
+    let records = (n..n + BUNDLE).map(record).flat_map(Line::to_bytes).collect();
     Call::Bundle { client, revision, records }
 }
 
@@ -44,9 +44,9 @@ pub(crate) fn chain(updates: usize, revisions: usize) -> Vec<Call> {
 pub(crate) fn whole(queries: bool) -> Vec<Call> {
     let forker = |child: u8| child.saturating_sub(1 + child % 8);
     let mut calls: Vec<Call> =
-        (1..64).map(|child| Call::Fork { revision: forker(child) }).collect();
-    for transaction in 0..1_024 {
-        let client = (transaction % 16) as u8;
+        (1..REVISIONS).map(|child| Call::Fork { revision: forker(child) }).collect();
+    for transaction in 0..UPDATES / 4 {
+        let client = (transaction % usize::from(CLIENTS)) as u8;
         let revision = client + 1;
         calls.extend((0..4).map(|n| update(client, revision, 4 * transaction + n)));
         if queries && transaction.is_multiple_of(4) {
@@ -54,6 +54,6 @@ pub(crate) fn whole(queries: bool) -> Vec<Call> {
         }
         calls.push(Call::Yield { client });
     }
-    calls.extend((1..64).rev().map(|joinee| Call::Join { joiner: forker(joinee), joinee }));
+    calls.extend((1..REVISIONS).rev().map(|joinee| Call::Join { joiner: forker(joinee), joinee }));
     calls
 }

@@ -1,5 +1,5 @@
-//! The static library against `plain`, which keeps the same cells and makes the same checks, in one
-//! process. docs/PERFORMANCE.md has the method and figures.
+//! The static library against `baseline`, which keeps the same cells and makes the same checks, in
+//! one process. docs/PERFORMANCE.md has the method and figures.
 //!
 //!     cargo bench --offline --manifest-path rust/Cargo.toml -p silttongs
 //!     cargo bench --offline --manifest-path rust/Cargo.toml -p silttongs -- --plot FILE
@@ -11,7 +11,7 @@ mod sides;
 use std::hint::black_box;
 use std::time::Instant;
 
-use calls::Call;
+use calls::{Call, CLIENTS, UPDATES};
 use days::{bundle, chain, update, whole};
 use sides::{made, Side, Work};
 use silttongs::SHEET;
@@ -25,7 +25,7 @@ const ROUND: u64 = 2_000_000;
 /// least, without what reading the clock takes.
 #[derive(Clone, Copy, Debug)]
 pub(crate) struct Times {
-    pub(crate) plain: u64,
+    pub(crate) baseline: u64,
     pub(crate) library: u64,
 }
 
@@ -39,7 +39,7 @@ struct Case {
 
 impl Case {
     fn new(name: impl Into<String>, table: Box<[u8]>, work: Work) -> Self {
-        let times = Times { plain: u64::MAX, library: u64::MAX };
+        let times = Times { baseline: u64::MAX, library: u64::MAX };
         Case { name: name.into(), table, work, times }
     }
 
@@ -55,18 +55,18 @@ impl Case {
         let mut spent = 0;
         let mut samples = 0;
         while spent < 2 * ROUND || samples < 2 {
-            let plain = sample(&self.table, &mut a, Side::Plain, &self.work);
+            let baseline = sample(&self.table, &mut a, Side::Baseline, &self.work);
             let library = sample(&self.table, &mut b, Side::Library, &self.work);
             assert!(a == b, "{}: the bytes differ", self.name);
-            self.times.plain = self.times.plain.min(plain);
+            self.times.baseline = self.times.baseline.min(baseline);
             self.times.library = self.times.library.min(library);
-            spent += plain + library;
+            spent += baseline + library;
             samples += 1;
         }
     }
 
     fn ratio(&self) -> f64 {
-        self.times.library as f64 / self.times.plain as f64
+        self.times.library as f64 / self.times.baseline as f64
     }
 }
 
@@ -83,17 +83,17 @@ fn sample(from: &[u8], to: &mut (Box<[u8]>, Vec<u8>), side: Side, work: &Work) -
 fn clock() -> u64 {
     let mut empty = Case::of_calls("nothing", &[], &[]);
     (0..ROUNDS).for_each(|_| empty.round());
-    empty.times.plain.min(empty.times.library)
+    empty.times.baseline.min(empty.times.library)
 }
 
 /// The calls that 01's users make, on middling and on full tables, and whole days.
 fn single_calls() -> Vec<Case> {
     let middle = chain(2_048, 8);
-    let one_revision = chain(4_096, 1);
-    let full = chain(4_096, 8);
+    let one_revision = chain(UPDATES, 1);
+    let full = chain(UPDATES, 8);
     let query = |revision| [Call::Query { client: 0, revision, bib: 7 }];
     let list = |revision| [Call::List { revision, room: SHEET }];
-    let strange = [Call::Yield { client: 16 }];
+    let strange = [Call::Yield { client: CLIENTS }];
     let pair = [update(0, 7, 7), Call::Yield { client: 0 }];
     let preview = |joiner, joinee| [Call::Preview { joiner, joinee, bib: 7 }];
     vec![
@@ -167,11 +167,11 @@ fn main() {
 
     let grown = by_updates.iter_mut().chain(&mut by_revisions).map(|(_, case)| case);
     for case in single.iter_mut().chain(grown) {
-        case.times.plain -= clock;
+        case.times.baseline -= clock;
         case.times.library -= clock;
     }
 
-    println!("{:<44} {:>10} {:>10} {:>7}", "nanoseconds", "plain", "library", "ratio");
+    println!("{:<44} {:>10} {:>10} {:>7}", "nanoseconds", "baseline", "library", "ratio");
     single.iter().for_each(|case| print_case(&case.name, case));
     print_growth("updates, 8 boxes", &by_updates);
     print_growth("boxes, 2,048 updates", &by_revisions);
@@ -191,6 +191,6 @@ fn print_growth(title: &str, cases: &[(usize, Case)]) {
 }
 
 fn print_case(name: &str, case: &Case) {
-    let Times { plain, library } = case.times;
-    println!("{name:<44} {plain:>10} {library:>10} {:>7.2}", case.ratio());
+    let Times { baseline, library } = case.times;
+    println!("{name:<44} {baseline:>10} {library:>10} {:>7.2}", case.ratio());
 }

@@ -1,5 +1,5 @@
 //! How the calls grow, as an SVG: nanoseconds on a logarithmic scale, the library drawn through,
-//! `plain` dashed.
+//! `baseline` dashed.
 
 use std::fmt::Write;
 
@@ -39,7 +39,7 @@ pub(crate) fn svg(by_updates: Vec<Point>, by_revisions: Vec<Point>) -> String {
         put(&mut text, format!("<text x=\"{}\" y=\"397\">{name}</text>", x + 32.0));
         x += 60.0 + 7.5 * name.len() as f64;
     }
-    for (name, dashes) in [("library", ""), ("plain", " stroke-dasharray=\"4 4\"")] {
+    for (name, dashes) in [("library", ""), ("baseline", " stroke-dasharray=\"4 4\"")] {
         let line = format!("<path d=\"M{x} 392h26\" stroke=\"#222\" stroke-width=\"2\"{dashes}/>");
         put(&mut text, line);
         put(&mut text, format!("<text x=\"{}\" y=\"397\">{name}</text>", x + 32.0));
@@ -89,7 +89,7 @@ fn panel(text: &mut String, left: f64, title: &str, points: &[Point]) {
         };
         let style = format!("fill=\"none\" stroke=\"{colour}\" stroke-width=\"2\"");
         put(text, format!("<path d=\"M{}\" {style}/>", path(|times| times.library)));
-        let dashed = path(|times| times.plain);
+        let dashed = path(|times| times.baseline);
         put(text, format!("<path d=\"M{dashed}\" {style} stroke-dasharray=\"4 4\"/>"));
     }
 }

@@ -21,7 +21,7 @@ pub(crate) enum Work {
 /// One of the sides.
 #[derive(Clone, Copy, Debug)]
 pub(crate) enum Side {
-    Plain,
+    Baseline,
     Library,
 }
 
@@ -42,7 +42,7 @@ impl Side {
 
     fn fresh(self, t: &mut [u8]) -> Given {
         match self {
-            Side::Plain => by_plain(plain::fresh(t).map(one)),
+            Side::Baseline => by_baseline(baseline::fresh(t).map(one)),
             Side::Library => by_library(Table::fresh(t).map(|_| one(0_u32))),
         }
     }
@@ -50,29 +50,31 @@ impl Side {
     /// Makes one call.
     pub(crate) fn call(self, t: &mut [u8], sheet: &mut [u8], call: &Call) -> Given {
         match self {
-            Side::Plain => by_plain(call_plain(t, sheet, call)),
+            Side::Baseline => by_baseline(call_baseline(t, sheet, call)),
             Side::Library => by_library(call_library(t, sheet, call)),
         }
     }
 }
 
-fn call_plain(t: &mut [u8], sheet: &mut [u8], call: &Call) -> Result<Option<u64>, Code> {
-    let stands = |standing: plain::Standing| (!standing.struck).then_some(standing.value.into());
+fn call_baseline(t: &mut [u8], sheet: &mut [u8], call: &Call) -> Result<Option<u64>, Code> {
+    let stands = |standing: baseline::Standing| (!standing.struck).then_some(standing.value.into());
     match *call {
         Call::Update { client, revision, kind, bib, v } => {
-            plain::update(t, client, revision, kind, bib, v).map(one)
+            baseline::update(t, client, revision, kind, bib, v).map(one)
         }
-        Call::Query { client, revision, bib } => plain::query(t, client, revision, bib).map(stands),
-        Call::Yield { client } => plain::yield_(t, client).map(one),
-        Call::Fork { revision } => plain::fork(t, revision).map(one),
-        Call::Join { joiner, joinee } => plain::join(t, joiner, joinee).map(one),
-        Call::List { revision, room } => plain::list(t, revision, &mut sheet[..room]).map(one),
-        Call::Fill { revision } => plain::fill(t, revision).map(|f| both(one(f.own), f.total)),
+        Call::Query { client, revision, bib } => {
+            baseline::query(t, client, revision, bib).map(stands)
+        }
+        Call::Yield { client } => baseline::yield_(t, client).map(one),
+        Call::Fork { revision } => baseline::fork(t, revision).map(one),
+        Call::Join { joiner, joinee } => baseline::join(t, joiner, joinee).map(one),
+        Call::List { revision, room } => baseline::list(t, revision, &mut sheet[..room]).map(one),
+        Call::Fill { revision } => baseline::fill(t, revision).map(|f| both(one(f.own), f.total)),
         Call::Bundle { client, revision, ref records } => {
-            plain::bundle(t, client, revision, records).map(one)
+            baseline::bundle(t, client, revision, records).map(one)
         }
         Call::Preview { joiner, joinee, bib } => {
-            plain::preview(t, joiner, joinee, bib).map(|p| both(stands(p.standing), p.gain))
+            baseline::preview(t, joiner, joinee, bib).map(|p| both(stands(p.standing), p.gain))
         }
     }
 }
@@ -108,7 +110,7 @@ fn both(lower: Option<u64>, upper: impl Into<u64>) -> Option<u64> {
     lower.map(|lower| upper.into() << 32 | lower)
 }
 
-fn by_plain(answer: Result<Option<u64>, Code>) -> Given {
+fn by_baseline(answer: Result<Option<u64>, Code>) -> Given {
     answer.map_or_else(|code| (code.number(), Some(0)), |value| (0, value))
 }
 

@@ -1,12 +1,11 @@
 //! The command-line tool as a user meets it: output, messages and exit status.
 
-#[path = "common/run.rs"]
-mod run;
-
 use std::process::Command;
 
-const TEXT: &str = include_str!("../../../examples/crossing.txt");
-const FILE: &[u8] = include_bytes!("../../../examples/crossing.day");
+use super::run;
+
+const TEXT: &str = include_str!("../../../../examples/crossing.txt");
+const FILE: &[u8] = include_bytes!("../../../../examples/crossing.day");
 
 /// The tool with these arguments.
 fn dayfile(arguments: &[&str]) -> Command {
@@ -113,7 +112,7 @@ fn prints_and_shows_struck() {
 #[test]
 fn draws_the_day() {
     let drawn = String::from_utf8(output(&["draw"], FILE)).unwrap();
-    assert_eq!(drawn, include_str!("../../../docs/crossing.svg"));
+    assert_eq!(drawn, include_str!("../../../../docs/crossing.svg"));
 }
 
 #[test]

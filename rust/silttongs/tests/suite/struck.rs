@@ -1,12 +1,11 @@
 //! 02, U2 and U3, of the static library: "A struck bib stays struck", "No penalty without a time".
 
-#[path = "common/fresh.rs"]
-mod fresh;
-
-use fresh::fresh;
+use calls::{BIBS, CLIENTS};
 use silttongs::Kind::{Earliest, Penalty, Strike, Time};
 use silttongs::Standing::{Neither, Struck, Timed};
 use silttongs::{Kind, Refusal, Standing};
+
+use super::fresh;
 
 /// Enters updates of bib 7, and compares how it then stands.
 fn stands(updates: &[(Kind, u32)], standing: Standing) {
@@ -85,16 +84,16 @@ fn a_refused_query_of_a_struck_bib_answers_neither() -> Result<(), Refusal> {
     table.fork(0)?;
     table.update(0, 0, Strike, 7, 0)?;
     let before = table.clone();
-    assert_eq!(table.query(16, 0, 7), Err(Refusal::StrangeTablet));
-    assert_eq!(table.query(0, 2, 7), Err(Refusal::NeverSent));
-    assert_eq!(table.query(0, 0, 1_007), Err(Refusal::BadEntry));
-    assert_eq!(table.query(0, 1, 7), Err(Refusal::OtherBoxOpen));
+    assert_eq!(table.query(CLIENTS, 0, 7), Err(Refusal::UnknownClient));
+    assert_eq!(table.query(0, 2, 7), Err(Refusal::NeverGiven));
+    assert_eq!(table.query(0, 0, BIBS + 7), Err(Refusal::BadEntry));
+    assert_eq!(table.query(0, 1, 7), Err(Refusal::OpenElsewhere));
     assert_eq!(table.query(1, 0, 7), Err(Refusal::InUse));
     assert!(table == before);
     assert_eq!(table.query(0, 0, 7), Ok(Struck));
     table.yield_(0)?;
-    assert_eq!(table.query(0, 1, 7), Err(Refusal::NotCaughtUp));
+    assert_eq!(table.query(0, 1, 7), Err(Refusal::Stale));
     table.join(0, 1)?;
-    assert_eq!(table.query(0, 1, 7), Err(Refusal::HandedIn));
+    assert_eq!(table.query(0, 1, 7), Err(Refusal::Joined));
     Ok(())
 }

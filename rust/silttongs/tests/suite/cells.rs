@@ -2,6 +2,8 @@
 
 use std::ops::RangeInclusive;
 
+use silttongs::BYTES;
+
 /// A cell that does not have every value in range.
 #[derive(Clone, Debug, PartialEq, Eq)]
 pub(crate) struct Cell {
@@ -66,5 +68,5 @@ fn number(text: &str) -> usize {
 
 /// Code 1 of every call but fresh: the length, or a cell out of its range.
 pub(crate) fn is_table(cells: &[Cell], t: &[u8]) -> bool {
-    t.len() == 65_536 && cells.iter().all(|cell| cell.range.contains(&cell.value(t)))
+    t.len() == BYTES && cells.iter().all(|cell| cell.range.contains(&cell.value(t)))
 }

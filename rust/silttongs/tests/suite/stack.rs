@@ -2,6 +2,7 @@
 
 use std::thread;
 
+use calls::UPDATES;
 use silttongs::{Entry, Kind, Refusal, Standing, Table, BUNDLE, BYTES, SHEET};
 
 /// The longest own list, and so the deepest recursion, on box 1: a query walks it, and a fork, a list
@@ -9,14 +10,15 @@ use silttongs::{Entry, Kind, Refusal, Standing, Table, BUNDLE, BYTES, SHEET};
 #[test]
 fn the_deepest_calls_fit_in_48_kib() {
     let run = || {
+        let single = (UPDATES - BUNDLE) as u32;
         let mut table = Table::fresh(vec![0; BYTES])?;
         table.fork(0)?;
         table.update(0, 1, Kind::Time, 7, 1)?;
-        for v in 2..=4_032 {
+        for v in 2..=single {
             table.update(0, 1, Kind::Penalty, 7, v)?;
         }
         let entries: [Entry; BUNDLE] =
-            std::array::from_fn(|i| Entry::new(Kind::Penalty, 7, 4_033 + i as u32));
+            std::array::from_fn(|i| Entry::new(Kind::Penalty, 7, single + 1 + i as u32));
         table.bundle_entries(0, 1, &entries)?;
         let standing = table.query(0, 1, 7)?;
         table.yield_(0)?;
@@ -28,5 +30,6 @@ fn the_deepest_calls_fit_in_48_kib() {
         Ok::<Standing, Refusal>(standing)
     };
     let thread = thread::Builder::new().stack_size(48 * 1024).spawn(run).unwrap();
-    assert_eq!(thread.join().unwrap(), Ok(Standing::Timed(4_096 * 4_097 / 2)));
+    let sum = (1..=UPDATES as u32).sum();
+    assert_eq!(thread.join().unwrap(), Ok(Standing::Timed(sum)));
 }

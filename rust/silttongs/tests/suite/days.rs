@@ -1,40 +1,20 @@
 //! Random days: for every call the static library gives the code, state, value, total, gain and sheet
-//! of the literal replay, and leaves the bytes that the plain implementation leaves.
+//! of the literal replay, and leaves the bytes that the baseline leaves.
 
-mod common;
-
-use calls::{Answer, Call, Line};
-use common::{
-    answered, as_given, difference, first_difference, fresh, library, only_reads, refused,
-};
+use calls::{Answer, Call, Line, BIBS};
 use days::{
     chains_of_joins, days_of, every_fill, every_list, every_preview, fault_of_bundles,
-    fault_of_fills, fault_of_previews, late_days, must_pass, seeds, Profile,
+    fault_of_fills, fault_of_previews, late_days, must_pass, one_in, seeds, Profile,
 };
 use silttongs::{lines, Entry, Table};
 
-/// How many days of each kind are replayed.
-const KINDS: [(Profile, u64); 10] = [
-    (Profile::MIXED, 400),
-    (Profile::NESTED, 400),
-    (Profile::STALE, 300),
-    (Profile::QUERIES, 300),
-    (Profile::STRIKES, 300),
-    (Profile::FORKS, 150),
-    (Profile::STRANGE, 300),
-    (Profile::FULL, 10),
-    (Profile::BUNDLES, 200),
-    (Profile::NEARLY_FULL, 60),
-];
-
-/// One of so many of these days.
-fn one_in(part: u64) -> [(Profile, u64); 10] {
-    KINDS.map(|(profile, count)| (profile, count.div_ceil(part)))
-}
+use super::given::{
+    answered, as_given, difference, first_difference, fresh_bytes, library, only_reads, refused,
+};
 
 #[test]
 fn days_of_all_kinds() {
-    must_pass(days_of(&KINDS), fault);
+    must_pass(one_in(1), fault);
 }
 
 #[test]
@@ -60,14 +40,15 @@ fn small_days_with_every_preview_after_every_step() {
 }
 
 /// 02, U4 and U6, by the library alone: a bundle is its updates and a yield, or changes nothing; a
-/// preview is the join on a copy and a query there.
+/// preview is the join on a copy, as a list and a query there have it.
 #[test]
 fn bundles_and_previews_are_what_other_calls_come_to() {
-    let bundles = |calls: &[Call]| fault_of_bundles(fresh(), calls, answered);
-    let previews = |calls: &[Call]| fault_of_previews(fresh(), calls, answered);
-    must_pass(days_of(&one_in(8)), bundles);
-    must_pass(days_of(&one_in(8)), previews);
+    let bundles = |calls: &[Call]| fault_of_bundles(fresh_bytes(), calls, answered);
+    let previews = |calls: &[Call]| fault_of_previews(fresh_bytes(), calls, answered);
+    must_pass(one_in(8), bundles);
+    must_pass(one_in(8), previews);
     must_pass(late_days(), previews);
+    must_pass(chains_of_joins(seeds(10)), previews);
 }
 
 /// Random days on the library, each bundle of whole records sent in both forms.
@@ -75,7 +56,7 @@ fn bundles_and_previews_are_what_other_calls_come_to() {
 fn both_forms_on_random_days() {
     let kinds = [(Profile::BUNDLES, 100), (Profile::NEARLY_FULL, 30), (Profile::STRANGE, 100)];
     must_pass(days_of(&kinds), |calls| {
-        let mut t = fresh();
+        let mut t = fresh_bytes();
         calls.iter().find_map(|call| fault_of_entries(&mut t, call))
     });
 }
@@ -83,7 +64,7 @@ fn both_forms_on_random_days() {
 /// 02, U1: after every step, the own updates of all boxes out come to the updates accepted.
 #[test]
 fn fills_come_to_the_updates_accepted() {
-    must_pass(days_of(&one_in(4)), fault_of_a_sum);
+    must_pass(one_in(4), fault_of_a_sum);
     must_pass(Profile::SMALL.days(seeds(200)), fault_of_a_sum);
     must_pass(chains_of_joins(seeds(30)), fault_of_a_sum);
 }
@@ -106,12 +87,12 @@ fn fault_with_reads(calls: &[Call]) -> Option<String> {
 fn fault_with_previews(calls: &[Call]) -> Option<String> {
     let mut day = Day::fresh();
     calls.iter().find_map(|call| {
-        day.fault(call).or_else(|| day.fault_of_reads(&every_preview(&day.literal, &[0, 1_000])))
+        day.fault(call).or_else(|| day.fault_of_reads(&every_preview(&day.literal, &[0, BIBS])))
     })
 }
 
 fn fault_of_a_sum(calls: &[Call]) -> Option<String> {
-    fault_of_fills(fresh(), calls, answered)
+    fault_of_fills(fresh_bytes(), calls, answered)
 }
 
 fn fault_of_entries(t: &mut Vec<u8>, call: &Call) -> Option<String> {
@@ -137,19 +118,23 @@ fn fault_of_entries(t: &mut Vec<u8>, call: &Call) -> Option<String> {
 struct Day {
     table: Vec<u8>,
     literal: literal::Day,
-    plain: plain::Day,
+    baseline: baseline::Day,
 }
 
 impl Day {
     fn fresh() -> Self {
-        Day { table: fresh(), literal: literal::Day::fresh(), plain: plain::Day::fresh() }
+        Day {
+            table: fresh_bytes(),
+            literal: literal::Day::fresh(),
+            baseline: baseline::Day::fresh(),
+        }
     }
 
-    /// Makes the call. The plain implementation is not asked to list, to fill or to preview: its bytes
-    /// are then the table's before the call.
+    /// Makes the call. The baseline is not asked to list, to fill or to preview: its bytes are then
+    /// the table's before the call.
     fn fault(&mut self, call: &Call) -> Option<String> {
         if !only_reads(call) {
-            self.plain.call(call);
+            self.baseline.call(call);
         }
         let fault = self.fault_of_answer(call).or_else(|| self.fault_of_bytes());
         fault.map(|fault| format!("`{call}`: {fault}"))
@@ -169,9 +154,9 @@ impl Day {
     }
 
     fn fault_of_bytes(&self) -> Option<String> {
-        let bytes = self.plain.bytes();
+        let bytes = self.baseline.bytes();
         let at = first_difference(&self.table, bytes)?;
-        Some(format!("byte {at} is {}, plain has {}", self.table[at], bytes[at]))
+        Some(format!("byte {at} is {}, baseline has {}", self.table[at], bytes[at]))
     }
 
     /// Makes these calls, which only read. The bytes are compared after the last: that takes most of

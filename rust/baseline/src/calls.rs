@@ -119,7 +119,7 @@ pub fn list(t: &mut [u8], revision: u8, sheet: &mut [u8]) -> Result<u32, Code> {
     let mut numbers = [0; LOG];
     let order = t.order(revision, &mut numbers);
     if sheet.len() < LISTED * order.len() {
-        return Err(Code::ListingShort);
+        return Err(Code::SheetShort);
     }
 
     let (places, _) = sheet.as_chunks_mut::<LISTED>();

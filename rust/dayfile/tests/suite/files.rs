@@ -1,14 +1,13 @@
 //! Day files and printed days: 01's cases of a bad file, strange steps, limits, random files.
 
-mod common;
-
 use calls::{Call, Code};
-use common::{file, printed_by_literal, random_records};
 use dayfile::{
     answers, drawn_day, printed_day, read_file, read_text, write_file, write_text, BadFile, Record,
     LONGEST, MOST_STEPS,
 };
 use days::{Profile, Rng};
+
+use super::samples::{file, printed_by_literal, random_records};
 
 fn is_bad(bytes: &[u8]) -> bool {
     printed_day(bytes) == "bad file\n"
@@ -16,8 +15,8 @@ fn is_bad(bytes: &[u8]) -> bool {
 
 #[test]
 fn the_example_of_01_prints_its_lines() {
-    let text = include_str!("../../../examples/crossing.txt");
-    let bytes = include_bytes!("../../../examples/crossing.day");
+    let text = include_str!("../../../../examples/crossing.txt");
+    let bytes = include_bytes!("../../../../examples/crossing.day");
     let printed = "steps 12\n0 0 0\n1 0 0\n2 0 1\n3 0 1\n4 7 0\n5 0 0\n6 0 2\n7 0 0\n8 8 0\n\
         9 0 1\n10 0 65000\n11 4 0\n";
     assert_eq!(printed_day(bytes), printed);
@@ -28,7 +27,7 @@ fn the_example_of_01_prints_its_lines() {
 /// 02, U2: `struck` for the value, as in `10 0 struck`.
 #[test]
 fn the_example_of_01_with_a_strike_prints_struck() {
-    let text = include_str!("../../../examples/crossing.txt");
+    let text = include_str!("../../../../examples/crossing.txt");
     let text = text.replace("Penalty bib 7 5000", "Strike bib 7");
     let printed = printed_day(&write_file(&read_text(&text).unwrap()).unwrap());
     assert_eq!(printed.lines().nth(11), Some("10 0 struck"));
@@ -117,7 +116,7 @@ fn fields_that_a_step_does_not_use_are_not_looked_at() {
 fn more_steps_than_fit_are_not_written() {
     let record = Record { step: 3, ..Record::default() };
     let most = write_file(&vec![record; MOST_STEPS]).unwrap();
-    assert!(most.len() <= LONGEST && most.len() + 12 > LONGEST);
+    assert!(most.len() <= LONGEST && most.len() + Record::SIZE > LONGEST);
     assert_eq!(write_file(&vec![record; MOST_STEPS + 1]), None);
 }
 

@@ -1,17 +1,15 @@
 //! The proved program `day` on random and malformed day files: every byte that it prints is the
 //! literal replay's.
 
-mod common;
-#[path = "common/run.rs"]
-mod run;
-
 use std::path::Path;
 use std::process::Command;
 
-use calls::Call;
-use common::{file, printed_by_literal, random_record, random_records};
-use dayfile::{read_file, read_text, write_file, Record, LONGEST};
+use calls::{Call, UPDATES};
+use dayfile::{read_file, read_text, write_file, Record, LONGEST, MOST_STEPS};
 use days::{chains_of_joins, days_of, late_days, seeds, Profile, Rng, Sample};
+
+use super::run;
+use super::samples::{file, printed_by_literal, random_record, random_records};
 
 /// What the program prints of a file on standard input.
 fn printed(bytes: &[u8]) -> String {
@@ -177,8 +175,8 @@ fn malformed_files() {
             count = rng.pick(&[&wrapped[..], &near].concat());
         }
         if rng.percent(40) {
-            let fit = (bytes.len() as u32).wrapping_sub(count.wrapping_mul(12));
-            offset = rng.pick(&[fit, fit, 0, 7, 8, offset + 12, any]);
+            let fit = (bytes.len() as u32).wrapping_sub(count.wrapping_mul(Record::SIZE as u32));
+            offset = rng.pick(&[fit, fit, 0, 7, 8, offset + Record::SIZE as u32, any]);
         }
         bytes[..4].copy_from_slice(&count.to_le_bytes());
         bytes[4..8].copy_from_slice(&offset.to_le_bytes());
@@ -202,7 +200,10 @@ fn edges_of_a_file() {
     }
     for offset in 0..10 {
         must_print(&file(0, offset, 8), &format!("no step, offset {offset}"));
-        must_print(&file(1, offset, offset as usize + 12), &format!("a step, offset {offset}"));
+        must_print(
+            &file(1, offset, offset as usize + Record::SIZE),
+            &format!("a step, offset {offset}"),
+        );
     }
     let cases = [
         (5_460, 16, 65_536),
@@ -235,7 +236,7 @@ fn the_longest_printed_day() {
     let mut rng = Rng::new(0);
     let time = Call::Update { client: 0, revision: 0, kind: 1, bib: 7, v: u32::MAX };
     let query = Call::Query { client: 0, revision: 0, bib: 7 };
-    let calls = std::iter::once(time).chain(std::iter::repeat_n(query, 5_459));
+    let calls = std::iter::once(time).chain(std::iter::repeat_n(query, MOST_STEPS - 1));
     let records: Vec<Record> = calls.filter_map(|call| record(&call, &mut rng)).collect();
     let bytes = with_gap(&records, 8, &mut rng);
     assert_eq!(bytes.len(), LONGEST);
@@ -247,7 +248,7 @@ fn the_longest_printed_day() {
 fn a_full_log() {
     let mut rng = Rng::new(0);
     let update = Call::Update { client: 0, revision: 0, kind: 1, bib: 7, v: 1 };
-    let calls = std::iter::repeat_n(update, 4_097);
+    let calls = std::iter::repeat_n(update, UPDATES + 1);
     let records: Vec<Record> = calls.filter_map(|call| record(&call, &mut rng)).collect();
     let bytes = with_gap(&records, 0, &mut rng);
     must_print(&bytes, "a full log");

@@ -38,7 +38,7 @@ impl Client {
         if usize::from(number) < CLIENTS {
             Ok(Client(number))
         } else {
-            Err(Code::StrangeClient)
+            Err(Code::UnknownClient)
         }
     }
 

@@ -21,5 +21,5 @@ fn the_c_example_answers_as_written() {
     let run = Command::new(&program).output().unwrap();
     assert!(run.status.success());
     let printed = String::from_utf8(run.stdout).unwrap();
-    assert_eq!(printed, include_str!("../../../examples/c/crossing.out"));
+    assert_eq!(printed, include_str!("../../../../examples/c/crossing.out"));
 }

@@ -1,9 +1,9 @@
 //! The library's calls as values, and what they are compared with.
 
-mod fresh;
-
-use calls::{Answer, Call, Code, State};
+use calls::{Answer, Call, Code, Line, State};
 use silttongs::{Refusal, Standing, Table};
+
+use super::fresh;
 
 /// What a call left, but for the table.
 #[derive(Clone, Debug, PartialEq, Eq)]
@@ -15,8 +15,8 @@ pub(crate) struct Given {
 }
 
 /// The bytes of a fresh table.
-pub(crate) fn fresh() -> Vec<u8> {
-    fresh::fresh().into_bytes()
+pub(crate) fn fresh_bytes() -> Vec<u8> {
+    fresh().into_bytes()
 }
 
 /// The sheet of a list before the call: as long as the call says, up to more than any listing
@@ -58,9 +58,12 @@ pub(crate) fn library(bytes: &mut [u8], call: &Call) -> Given {
     Given { answer: answer.unwrap_or_else(refused), sheet }
 }
 
-/// What the library answers, without the sheet.
+/// What the library answers; of a list, with the lines on its sheet.
 pub(crate) fn answered(t: &mut impl AsMut<[u8]>, call: &Call) -> Answer {
-    library(t.as_mut(), call).answer
+    let Given { answer, sheet } = library(t.as_mut(), call);
+    let (places, _) = sheet.as_chunks();
+    let listed = places.iter().take(answer.value as usize);
+    Answer { lines: listed.map(|&place| Line::from_bytes(place)).collect(), ..answer }
 }
 
 fn found(standing: Standing) -> Answer {
@@ -72,31 +75,31 @@ fn found(standing: Standing) -> Answer {
     Answer::found(state, standing.value())
 }
 
-/// The answer of a refused call. The wrapper has numbers and names of its own: they are those of 01.
+/// The answer of a refused call. The wrapper has numbers and names of its own: they are those of 01,
+/// and in code those of [`Code`].
 pub(crate) fn refused(refusal: Refusal) -> Answer {
     let code = Code::of(refusal.code()).expect("a code of the desk");
     assert_eq!(refusal.name(), code.name());
+    assert_eq!(format!("{refusal:?}"), format!("{code:?}"));
     Answer::refused(code)
 }
 
-/// What the plain implementation gives.
-#[allow(dead_code, reason = "for the damaged buffers alone")]
-pub(crate) fn plainly(bytes: &mut [u8], call: &Call) -> Given {
+/// What the baseline gives.
+pub(crate) fn by_baseline(bytes: &mut [u8], call: &Call) -> Given {
     let mut sheet = sheet(call);
     let answer = match *call {
         Call::List { revision, .. } => {
-            plain::list(bytes, revision, &mut sheet).map(Answer::accepted)
+            baseline::list(bytes, revision, &mut sheet).map(Answer::accepted)
         }
-        _ => plain::call(bytes, call),
+        _ => baseline::call(bytes, call),
     };
     Given { answer: answer.unwrap_or_else(Answer::refused), sheet }
 }
 
 /// What the literal replay's answer comes to: its lines, and behind them the sheet as it was.
-#[allow(dead_code, reason = "for the random days alone")]
 pub(crate) fn as_given(call: &Call, answer: Answer) -> Given {
     let mut sheet = sheet(call);
-    for (place, line) in sheet.chunks_exact_mut(12).zip(&answer.lines) {
+    for (place, line) in sheet.chunks_exact_mut(Line::BYTES).zip(&answer.lines) {
         place.copy_from_slice(&line.to_bytes());
     }
     Given { answer: Answer { lines: Vec::new(), ..answer }, sheet }

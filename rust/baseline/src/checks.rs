@@ -13,7 +13,7 @@ impl Table<'_> {
         if usize::from(number) < REVISIONS && self.state(revision) != NEVER {
             Ok(revision)
         } else {
-            Err(Code::NeverForked)
+            Err(Code::NeverGiven)
         }
     }
 
@@ -26,11 +26,11 @@ impl Table<'_> {
     pub(crate) fn check_may_enter(&self, client: Client, revision: Revision) -> Result<(), Code> {
         let opened = self.opened();
         let open = opened[client.index()];
-        refuse(open != CLOSED && open != revision.0, Code::OtherRevisionOpen)?;
+        refuse(open != CLOSED && open != revision.0, Code::OpenElsewhere)?;
         let mut clients = opened.iter().enumerate();
         let by_other = clients.any(|(c, &open)| c != client.index() && open == revision.0);
         refuse(by_other, Code::InUse)?;
-        refuse(!self.caught(client).has(revision), Code::StaleClient)
+        refuse(!self.caught(client).has(revision), Code::Stale)
     }
 
     /// Code 7 of fork, join and list.
@@ -51,7 +51,7 @@ impl Table<'_> {
     /// Code 10, or the next revision number.
     pub(crate) fn check_left(&self) -> Result<Revision, Code> {
         let given = self.given();
-        refuse(usize::from(given) >= REVISIONS, Code::NoRevisionLeft)?;
+        refuse(usize::from(given) >= REVISIONS, Code::NoneLeft)?;
         Ok(Revision(given))
     }
 

@@ -1,12 +1,11 @@
 //! 02, U6, of the static library: "Look before taking over".
 
-#[path = "common/fresh.rs"]
-mod fresh;
-
-use fresh::fresh;
+use calls::{BIBS, CLIENTS, REVISIONS};
 use silttongs::Kind::{Earliest, Penalty, Strike, Time};
 use silttongs::Standing::{Neither, Struck, Timed};
 use silttongs::{Kind, Preview, Refusal, Standing, Table};
+
+use super::fresh;
 
 /// Compares a preview, leaves every byte, and finds the same by a join and a query on a copy.
 fn shows(table: &Table<Vec<u8>>, joiner: u8, joinee: u8, bib: u16, standing: Standing, gain: u32) {
@@ -14,7 +13,7 @@ fn shows(table: &Table<Vec<u8>>, joiner: u8, joinee: u8, bib: u16, standing: Sta
     assert_eq!(table.preview(joiner, joinee, bib), Ok(Preview { standing, gain }));
     assert!(copy == *table, "the table is only read");
     assert_eq!(copy.join(joiner, joinee), Ok(gain));
-    assert_eq!(copy.query(15, joiner, bib), Ok(standing));
+    assert_eq!(copy.query(CLIENTS - 1, joiner, bib), Ok(standing));
 }
 
 /// A box with an update of bib 7, and then one of the box that sent it.
@@ -82,12 +81,12 @@ fn refusals_are_those_of_the_join_and_then_5() -> Result<(), Refusal> {
     table.update(3, 3, Time, 7, 6)?;
     table.yield_(3)?;
     let before = table.clone();
-    for bib in [7, 1_000, 65_535] {
+    for bib in [7, BIBS, u16::MAX] {
         let cases = [
-            (1, 9, Refusal::NeverSent),
-            (64, 1, Refusal::NeverSent),
-            (2, 1, Refusal::HandedIn),
-            (1, 2, Refusal::HandedIn),
+            (1, 9, Refusal::NeverGiven),
+            (REVISIONS, 1, Refusal::NeverGiven),
+            (2, 1, Refusal::Joined),
+            (1, 2, Refusal::Joined),
             (0, 2, Refusal::InUse),
             (2, 0, Refusal::InUse),
             (0, 0, Refusal::NotJoinable),
@@ -98,8 +97,8 @@ fn refusals_are_those_of_the_join_and_then_5() -> Result<(), Refusal> {
             assert_eq!(table.clone().join(joiner, joinee), Err(refusal), "{joiner} {joinee}");
         }
     }
-    assert_eq!(table.preview(0, 3, 1_000), Err(Refusal::BadEntry));
-    assert_eq!(table.preview(0, 3, 999), Ok(Preview { standing: Neither, gain: 1 }));
+    assert_eq!(table.preview(0, 3, BIBS), Err(Refusal::BadEntry));
+    assert_eq!(table.preview(0, 3, BIBS - 1), Ok(Preview { standing: Neither, gain: 1 }));
     assert!(table == before);
     Ok(())
 }
@@ -110,6 +109,6 @@ fn a_preview_reads_alone() -> Result<(), Refusal> {
     let bytes = late((Time, 5), (Time, 6))?.into_bytes();
     let preview = Table::from_bytes(&bytes[..]).preview(0, 1, 7);
     assert_eq!(preview, Ok(Preview { standing: Timed(5), gain: 1 }));
-    assert_eq!(Table::from_bytes(&bytes[1..]).preview(0, 1, 1_000), Err(Refusal::NoTable));
+    assert_eq!(Table::from_bytes(&bytes[1..]).preview(0, 1, BIBS), Err(Refusal::NoTable));
     Ok(())
 }

@@ -17,8 +17,7 @@ impl Day {
     /// The main revision alone, every bib 0 and not struck.
     pub fn fresh() -> Self {
         let mut table = vec![0; BYTES];
-        let made = fresh(&mut table);
-        debug_assert_eq!(made, Ok(0));
+        assert_eq!(fresh(&mut table), Ok(0));
         Day(table)
     }
 

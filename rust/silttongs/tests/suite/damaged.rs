@@ -1,19 +1,17 @@
 //! Buffers that no day made: every call returns, a refusal changes no byte of table and sheet, two
 //! runs give the same, and code 1 is given exactly if docs/CELLS.md says so.
 
-#[path = "common/cells.rs"]
-mod cells;
-mod common;
-
 use std::collections::BTreeMap;
 
-use calls::{Answer, Call, Code, Line, State};
-use cells::{cells, is_table, Cell};
-use common::{
-    answered, difference, first_difference, fresh, library, only_reads, plainly, sheet, Given,
-};
+use calls::{Answer, Call, Code, Line, State, BIBS, CLIENTS, REVISIONS};
 use days::{fault_of_bundles, random_day, seeds, Profile, Rng};
-use silttongs::{Refusal, Table, BYTES, SHEET};
+use silttongs::{Refusal, Table, BUNDLE, BYTES, SHEET};
+
+use super::cells::{cells, is_table, Cell};
+use super::given::{
+    answered, by_baseline, difference, first_difference, fresh_bytes, library, only_reads, sheet,
+    Given,
+};
 
 /// How many damaged buffers are tried.
 const BUFFERS: u64 = 8_000;
@@ -25,7 +23,7 @@ const CALLS: usize = 16;
 fn the_cells_with_a_range() {
     let cells = cells();
     assert_eq!(cells.iter().map(|cell| cell.width).sum::<usize>(), 796);
-    assert!(is_table(&cells, &fresh()));
+    assert!(is_table(&cells, &fresh_bytes()));
 }
 
 /// What a refusal gives: no state, no number, and the sheet as it was.
@@ -44,7 +42,7 @@ fn each_cell_at_its_limits() {
         values.extend((high < cell.most()).then(|| high + 1));
         values.push(cell.most());
         for value in values {
-            let mut t = fresh();
+            let mut t = fresh_bytes();
             cell.set(&mut t, value);
             let mut made = |call: Call| {
                 judged(&cells, &mut t, &call)
@@ -63,7 +61,7 @@ fn each_cell_at_its_limits() {
 /// Every other byte is in range, whatever it is.
 #[test]
 fn the_other_bytes_have_every_value_in_range() {
-    let mut t = fresh();
+    let mut t = fresh_bytes();
     let mut ranged = vec![false; BYTES];
     for cell in cells() {
         ranged[cell.at..cell.at + cell.width].fill(true);
@@ -73,7 +71,7 @@ fn the_other_bytes_have_every_value_in_range() {
         t[at] ^= 0xff;
         let given = library(&mut t, &call);
         assert_eq!(given.answer, Answer::accepted(0), "byte {at}");
-        assert_eq!(plainly(&mut t, &call), given, "byte {at}, by plain");
+        assert_eq!(by_baseline(&mut t, &call), given, "byte {at}, by baseline");
     }
 }
 
@@ -94,7 +92,7 @@ fn wrong_lengths() {
     ];
     let cells = cells();
     for length in [0, 1, 12, 40_959, 40_960, BYTES - 1, BYTES + 1, 2 * BYTES] {
-        let mut t = fresh();
+        let mut t = fresh_bytes();
         t.resize(length, 0);
         let before = t.clone();
         for call in &calls {
@@ -102,7 +100,7 @@ fn wrong_lengths() {
             assert_eq!(given, Ok(refused(call, Code::NoTable)), "{length} bytes, `{call}`");
         }
         assert_eq!(Table::fresh(&mut t[..]).err(), Some(Refusal::NoTable), "{length} bytes");
-        assert_eq!(plain::fresh(&mut t), Err(Code::NoTable), "{length} bytes");
+        assert_eq!(baseline::fresh(&mut t), Err(Code::NoTable), "{length} bytes");
         assert!(t == before, "{length} bytes: changed");
     }
 }
@@ -112,8 +110,8 @@ fn wrong_lengths() {
 fn fresh_on_any_content() {
     for seed in seeds(100) {
         let made = Table::fresh(random_bytes(&mut Rng::new(seed))).expect("the length is right");
-        assert!(made.bytes() == fresh(), "seed {seed}");
-        assert!(made.bytes() == plain::Day::fresh().bytes(), "seed {seed}");
+        assert!(made.bytes() == fresh_bytes(), "seed {seed}");
+        assert!(made.bytes() == baseline::Day::fresh().bytes(), "seed {seed}");
     }
 }
 
@@ -133,15 +131,16 @@ impl Met {
         *self.codes.entry(code).or_default() += 1;
         let (Call::List { revision, .. }, 1..) = (call, value) else { return };
         // It is accepted with just the room that it needs, and not with a byte less.
-        let needed = 12 * value as usize;
-        for (room, code) in [(needed, Code::Accepted), (needed - 1, Code::ListingShort)] {
+        let needed = Line::BYTES * value as usize;
+        for (room, code) in [(needed, Code::Accepted), (needed - 1, Code::SheetShort)] {
             let list = Call::List { revision, room };
             assert_eq!(judged(&list).answer.code, code, "{at}, `{list}`");
         }
         // The bib of its last entry is queried, by the first client that may.
-        let bib = u16::from_le_bytes([sheet[needed - 10], sheet[needed - 9]]);
+        let (places, _) = sheet.as_chunks();
+        let Line { bib, .. } = Line::from_bytes(places[value as usize - 1]);
         let mut queries =
-            (0..16).map(|client| judged(&Call::Query { client, revision, bib }).answer);
+            (0..CLIENTS).map(|client| judged(&Call::Query { client, revision, bib }).answer);
         if let Some(found) = queries.find(|answer| answer.code == Code::Accepted) {
             *self.states.entry(found.state).or_default() += 1;
         }
@@ -174,7 +173,7 @@ fn random_calls_on_damaged_buffers() {
 
 /// Makes the call, or says what is wrong with it.
 fn judged(cells: &[Cell], t: &mut Vec<u8>, call: &Call) -> Result<Given, String> {
-    let [mut again, mut plain, before] = [(); 3].map(|()| t.clone());
+    let [mut again, mut baseline, before] = [(); 3].map(|()| t.clone());
     let given = library(t, call);
     if library(&mut again, call) != given || again != *t {
         return Err("a second run differs".to_string());
@@ -196,11 +195,11 @@ fn judged(cells: &[Cell], t: &mut Vec<u8>, call: &Call) -> Result<Given, String>
     if only_reads(call) && *t != before {
         return Err("a call that only reads changed the table".to_string());
     }
-    if let Some(fault) = difference(&given, &plainly(&mut plain, call)) {
-        return Err(format!("against plain: {fault}"));
+    if let Some(fault) = difference(&given, &by_baseline(&mut baseline, call)) {
+        return Err(format!("against baseline: {fault}"));
     }
-    match first_difference(t, &plain) {
-        Some(at) => Err(format!("byte {at} is {}, plain has {}", t[at], plain[at])),
+    match first_difference(t, &baseline) {
+        Some(at) => Err(format!("byte {at} is {}, baseline has {}", t[at], baseline[at])),
         None => Ok(given),
     }
 }
@@ -213,10 +212,10 @@ fn random_bytes(rng: &mut Rng) -> Vec<u8> {
 /// range, so that the calls get past code 1.
 fn damaged(cells: &[Cell], rng: &mut Rng) -> Vec<u8> {
     let mut t = match rng.below(4) {
-        0 => fresh(),
+        0 => fresh_bytes(),
         1 => random_bytes(rng),
         _ => {
-            let mut t = fresh();
+            let mut t = fresh_bytes();
             for call in random_day(&Profile::MIXED, rng.bits()) {
                 library(&mut t, &call);
             }
@@ -248,18 +247,18 @@ fn damaged(cells: &[Cell], rng: &mut Rng) -> Vec<u8> {
 /// Mostly numbers in range.
 fn any_call(rng: &mut Rng) -> Call {
     let mut below = |n: usize| if rng.percent(3) { rng.below(256) } else { rng.below(n) };
-    let (client, revision, other, kind) = (below(16), below(64), below(64), 1 + below(4));
-    let (client, revision, kind) = (client as u8, revision as u8, kind as u8);
-    let bib = rng.below(1_010) as u16;
+    let [client, revision, other] = [CLIENTS, REVISIONS, REVISIONS].map(|n| below(n.into()) as u8);
+    let kind = (1 + below(4)) as u8;
+    let bib = rng.below(usize::from(BIBS) + 10) as u16;
     match rng.below(12) {
         0 => Call::Query { client, revision, bib },
         1 => Call::Yield { client },
         2 => Call::Fork { revision },
-        3 => Call::Join { joiner: revision, joinee: other as u8 },
+        3 => Call::Join { joiner: revision, joinee: other },
         4 => Call::List { revision, room: SHEET },
         5 => Call::List { revision, room: rng.below(200) },
         6 => Call::Fill { revision },
-        7 => Call::Preview { joiner: revision, joinee: other as u8, bib },
+        7 => Call::Preview { joiner: revision, joinee: other, bib },
         8 => Call::Bundle { client, revision, records: any_records(rng) },
         _ => Call::Update { client, revision, kind, bib, v: rng.bits() as u32 },
     }
@@ -267,11 +266,11 @@ fn any_call(rng: &mut Rng) -> Call {
 
 /// The records of a bundle, most of them good; in some cases a wrong one.
 fn any_records(rng: &mut Rng) -> Vec<u8> {
-    let (few, any) = (1 + rng.below(4), 1 + rng.below(66));
-    let count = rng.pick(&[few, few, 64, any]);
+    let (few, any) = (1 + rng.below(4), 1 + rng.below(BUNDLE + 2));
+    let count = rng.pick(&[few, few, BUNDLE, any]);
     let record = |_| {
         let [kind, client, bib, rest] = [0; 4].map(|_: u8| rng.bits());
-        let bib = if bib % 100 == 0 { 1_000 } else { (bib % 1_000) as u16 };
+        let bib = if bib % 100 == 0 { BIBS } else { (bib % u64::from(BIBS)) as u16 };
         let kind = 1 + (kind % 4) as u8;
         Line { kind, client: client as u8, bib, v: rest as u32, number: (rest >> 32) as u32 }
     };

@@ -1,12 +1,10 @@
 //! 02, U4, of the static library: "A whole bundle from a tablet", as records and as entries.
 
-#[path = "common/fresh.rs"]
-mod fresh;
-
-use calls::Line;
-use fresh::fresh;
+use calls::{Line, BIBS, CLIENTS, REVISIONS, UPDATES};
 use silttongs::Kind::{Penalty, Strike, Time};
 use silttongs::{lines, Entry, Fill, Refusal, Standing, Table, BUNDLE, BYTES, SHEET};
+
+use super::fresh;
 
 fn records(entries: &[Entry]) -> Vec<u8> {
     entries.iter().flat_map(|entry| entry.to_bytes()).collect()
@@ -50,8 +48,8 @@ fn a_bundle_is_its_updates_and_a_yield() -> Result<(), Refusal> {
 #[test]
 fn all_or_nothing() -> Result<(), Refusal> {
     let good = Entry::new(Time, 7, 1);
-    let bad = [Entry::new(0, 7, 1), Entry::new(5, 7, 1), Entry::new(Strike, 1_000, 1)];
-    for (bad, place) in bad.into_iter().zip([1, 40, 63]) {
+    let bad = [Entry::new(0, 7, 1), Entry::new(5, 7, 1), Entry::new(Strike, BIBS, 1)];
+    for (bad, place) in bad.into_iter().zip([1, 40, BUNDLE - 1]) {
         let mut table = fresh();
         table.update(0, 0, Time, 9, 1)?;
         let before = table.clone();
@@ -59,8 +57,8 @@ fn all_or_nothing() -> Result<(), Refusal> {
         entries[place] = bad;
         assert_eq!(sent(&mut table, 0, 0, &entries), Err(Refusal::BadEntry), "{bad:?}");
         assert_eq!(sent(&mut table, 1, 0, &entries), Err(Refusal::InUse), "{bad:?}");
-        assert_eq!(sent(&mut table, 16, 0, &entries), Err(Refusal::StrangeTablet), "{bad:?}");
-        assert_eq!(sent(&mut table, 0, 1, &entries), Err(Refusal::NeverSent), "{bad:?}");
+        assert_eq!(sent(&mut table, CLIENTS, 0, &entries), Err(Refusal::UnknownClient), "{bad:?}");
+        assert_eq!(sent(&mut table, 0, 1, &entries), Err(Refusal::NeverGiven), "{bad:?}");
         assert!(table == before);
     }
     Ok(())
@@ -69,15 +67,15 @@ fn all_or_nothing() -> Result<(), Refusal> {
 #[test]
 fn the_count_of_a_bundle() {
     let entry = Entry::new(Time, 7, 1);
-    for count in 0..=130 {
+    for count in 0..=2 * BUNDLE + 2 {
         let mut table = fresh();
-        let right = if (1..=64).contains(&count) { Ok(0) } else { Err(Refusal::WrongBundle) };
+        let right = if (1..=BUNDLE).contains(&count) { Ok(0) } else { Err(Refusal::WrongBundle) };
         assert_eq!(sent(&mut table, 0, 0, &vec![entry; count]), right, "{count}");
         let taken = if right.is_ok() { count as u16 } else { 0 };
         assert_eq!(table.fill(0), Ok(Fill { own: taken, total: taken }), "{count}");
     }
-    let bytes = records(&[entry; 66]);
-    for length in (0..bytes.len()).filter(|length| !length.is_multiple_of(12)) {
+    let bytes = records(&[entry; BUNDLE + 2]);
+    for length in (0..bytes.len()).filter(|length| !length.is_multiple_of(Entry::BYTES)) {
         let mut table = fresh();
         assert_eq!(table.bundle(0, 0, &bytes[..length]), Err(Refusal::WrongBundle), "{length}");
         assert!(table == fresh(), "{length} bytes");
@@ -87,29 +85,30 @@ fn the_count_of_a_bundle() {
 /// 1 before 14, and 14 before 2 and 3.
 #[test]
 fn a_wrong_bundle_is_checked_right_after_the_table() {
-    let none = [Entry::new(0, 1_000, 1); 65];
+    let none = [Entry::new(0, BIBS, 1); BUNDLE + 1];
     for entries in [&none[..0], &none] {
-        assert_eq!(sent(&mut fresh(), 16, 64, entries), Err(Refusal::WrongBundle));
+        assert_eq!(sent(&mut fresh(), CLIENTS, REVISIONS, entries), Err(Refusal::WrongBundle));
         let mut no_table = Table::from_bytes(vec![0; BYTES]);
-        assert_eq!(sent(&mut no_table, 16, 64, entries), Err(Refusal::NoTable));
+        assert_eq!(sent(&mut no_table, CLIENTS, REVISIONS, entries), Err(Refusal::NoTable));
     }
 }
 
 /// The log runs full within a bundle: 9 of an entry before 5 of a later one, and the other way round.
 #[test]
 fn a_log_that_runs_full() -> Result<(), Refusal> {
-    let (good, bad) = (Entry::new(Time, 7, 1), Entry::new(Time, 1_000, 1));
+    let (good, bad) = (Entry::new(Time, 7, 1), Entry::new(Time, BIBS, 1));
     let mut table = fresh();
-    for n in 0..63 {
-        assert_eq!(sent(&mut table, 0, 0, &[good; BUNDLE]), Ok(n * 64));
+    let full = UPDATES as u32;
+    for first in (0..full - BUNDLE as u32).step_by(BUNDLE) {
+        assert_eq!(sent(&mut table, 0, 0, &[good; BUNDLE]), Ok(first));
     }
-    assert_eq!(sent(&mut table, 0, 0, &[good; 62]), Ok(4_032));
+    assert_eq!(sent(&mut table, 0, 0, &[good; BUNDLE - 2]), Ok(full - BUNDLE as u32));
     assert_eq!(sent(&mut table, 0, 0, &[good, good, good, bad]), Err(Refusal::LogFull));
     assert_eq!(sent(&mut table, 0, 0, &[good, good, bad, good]), Err(Refusal::BadEntry));
     assert_eq!(sent(&mut table, 0, 0, &[good; 3]), Err(Refusal::LogFull));
-    assert_eq!(sent(&mut table, 0, 0, &[good; 2]), Ok(4_094));
+    assert_eq!(sent(&mut table, 0, 0, &[good; 2]), Ok(full - 2));
     assert_eq!(sent(&mut table, 0, 0, &[good]), Err(Refusal::LogFull));
-    assert_eq!(table.fill(0), Ok(Fill { own: 4_096, total: 4_096 }));
+    assert_eq!(table.fill(0), Ok(Fill { own: full as u16, total: full as u16 }));
     Ok(())
 }
 

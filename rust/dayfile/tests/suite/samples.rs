@@ -47,7 +47,7 @@ pub(crate) fn printed_by_literal(bytes: &[u8]) -> String {
     for (index, record) in records.iter().enumerate() {
         let answer = match record.call() {
             Some(call) => day.call(&call),
-            None => Answer::refused(Code::StrangeStep),
+            None => Answer::refused(Code::UnknownStep),
         };
         let code = answer.code.number();
         text += &match answer.state {

@@ -1,0 +1,8 @@
+//! Day files, their text, the tool, and the proved program `day` on them.
+
+mod files;
+mod program;
+mod run;
+mod samples;
+mod text;
+mod tool;

@@ -1,0 +1,19 @@
+//! The static library through the wrapper: random days against the literal replay and the baseline,
+//! buffers that no day made, 02's requests, C, and the stack.
+
+mod bundles;
+mod c;
+mod cells;
+mod damaged;
+mod days;
+mod given;
+mod previews;
+mod stack;
+mod struck;
+
+use silttongs::{Table, BYTES};
+
+/// A fresh table, on bytes that were something else.
+fn fresh() -> Table<Vec<u8>> {
+    Table::fresh(vec![0xa5; BYTES]).expect("the length is right")
+}
