@@ -12,7 +12,7 @@
  * preview's have the bib's state besides, silttongs_state, and a preview's has silttongs_gain. A
  * refusal changes no byte. The checks run in ascending order of their codes, but where said below.
  *
- * Nothing is allocated. A call needs up to 48 KiB of stack.
+ * Nothing is allocated. A call needs up to 96 KiB of stack.
  *
  * A box is a revision of the table, a tablet is a client. Boxes are 0 to 63, tablets 0 to 15,
  * bibs 0 to 999, and a day takes 4,096 updates.

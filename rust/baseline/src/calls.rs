@@ -5,7 +5,7 @@ use calls::Code;
 use crate::entry::Entry;
 use crate::numbers::{Bib, Client, LOG};
 use crate::range::checked;
-use crate::table;
+use crate::table::{self, Table};
 use crate::update::{Kind, Standing};
 
 /// Bytes of one entry of a listing, and of one record of a bundle.
@@ -99,15 +99,16 @@ pub fn join(t: &mut [u8], joiner: u8, joinee: u8) -> Result<u32, Code> {
     Ok(u32::from(t.join(joiner, joinee)))
 }
 
-/// How a bib will stand at the joiner after a join, and how many updates that gains. The table stays
-/// as it is.
+/// How a bib will stand at the joiner after a join, and how many updates that gains: the join is made
+/// on a copy, and the copy is read. The table stays as it is.
 pub fn preview(t: &mut [u8], joiner: u8, joinee: u8, bib: u16) -> Result<Preview, Code> {
     let t = checked(t)?;
     let (joiner, joinee) = t.check_join(joiner, joinee)?;
     let bib = Bib::checked(bib)?;
 
-    let standing = t.standing_joined(joiner, joinee, bib);
-    Ok(Preview { standing, gain: t.count(joinee) })
+    let mut copy = *t.0;
+    let gain = Table(&mut copy).join(joiner, joinee);
+    Ok(Preview { standing: checked(&mut copy)?.standing(joiner, bib), gain })
 }
 
 /// Writes the visible updates of a revision to the sheet; how many. The table stays as it is.

@@ -58,22 +58,10 @@ impl Table<'_> {
 
     /// How a bib stands at a revision.
     pub(crate) fn standing(&self, r: Revision, bib: Bib) -> Standing {
-        self.after(Standing::at(0), self.order(r, &mut [0; LOG]), bib)
-    }
-
-    /// How a bib will stand at a revision that joins another: first its own order, then the other's
-    /// own list.
-    pub(crate) fn standing_joined(&self, joiner: Revision, joinee: Revision, bib: Bib) -> Standing {
-        let before = self.standing(joiner, bib);
-        self.after(before, self.own(joinee, &mut [0; LOG]), bib)
-    }
-
-    /// How a bib that stands so does after these updates.
-    fn after(&self, before: Standing, numbers: &[u16], bib: Bib) -> Standing {
-        numbers
+        self.order(r, &mut [0; LOG])
             .iter()
             .map(|&u| Entry::from_bytes(self.entry(u)))
             .filter(|entry| entry.bib == bib.0)
-            .fold(before, |standing, entry| entry.kind.applied(standing, entry.v))
+            .fold(Standing::at(0), |standing, entry| entry.kind.applied(standing, entry.v))
     }
 }

@@ -2,7 +2,7 @@
 //!
 //! The calls are the exports of the crate `exports`, written in Rattle and proved against their
 //! definitions; this crate lends them a slice and unpacks their answers. It needs no standard
-//! library and no allocator. A call needs up to 48 KiB of stack. An answer that no proved call gives,
+//! library and no allocator. A call needs up to 96 KiB of stack. An answer that no proved call gives,
 //! as a refusal with a value, is a panic: the archive is then another one.
 //!
 //! Two boxes, one bib: box 1 is sent off and gets a penalty, meanwhile box 0 gets a corrected time.

@@ -1,4 +1,4 @@
-//! The calls run on a stack of 48 KiB, as docs/PERFORMANCE.md says.
+//! The calls run on a stack of 96 KiB, as docs/PERFORMANCE.md says.
 
 use std::thread;
 
@@ -8,7 +8,7 @@ use silttongs::{Entry, Kind, Refusal, Standing, Table, BUNDLE, BYTES, SHEET};
 /// The longest own list, and so the deepest recursion, on box 1: a query walks it, and a fork, a list
 /// and a preview too.
 #[test]
-fn the_deepest_calls_fit_in_48_kib() {
+fn the_deepest_calls_fit_in_96_kib() {
     let run = || {
         let single = (UPDATES - BUNDLE) as u32;
         let mut table = Table::fresh(vec![0; BYTES])?;
@@ -29,7 +29,7 @@ fn the_deepest_calls_fit_in_48_kib() {
         table.join(0, 1)?;
         Ok::<Standing, Refusal>(standing)
     };
-    let thread = thread::Builder::new().stack_size(48 * 1024).spawn(run).unwrap();
+    let thread = thread::Builder::new().stack_size(96 * 1024).spawn(run).unwrap();
     let sum = (1..=UPDATES as u32).sum();
     assert_eq!(thread.join().unwrap(), Ok(Standing::Timed(sum)));
 }
