@@ -5,14 +5,18 @@ ghost use Prim.Native.Nat.{_+_, _<_};
 ghost use lib.ListN.{drop, length, take};
 ghost use Rattle.lists.specs.Lists.{insert, remove};
 ghost use Rattle.fields.specs.Place.{firstPlace};
+use crate::table::Table;
 
-// The first place of r, or 64.
+// The last place.
+const LAST: usize = Table::REVISIONS - 1;
+
+// The first place of r, or `Table::REVISIONS`.
 pub fn find(t: &[u8], r: u8) -> usize
     requires { ⌜ length (now t) ≡ 64 ⌝ }
     ensures { λ i. ⌜ i ≡ firstPlace r (now (t .entry)) ⌝ }
 {
     let mut i: usize = 0;
-    while i < 64 {
+    while i < Table::REVISIONS {
         if t[i] == r {
             return i;
         }
@@ -27,11 +31,11 @@ pub fn close_gap(t: &mut [u8], i: usize)
     ensures { λ _. ⌜ now (t .exit) ≡ (take i (now (t .entry)) ++ drop (i + 1) (now (t .entry))) ++ (0 ∷ []) ⌝ }
 {
     let mut j = i;
-    while j < 63 {
+    while j < LAST {
         t[j] = t[j + 1];
         j += 1;
     }
-    t[63] = 0;
+    t[LAST] = 0;
 }
 
 // What stands at place i and behind it moves one place back; the last falls out. c comes to place i.
@@ -39,7 +43,7 @@ pub fn open_gap(t: &mut [u8], i: usize, c: u8)
     requires { ⌜ (length (now t) ≡ 64) × (i < 64) ⌝ }
     ensures { λ _. ⌜ now (t .exit) ≡ take 64 (take i (now (t .entry)) ++ (c ∷ drop i (now (t .entry)))) ⌝ }
 {
-    let mut j: usize = 63;
+    let mut j = LAST;
     while i < j {
         t[j] = t[j - 1];
         j -= 1;
@@ -53,7 +57,7 @@ pub fn take_out(t: &mut [u8], b: u8)
     ensures { λ _. ⌜ now (t .exit) ≡ take 64 (remove b (now (t .entry)) ++ (0 ∷ [])) ⌝ }
 {
     let i = find(t, b);
-    if i < 64 {
+    if i < Table::REVISIONS {
         close_gap(t, i);
     }
 }
@@ -64,7 +68,7 @@ pub fn put_in(t: &mut [u8], p: u8, c: u8)
     ensures { λ _. ⌜ now (t .exit) ≡ take 64 (insert p c (now (t .entry))) ⌝ }
 {
     let i = find(t, p);
-    if i < 64 {
+    if i < Table::REVISIONS {
         open_gap(t, i, c);
     }
 }

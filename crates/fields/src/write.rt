@@ -105,21 +105,21 @@ pub fn updates(d: &mut [u8], v: usize)
     requires { ⌜ (length (now d) ≡ bytes) × (v < 65536) ⌝ }
     ensures { λ _. ⌜ now (d .exit) ≡ wrote (now (d .entry)) countersPart (putWord (split (now (d .entry)) countersPart) 0 v) ⌝ }
 {
-    put_word(&mut d[COUNTERS..KEPT], 0, v);
+    put_word(&mut d[COUNTERS..KEPT], Table::UPDATES_TAKEN, v);
 }
 
 pub fn out(d: &mut [u8], v: usize)
     requires { ⌜ (length (now d) ≡ bytes) × (v < 256) ⌝ }
     ensures { λ _. ⌜ now (d .exit) ≡ wrote (now (d .entry)) countersPart (set (split (now (d .entry)) countersPart) 2 v) ⌝ }
 {
-    put_byte(&mut d[COUNTERS..KEPT], 2, v);
+    put_byte(&mut d[COUNTERS..KEPT], Table::REVISIONS_OUT, v);
 }
 
 pub fn given(d: &mut [u8], v: usize)
     requires { ⌜ (length (now d) ≡ bytes) × (v < 256) ⌝ }
     ensures { λ _. ⌜ now (d .exit) ≡ wrote (now (d .entry)) countersPart (set (split (now (d .entry)) countersPart) 3 v) ⌝ }
 {
-    put_byte(&mut d[COUNTERS..KEPT], 3, v);
+    put_byte(&mut d[COUNTERS..KEPT], Table::NUMBERS_GIVEN, v);
 }
 
 // Client c has caught up with r alone.

@@ -20,15 +20,18 @@ pub fn room() -> [u16; Table::UPDATES]
     [0; Table::UPDATES]
 }
 
-// How many of n entries are left to the next call: all but 64, or none.
+// How many entries one call of `gather` puts in their places. With one a call, a list of 4,096 would need as many stack frames.
+const CHUNK: usize = 64;
+
+// How many of n entries are left to the next call: all but a chunk, or none.
 fn rest(n: usize) -> usize
     requires { ⌜ 0 < n ⌝ }
     ensures { λ m. ⌜ m < n ⌝ }
 {
-    if n < 64 {
+    if n < CHUNK {
         return 0;
     }
-    n - 64
+    n - CHUNK
 }
 
 // What is left of a walk: so many updates, which end at `at`.

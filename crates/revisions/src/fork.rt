@@ -11,6 +11,7 @@ ghost use Rattle.revisions.specs.Pieces.{startParts};
 use crate::inherit;
 use fields::read;
 use fields::table::Revision;
+use fields::table::Table;
 use fields::write;
 
 // The marks, c's state and place, and the counts of those out and given out.
@@ -20,7 +21,7 @@ fn start(d: &mut [u8], p: Revision, c: Revision, out: usize, given: usize)
 {
     write::fork_seen(d, p, c);
     write::fork_caught(d, p, c);
-    write::state(d, c, 1);
+    write::state(d, c, Table::STATE_OUT);
     write::enter(d, p, c);
     write::out(d, out);
     write::given(d, given);

@@ -36,7 +36,7 @@ fn forked_row(d: &[u8], p: Revision) -> [u8; Table::ROW]
     while i < n {
         // every link is below 4,096, so the test never fails; with it no proof of that is needed here
         let u = number(own[i]);
-        if u < 4096 {
+        if u < Table::UPDATES {
             marks[u / 8] = bits::set(marks[u / 8], u % 8);
         }
         i += 1;
