@@ -8,7 +8,7 @@ ghost use Rattle.fields.specs.Place.{firstPlace};
 use crate::table::Table;
 
 // The last place.
-const LAST: usize = Table::REVISIONS - 1;
+const LAST_PLACE: usize = Table::REVISIONS - 1;
 
 // The first place of r, or `Table::REVISIONS`.
 pub fn find(t: &[u8], r: u8) -> usize
@@ -31,24 +31,24 @@ pub fn close_gap(t: &mut [u8], i: usize)
     ensures { λ _. ⌜ now (t .exit) ≡ (take i (now (t .entry)) ++ drop (i + 1) (now (t .entry))) ++ (0 ∷ []) ⌝ }
 {
     let mut j = i;
-    while j < LAST {
+    while j < LAST_PLACE {
         t[j] = t[j + 1];
         j += 1;
     }
-    t[LAST] = 0;
+    t[LAST_PLACE] = 0;
 }
 
-// What stands at place i and behind it moves one place back; the last falls out. c comes to place i.
-pub fn open_gap(t: &mut [u8], i: usize, c: u8)
+// What stands at place i and behind it moves one place back; the last falls out. The child comes to place i.
+pub fn open_gap(t: &mut [u8], i: usize, child: u8)
     requires { ⌜ (length (now t) ≡ 64) × (i < 64) ⌝ }
-    ensures { λ _. ⌜ now (t .exit) ≡ take 64 (take i (now (t .entry)) ++ (c ∷ drop i (now (t .entry)))) ⌝ }
+    ensures { λ _. ⌜ now (t .exit) ≡ take 64 (take i (now (t .entry)) ++ (child ∷ drop i (now (t .entry)))) ⌝ }
 {
-    let mut j = LAST;
+    let mut j = LAST_PLACE;
     while i < j {
         t[j] = t[j - 1];
         j -= 1;
     }
-    t[i] = c;
+    t[i] = child;
 }
 
 // b leaves the layout.
@@ -62,13 +62,13 @@ pub fn take_out(t: &mut [u8], b: u8)
     }
 }
 
-// c comes into the layout in front of p.
-pub fn put_in(t: &mut [u8], p: u8, c: u8)
+// The child comes into the layout in front of the parent.
+pub fn put_in(t: &mut [u8], parent: u8, child: u8)
     requires { ⌜ length (now t) ≡ 64 ⌝ }
-    ensures { λ _. ⌜ now (t .exit) ≡ take 64 (insert p c (now (t .entry))) ⌝ }
+    ensures { λ _. ⌜ now (t .exit) ≡ take 64 (insert parent child (now (t .entry))) ⌝ }
 {
-    let i = find(t, p);
+    let i = find(t, parent);
     if i < Table::REVISIONS {
-        open_gap(t, i, c);
+        open_gap(t, i, child);
     }
 }

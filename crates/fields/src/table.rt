@@ -110,16 +110,16 @@ impl Table {
     pub const NUMBERS_GIVEN: usize = 3;
 
     // The limit of a state cell: every state is below it.
-    pub const STATE_LIMIT: usize = 3;
+    pub const STATE_LIMIT: usize = Table::STATE_JOINED + 1;
 
     // The limit of a cell that says whether a row is in use: 0 or 1.
     pub const USED_LIMIT: usize = 2;
 
     // The limit of a count of updates: 0 to 4,096.
-    pub const UPDATES_LIMIT: usize = 4097;
+    pub const UPDATES_LIMIT: usize = Table::UPDATES + 1;
 
     // The limit of a count of revisions, 0 to 64, and of an open transaction's cell, which may be closed.
-    pub const REVISIONS_LIMIT: usize = 65;
+    pub const REVISIONS_LIMIT: usize = Table::REVISIONS + 1;
 
     // A client without events may start anywhere: every caught-up mark, eight to a byte.
     pub fn fresh_caught() -> [[u8; Table::REVISIONS / 8]; Table::CLIENTS]

@@ -18,7 +18,7 @@ returns c =
     let s = at-wide .before .before .args in
     let d = s .d .now in
     lent-at d rowsPart (λ x t. putRow 512 t (x - 1) (markAt (s .row))) (omega arith) (omega arith) (at-wide .wide .ensures .0) (at-put .put .ensures)
-    ∙ ap (wrote d rowsPart) (row-of (split d rowsPart) (s .c .0) (markAt (s .row)) (omega arith))
+    ∙ ap (wrote d rowsPart) (row-of (split d rowsPart) (s .r .0) (markAt (s .row)) (omega arith))
 
 pub row-spec : {M : Type 1} → statement M
 row-spec = tie.close (tie.spec
