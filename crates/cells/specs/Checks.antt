@@ -1,4 +1,4 @@
--- What the codes of the desk ask of the cells: 01, "Codes of the desk". Each answer follows from the cells alone.
+-- What each code asks of the cells: 01, "Codes of the desk". Each answer follows from the cells alone.
 use Prim.Native.Nat.{ℕ}
 use mathlib.Core.Bool.{Bool, not, _&&_}
 use lib.Dec.{eqb, ltb}
