@@ -4,3 +4,6 @@ pub mod bits; // bits.rt: eight marks as a byte
 pub mod change; // change.rt: what a fork and a join make of the marks, by value
 pub mod packed; // packed.rt: the same on packed marks
 pub mod rows; // rows.rt: rows loaded from bytes and stored
+
+// Bytes of a row: 64 marks, eight to a byte.
+pub const ROW: usize = 8;
