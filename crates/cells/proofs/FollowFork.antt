@@ -10,7 +10,7 @@ use lib.Seq.{getD-set-same, getD-set-other}
 use borrow.Author.Tests.{eqb-true, eqb-false, eq-eqb, ne-eqb, ltb-false}
 use Rattle.lists.specs.Lists.{changed}
 use Rattle.lists.proofs.Cases.{cases}
-use Rattle.cells.specs.Sizes.{revisions, clients, updates, main, isOut}
+use Rattle.cells.specs.Sizes.{revisions, clients, updates, main, stateOut}
 use Rattle.cells.specs.Parts.{Parts, Sized, size, rowsPart, seenPart, caughtPart, statePart, usedPart, countPart, basePart, countersPart}
 use Rattle.cells.specs.Cells.{Cells}
 use Rattle.cells.specs.Decode.{decode, rowOf}
@@ -78,7 +78,7 @@ module _ (p : Parts) (h : Sized p) (q c : ℕ) (ql : q < revisions) (cl : c < re
       let r = h .of countersPart in
       let two = set (p countersPart) 2 (suc (k .out)) in
       λ i. record {
-        state = fun-ext (λ x. getD-changed (p statePart) c isOut 0 x (omega arith)) i;
+        state = fun-ext (λ x. getD-changed (p statePart) c stateOut 0 x (omega arith)) i;
         used = fun-ext fork-used i;
         last = k .last;
         first = k .first;

@@ -9,7 +9,7 @@ use lib.Dec.{eqb, ltb}
 use lib.ListN.{replicate, getD-replicate, List·getD-eq-default}
 use borrow.Author.Tests.{ltb-true, ltb-false}
 use Rattle.lists.proofs.Cases.{cases}
-use Rattle.cells.specs.Sizes.{revisions, clients, main, closed, isOut}
+use Rattle.cells.specs.Sizes.{revisions, clients, main, closed, stateOut}
 use Rattle.cells.specs.Parts.{size, rowsPart, lowPart, highPart, seenPart, usedPart, lastPart, firstPart, countPart, basePart}
 use Rattle.cells.specs.Words.{byte, word, half, linkIn}
 use Rattle.cells.specs.Marks.{markIn}
@@ -52,7 +52,7 @@ fresh-opened c =
     (λ e. rw e (let l = ltb-false c clients e in List·getD-eq-default (replicate clients closed) 0 {n = c} (omega arith)))
 
 fresh-state : (r : ℕ) → decode freshParts .state r ≡ freshCells .state r
-fresh-state r = getD-changed (zeros revisions) main isOut 0 r (omega arith) ∙ ap (λ z. cond (eqb r main) isOut z) (zero-byte revisions r)
+fresh-state r = getD-changed (zeros revisions) main stateOut 0 r (omega arith) ∙ ap (λ z. cond (eqb r main) stateOut z) (zero-byte revisions r)
 
 pub fresh-follows : decode freshParts ≡ freshCells
 unfolding word size

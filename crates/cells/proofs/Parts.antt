@@ -120,24 +120,21 @@ sized-with h i q l = record { of = λ j. cases (eqb j i) (λ e. rw (e, eqb-true 
 pub with-same : (p : Parts) (i : ℕ) → p ⟨ i ≔ p i ⟩ ≡ p
 with-same p i = fun-ext (λ j. cases (eqb j i) (λ e. rw (e, eqb-true j i e)) (λ e. rw e))
 
--- for code: a part lent as `&d[a..e]` or `&mut d[a..e]`, k = e - a, is read, or comes back as q
-pub part-read : (d : List ℕ) (i a k : ℕ) → offset i ≡ a → size i ≡ k → midOf a k d ≡ split d i
+-- for code: part i, lent as `&mut d[a..e]`, comes back as q, or as f of what it was. Lent to be read it is `split d i`, by definition.
+pub part-wrote : (d : List ℕ) (i : ℕ) (q : List ℕ) → length d ≡ bytes → i < parts → putMid (offset i) (size i) d q ≡ wrote d i q
+part-wrote d i q h l = ap (λ z. putMid (offset i) (size i) z q) (sym (glue-split d h)) ∙ glue-write (split d) (split-sized d h) i q l
+
+pub part-lent : (d : List ℕ) (i : ℕ) (f : List ℕ → List ℕ) {q : List ℕ} → length d ≡ bytes → i < parts → q ≡ f (midOf (offset i) (size i) d) → putMid (offset i) (size i) d q ≡ wrote d i (f (split d i))
 unfolding split
-part-read d i a k ea ek = rw (ea, ek)
-
-pub part-wrote : (d : List ℕ) (i a k : ℕ) (q : List ℕ) → length d ≡ bytes → i < parts → offset i ≡ a → size i ≡ k → putMid a k d q ≡ wrote d i q
-part-wrote d i a k q h l ea ek =
-    rw (← ea, ← ek) (ap (λ z. putMid (offset i) (size i) z q) (sym (glue-split d h)) ∙ glue-write (split d) (split-sized d h) i q l)
-
-pub part-lent : (d : List ℕ) (i a k : ℕ) (f : List ℕ → List ℕ) (q : List ℕ) → length d ≡ bytes → i < parts → offset i ≡ a → size i ≡ k → q ≡ f (midOf a k d) → putMid a k d q ≡ wrote d i (f (split d i))
-part-lent d i a k f q h l ea ek e = part-wrote d i a k q h l ea ek ∙ ap (wrote d i) (e ∙ ap f (part-read d i a k ea ek))
+part-lent d i f {q} h l e = part-wrote d i q h l ∙ ap (wrote d i) e
 
 -- byte j of k bytes from a on, and of part i, read in the whole
 pub mid-byte : (d : List ℕ) (a k j : ℕ) → j < k → getD d (a + j) 0 ≡ getD (midOf a k d) j 0
 mid-byte d a k j h = sym (getD-drop a d j 0) ∙ sym (getD-take k (drop a d) j 0 h)
 
-pub part-byte : (d : List ℕ) (i a k j : ℕ) → offset i ≡ a → size i ≡ k → j < k → getD d (a + j) 0 ≡ getD (split d i) j 0
-part-byte d i a k j ea ek h = mid-byte d a k j h ∙ ap (λ z. getD z j 0) (part-read d i a k ea ek)
+pub part-byte : (d : List ℕ) (i j : ℕ) → j < size i → getD d (offset i + j) 0 ≡ getD (split d i) j 0
+unfolding split
+part-byte d i j h = mid-byte d (offset i) (size i) j h
 
 -- bytes that are these parts
 pub record Holds (d : List ℕ) (p : Parts) : Type 0 where

@@ -8,7 +8,7 @@ use lib.Dec.{eqb}
 use lib.ListN.{length, set, take, replicate, length-set, length-replicate}
 use lib.Seq.{length-take-le}
 use Rattle.lists.specs.Lists.{insert, remove}
-use Rattle.cells.specs.Sizes.{revisions, clients, main, closed, isOut, isJoined}
+use Rattle.cells.specs.Sizes.{revisions, clients, main, closed, stateOut, stateJoined}
 use Rattle.cells.specs.Parts.{Parts, Sized, size, _⟨_≔_⟩, rowsPart, lowPart, highPart, seenPart, caughtPart, statePart, usedPart, lastPart, firstPart}
 use Rattle.cells.specs.Parts.{countPart, basePart, layoutPart, openedPart, countersPart, signaturePart}
 use Rattle.cells.specs.Words.{putWord, putHalf}
@@ -85,7 +85,7 @@ pub fork-sized : {p : Parts} → Sized p → (q c : ℕ) → c < revisions → S
 fork-sized {p} h q c l =
     let k = decode p in
     let a = caught-sized (seen-sized (inherit-sized h q c l) (forkSeen (k .seen) q c)) (forkCaught (k .caught) q c) in
-    let b = layout-sized (byte-sized a statePart c isOut) (insert q c (p layoutPart)) (insert-length q c (p layoutPart)) in
+    let b = layout-sized (byte-sized a statePart c stateOut) (insert q c (p layoutPart)) (insert-length q c (p layoutPart)) in
     sized-with b countersPart (set (set (p countersPart) 2 (suc (k .out))) 3 (suc (k .given))) (simp length-set (h .of countersPart))
 
 pub splice-sized : {p : Parts} → Sized p → (a b : ℕ) → Sized (spliceParts p a b)
@@ -106,7 +106,7 @@ join-sized {p} h a b =
     let k = decode p in
     let s = sized-with (splice-sized h a b) countPart (putWord (p countPart) a (k .count a + k .count b)) (putWord-length (p countPart) a _ ∙ h .of countPart) in
     let m = caught-sized (seen-sized s (joinSeen (k .seen) a b)) (joinCaught (k .caught) a b) in
-    let t = sized-with m statePart (set (p statePart) b isJoined) (length-set (p statePart) b _ ∙ h .of statePart) in
+    let t = sized-with m statePart (set (p statePart) b stateJoined) (length-set (p statePart) b _ ∙ h .of statePart) in
     let l = sized-with t layoutPart (take revisions (remove b (p layoutPart) ++ (0 ∷ []))) (whole (remove b (p layoutPart) ++ (0 ∷ [])) (remove-length b (p layoutPart))) in
     sized-with l countersPart (set (p countersPart) 2 (k .out - 1)) (length-set (p countersPart) 2 _ ∙ h .of countersPart)
   where
@@ -117,6 +117,6 @@ pub fresh-sized : Sized freshParts
 unfolding size signature
 fresh-sized =
     let z : Sized (λ i. replicate (size i) 0) = record { of = λ i. length-replicate (size i) 0 } in
-    let a = sized-with (caught-sized z (λ c r. true)) statePart (set (replicate 64 0) main isOut) refl in
+    let a = sized-with (caught-sized z (λ c r. true)) statePart (set (replicate 64 0) main stateOut) refl in
     let b = sized-with (sized-with a openedPart (replicate 16 closed) refl) countersPart (0 ∷ 0 ∷ 1 ∷ 1 ∷ []) refl in
     sized-with b signaturePart signature refl

@@ -5,13 +5,13 @@ use mathlib.Core.List.{[], _∷_, _++_}
 use lib.Dec.{eqb, ltb}
 use lib.ListN.{take, replicate}
 use Rattle.lists.specs.Lists.{changed, member, insert, remove}
-use Rattle.cells.specs.Sizes.{revisions, clients, updates, main, closed, isOut, isJoined}
+use Rattle.cells.specs.Sizes.{revisions, clients, updates, main, closed, stateOut, stateJoined}
 use Rattle.cells.specs.Cells.{Cells, own, marked}
 
 -- a fresh day: the main revision is out; a client without events may start anywhere
 abbrev pub freshCells : Cells
 freshCells = record {
-  state = λ r. cond (eqb r main) isOut 0;
+  state = λ r. cond (eqb r main) stateOut 0;
   used = λ r. false;
   last = λ r. 0;
   first = λ r. 0;
@@ -107,7 +107,7 @@ forkRow k p u = ltb u updates && (marked k p u || member u (own k p))
 -- p forks c. From the main revision c inherits by count alone; else p's count, p's row and p's own list
 abbrev pub forkCells : Cells → ℕ → ℕ → Cells
 forkCells k p c = record {
-  state = changed (k .state) c isOut;
+  state = changed (k .state) c stateOut;
   used = changed (k .used) c (cond (eqb p main) false true);
   last = k .last;
   first = k .first;
@@ -137,7 +137,7 @@ joinCaught caught a b x = changed (caught x) a (caught x a || caught x b)
 -- a joins b: a gets b's own list, what b has seen, and who has caught up with b; b is out of the layout
 abbrev pub joinCells : Cells → ℕ → ℕ → Cells
 joinCells k a b = record {
-  state = changed (k .state) b isJoined;
+  state = changed (k .state) b stateJoined;
   used = k .used;
   last = spliced k b (k .last) (changed (k .last) a (k .last b));
   first = spliced k b (k .first) (changed (k .first) a (cond (eqb (k .count a) 0) (k .first b) (k .first a)));

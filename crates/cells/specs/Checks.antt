@@ -1,9 +1,9 @@
--- What the codes of the desk ask of the cells: 01, "Codes of the desk". Each answer follows from the cells alone.
+-- What each code asks of the cells: 01, "Codes of the desk". Each answer follows from the cells alone.
 use Prim.Native.Nat.{ℕ}
 use mathlib.Core.Bool.{Bool, not, _&&_}
 use lib.Dec.{eqb, ltb}
 use Rattle.lists.specs.Sums.{anyBelow}
-use Rattle.cells.specs.Sizes.{revisions, clients, updates, main, closed, neverGiven, isJoined}
+use Rattle.cells.specs.Sizes.{revisions, clients, updates, main, closed, stateNever, stateJoined}
 use Rattle.cells.specs.Cells.{Cells}
 
 -- a client number; else 2 applies, "tablet above 15"
@@ -12,11 +12,11 @@ isClient n = ltb n clients
 
 -- a number given out; else 3 applies, "box number not yet given out"
 abbrev pub givenOut : Cells → ℕ → Bool
-givenOut k r = ltb r revisions && not (eqb (k .state r) neverGiven)
+givenOut k r = ltb r revisions && not (eqb (k .state r) stateNever)
 
 -- 4 "box already a joinee"
 abbrev pub joined : Cells → ℕ → Bool
-joined k r = eqb (k .state r) isJoined
+joined k r = eqb (k .state r) stateJoined
 
 -- 6 "the tablet's open transaction is on another box"
 abbrev pub openElsewhere : Cells → ℕ → ℕ → Bool

@@ -26,11 +26,11 @@ abbrev pub closed : ℕ
 closed = 64
 
 -- the states of a revision: never given out, out, joined ("handed in")
-abbrev pub neverGiven : ℕ
-neverGiven = 0
+abbrev pub stateNever : ℕ
+stateNever = 0
 
-abbrev pub isOut : ℕ
-isOut = 1
+abbrev pub stateOut : ℕ
+stateOut = 1
 
-abbrev pub isJoined : ℕ
-isJoined = 2
+abbrev pub stateJoined : ℕ
+stateJoined = 2

@@ -5,7 +5,7 @@ use mathlib.Core.List.{List, [], _∷_, _++_}
 use lib.Dec.{eqb}
 use lib.ListN.{set, take, replicate}
 use Rattle.lists.specs.Lists.{insert, remove}
-use Rattle.cells.specs.Sizes.{revisions, clients, main, closed, isOut, isJoined}
+use Rattle.cells.specs.Sizes.{revisions, clients, main, closed, stateOut, stateJoined}
 use Rattle.cells.specs.Parts.{Parts, split, glue, size, _⟨_≔_⟩, rowsPart, lowPart, highPart, seenPart, caughtPart, statePart, usedPart, lastPart, firstPart}
 use Rattle.cells.specs.Parts.{countPart, basePart, layoutPart, openedPart, countersPart, signaturePart}
 use Rattle.cells.specs.Words.{putWord, putHalf}
@@ -19,7 +19,7 @@ abbrev pub freshParts : Parts
 freshParts =
     (λ i. replicate (size i) 0)
     ⟨ caughtPart ≔ pack clients (λ c r. true) ⟩
-    ⟨ statePart ≔ set (replicate 64 0) main isOut ⟩
+    ⟨ statePart ≔ set (replicate 64 0) main stateOut ⟩
     ⟨ openedPart ≔ replicate 16 closed ⟩
     ⟨ countersPart ≔ 0 ∷ 0 ∷ 1 ∷ 1 ∷ [] ⟩
     ⟨ signaturePart ≔ signature ⟩
@@ -75,7 +75,7 @@ forkParts p q c =
     inheritParts p q c
     ⟨ seenPart ≔ pack revisions (forkSeen (k .seen) q c) ⟩
     ⟨ caughtPart ≔ pack clients (forkCaught (k .caught) q c) ⟩
-    ⟨ statePart ≔ set (p statePart) c isOut ⟩
+    ⟨ statePart ≔ set (p statePart) c stateOut ⟩
     ⟨ layoutPart ≔ take revisions (insert q c (p layoutPart)) ⟩
     ⟨ countersPart ≔ set (set (p countersPart) 2 (suc (k .out))) 3 (suc (k .given)) ⟩
 
@@ -97,7 +97,7 @@ joinParts p a b =
     ⟨ countPart ≔ putWord (p countPart) a (k .count a + k .count b) ⟩
     ⟨ seenPart ≔ pack revisions (joinSeen (k .seen) a b) ⟩
     ⟨ caughtPart ≔ pack clients (joinCaught (k .caught) a b) ⟩
-    ⟨ statePart ≔ set (p statePart) b isJoined ⟩
+    ⟨ statePart ≔ set (p statePart) b stateJoined ⟩
     ⟨ layoutPart ≔ take revisions (remove b (p layoutPart) ++ (0 ∷ [])) ⟩
     ⟨ countersPart ≔ set (p countersPart) 2 (k .out - 1) ⟩
 

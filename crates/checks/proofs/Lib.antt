@@ -1,3 +1,3 @@
--- Laws that belong to no one function: the range checks of numbers, and flags.
+-- Laws that serve several proofs: the checks of numbers, and flags.
 pub mod Numbers
 pub mod Flags

@@ -1,8 +1,7 @@
--- What the range checks of numbers say, and the checks of the desk that begin with them.
-use Prim.Native.Nat.{ℕ, _<_, _≤_}
-use mathlib.Core.Path.{_≡_, sym, _∙_, ap}
+-- What the checks of a client number (code 2), a number given out (3) and the next number (10) say.
+use Prim.Native.Nat.{ℕ, suc, _<_, _≤_}
+use mathlib.Core.Path.{_≡_, refl, sym, _∙_, ap}
 use mathlib.Core.List.{List}
-use native.Mathlib.Omega.{arith}
 use borrow.Author.Tests.{lt-ltb, le-ltb, eq-eqb, ne-eqb}
 use Rattle.cells.specs.Sizes.{clients, revisions}
 use Rattle.cells.specs.Decode.{cells}
@@ -10,25 +9,24 @@ use Rattle.fields.specs.Numbers.{revisionCheck}
 use Rattle.fields.specs.declared.table.Client.{Client}
 use Rattle.fields.specs.declared.table.Revision.{Revision}
 use Rattle.fields.specs.declared.table.RevisionCheck.the-variants as revision
-use Rattle.fields.proofs.InRange.{below, known-revision, not-below, unknown-revision}
+use Rattle.fields.proofs.InRange.{known-below, known-revision, unknown-above, unknown-revision}
 use Rattle.checks.specs.Answers.{clientCheck, givenCheck, nextCheck}
 use Rattle.checks.specs.declared.given.GivenCheck.the-variants as given
 use Rattle.checks.specs.declared.next.NextCheck.the-variants as left
+use Rattle.checks.specs.declared.client.ClientCheck.{ClientCheck}
 use Rattle.checks.specs.declared.client.ClientCheck.the-variants.{Known, Unknown}
 
-different : (c : Client) → Known c ≡ Unknown → ⊥
-different c e = let z : _≡_ {A = ℕ} 0 1 = cc in omega arith
-
-same : (n : ℕ) (c : Client) → Known (record { 0 = n }) ≡ Known c → c .0 ≡ n
-same n c e = let q : record { 0 = n } ≡ c = cc e in cc
+abbrev told : ClientCheck → ℕ
+told (Known c) = suc (c .0)
+told Unknown = 0
 
 pub known-client : (n : ℕ) (c : Client) → clientCheck n ≡ Known c → (c .0 ≡ n) × (n < clients)
 unfolding clientCheck
-known-client n c e = let k = below n clients (Known (record { 0 = n })) Unknown e (λ q. different c (sym q)) in (same n c (k .0), k .1)
+known-client n c e = known-below told n clients (Known (record { 0 = n })) Unknown refl refl e (c .0) refl
 
 pub unknown-client : (n : ℕ) → clientCheck n ≡ Unknown → clients ≤ n
 unfolding clientCheck
-unknown-client n e = not-below n clients (Known (record { 0 = n })) Unknown e (different (record { 0 = n }))
+unknown-client n e = unknown-above told n clients (Known (record { 0 = n })) Unknown refl refl e refl
 
 same-revision : (n : ℕ) (r : Revision) → r .0 ≡ n → record { 0 = n } ≡ r
 same-revision n r e = ap (λ (k : ℕ). record { 0 = k }) (sym e)

@@ -1,4 +1,4 @@
--- The answer of each check of the desk: 01, "Codes of the desk". Which code an answer gives is said where the calls are.
+-- The answer of each check: 01, "Codes of the desk". Which code an answer gives is said where the calls are.
 use Prim.Native.Nat.{ℕ}
 use mathlib.Core.Bool.{cond}
 use mathlib.Core.List.{List}

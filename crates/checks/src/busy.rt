@@ -14,6 +14,10 @@ use fields::numbers::wide;
 use fields::read;
 use fields::table::Client;
 use fields::table::Revision;
+use fields::table::Table;
+
+// How many clients there are, of the type of a client number.
+const CLIENTS: u8 = Table::CLIENTS as u8;
 
 pub enum UseCheck {
     Free,
@@ -38,7 +42,7 @@ fn is_busy(d: &[u8], r: Revision) -> bool
 {
     let at = wide(r.0);
     let mut x: u8 = 0;
-    while x < 16 {
+    while x < CLIENTS {
         if is_on(d, x, at) {
             return true;
         }
@@ -66,7 +70,7 @@ fn is_busy_by_other(d: &[u8], c: Client, r: Revision) -> bool
     let at = wide(r.0);
     let me = c.0;
     let mut x: u8 = 0;
-    while x < 16 {
+    while x < CLIENTS {
         if is_other_on(d, x, me, at) {
             return true;
         }

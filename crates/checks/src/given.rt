@@ -6,6 +6,7 @@ ghost use Rattle.checks.specs.Answers.{givenCheck};
 use fields::read;
 use fields::table::Revision;
 use fields::table::RevisionCheck;
+use fields::table::Table;
 use fields::table::check_revision;
 
 pub enum GivenCheck {
@@ -20,7 +21,7 @@ pub fn check_given(d: &[u8], n: u8) -> GivenCheck
     let RevisionCheck::Known(r) = check_revision(n) else {
         return GivenCheck::Never;
     };
-    if read::state(d, r) == 0 {
+    if read::state(d, r) == Table::STATE_NEVER {
         return GivenCheck::Never;
     }
     GivenCheck::Given(r)

@@ -6,6 +6,7 @@ ghost use Rattle.cells.specs.Sizes.{bytes, revisions};
 ghost use Rattle.checks.specs.Answers.{joinedCheck};
 use fields::read;
 use fields::table::Revision;
+use fields::table::Table;
 
 pub enum JoinedCheck {
     Out,
@@ -16,7 +17,7 @@ pub fn check_joined(d: &[u8], r: Revision) -> JoinedCheck
     requires { ⌜ (length (now d) ≡ bytes) × (r .0 < revisions) ⌝ }
     ensures { λ a. ⌜ a ≡ joinedCheck (now (d .entry)) (r .0) ⌝ }
 {
-    if read::state(d, r) == 2 {
+    if read::state(d, r) == Table::STATE_JOINED {
         return JoinedCheck::Joined;
     }
     JoinedCheck::Out

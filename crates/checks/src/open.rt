@@ -8,6 +8,7 @@ use fields::numbers::wide;
 use fields::read;
 use fields::table::Client;
 use fields::table::Revision;
+use fields::table::Table;
 
 pub enum OpenCheck {
     Clear,
@@ -19,7 +20,7 @@ pub fn check_open(d: &[u8], c: Client, r: Revision) -> OpenCheck
     ensures { λ a. ⌜ a ≡ openCheck (now (d .entry)) (c .0) (r .0) ⌝ }
 {
     let on = read::opened(d, c);
-    if on == 64 {
+    if on == Table::CLOSED {
         return OpenCheck::Clear;
     }
     if on == wide(r.0) {

@@ -80,7 +80,9 @@ fn counters_in(d: &[u8]) -> bool
     let updates = read::updates(d);
     let out = read::out(d);
     let given = read::given(d);
-    (updates < 4097) & ((0 < out) & ((out < 65) & ((0 < given) & (given < 65))))
+    (updates < Table::UPDATES_LIMIT)
+        & ((0 < out)
+            & ((out < Table::REVISIONS_LIMIT) & ((0 < given) & (given < Table::REVISIONS_LIMIT))))
 }
 
 // The cells of each revision's record.
@@ -88,12 +90,12 @@ fn records_in(d: &[u8]) -> bool
     requires { ⌜ length (now d) ≡ bytes ⌝ }
     ensures { λ r. ⌜ r ≡ recordsIn (split (now (d .entry))) ⌝ }
 {
-    let state = bytes_below(d, STATE, 64, 3);
-    let used = bytes_below(d, USED, 64, 2);
-    let last = words_below(d, LAST, 64, 4096);
-    let first = words_below(d, FIRST, 64, 4096);
-    let count = words_below(d, COUNT, 64, 4097);
-    let base = words_below(d, BASE, 64, 4097);
+    let state = bytes_below(d, STATE, Table::REVISIONS, Table::STATE_LIMIT);
+    let used = bytes_below(d, USED, Table::REVISIONS, Table::USED_LIMIT);
+    let last = words_below(d, LAST, Table::REVISIONS, Table::UPDATES);
+    let first = words_below(d, FIRST, Table::REVISIONS, Table::UPDATES);
+    let count = words_below(d, COUNT, Table::REVISIONS, Table::UPDATES_LIMIT);
+    let base = words_below(d, BASE, Table::REVISIONS, Table::UPDATES_LIMIT);
     state & (used & (last & (first & (count & base))))
 }
 
@@ -102,9 +104,9 @@ fn places_in(d: &[u8]) -> bool
     requires { ⌜ length (now d) ≡ bytes ⌝ }
     ensures { λ r. ⌜ r ≡ placesIn (split (now (d .entry))) ⌝ }
 {
-    let layout = bytes_below(d, LAYOUT, 64, 64);
-    let queue = bytes_below(d, QUEUE, 64, 64);
-    let opened = bytes_below(d, OPENED, 16, 65);
+    let layout = bytes_below(d, LAYOUT, Table::REVISIONS, Table::REVISIONS);
+    let queue = bytes_below(d, QUEUE, Table::REVISIONS, Table::REVISIONS);
+    let opened = bytes_below(d, OPENED, Table::CLIENTS, Table::REVISIONS_LIMIT);
     let counters = counters_in(d);
     layout & (queue & (opened & (counters & is_signed(d))))
 }

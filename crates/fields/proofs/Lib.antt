@@ -1,5 +1,6 @@
--- Laws that belong to no one function.
+-- Laws that serve several proofs: cells read and written in a part, gaps of the layout, range checks, marks, bytes that are 0.
 pub mod Gaps
+pub mod InPart
 pub mod InRange
 pub mod MarkReads
 pub mod Zeros

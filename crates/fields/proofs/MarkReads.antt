@@ -1,4 +1,4 @@
--- A mark read in the whole.
+-- The marks of inherited updates, read and written in the whole.
 use Prim.Native.Nat.{ℕ, zero, suc, _+_, _*_, _-_, _/_, _%_, _<_}
 use mathlib.Core.Bool.{Bool, true, false, and-false}
 use mathlib.Core.Path.{_≡_, refl, sym, ap, _∙_}
@@ -7,8 +7,8 @@ use native.Mathlib.Numerals.{sub-one}
 use native.Mathlib.Omega.{arith}
 use lib.ListN.{getD, replicate}
 use borrow.Author.Tests.{lt-ltb}
-use Rattle.cells.specs.Sizes.{revisions, clients, updates}
-use Rattle.cells.specs.Parts.{offset, size, rowsPart, seenPart, caughtPart}
+use Rattle.cells.specs.Sizes.{revisions, updates}
+use Rattle.cells.specs.Parts.{offset, size, rowsPart}
 use Rattle.cells.specs.Words.{byte}
 use Rattle.cells.specs.Marks.{bit, putRow, rowBytes}
 use Rattle.cells.specs.Cells.{marked}
@@ -19,14 +19,6 @@ use Rattle.cells.proofs.Parts.{part-byte}
 use Rattle.marks.proofs.Laws.{no-marks}
 
 module _ (d : List ℕ) where
-  pub seen-at : (x y : ℕ) → x < revisions → y < revisions → bit (getD d (38400 + (8 * x + y / 8)) 0) (y % 8) ≡ cells d .seen x y
-  unfolding cells offset size
-  seen-at x y h g = rw (lt-ltb x revisions h, lt-ltb y revisions g, part-byte d seenPart 38400 512 (8 * x + y / 8) refl refl (omega arith))
-
-  pub caught-at : (x y : ℕ) → x < clients → y < revisions → bit (getD d (38912 + (8 * x + y / 8)) 0) (y % 8) ≡ cells d .caught x y
-  unfolding cells offset size
-  caught-at x y h g = rw (lt-ltb x clients h, lt-ltb y revisions g, part-byte d caughtPart 38912 128 (8 * x + y / 8) refl refl (omega arith))
-
   -- the main revision has no row, and a row that is not in use has no mark
   pub main-unmarked : (r u : ℕ) → r ≡ 0 → false ≡ marked (cells d) r u
   unfolding cells
@@ -38,7 +30,7 @@ module _ (d : List ℕ) where
   pub marked-at : (r u : ℕ) → r < revisions → (r ≡ 0 → ⊥) → u < updates → cells d .used r ≡ true → bit (getD d (512 * (r - 1) + u / 8) 0) (u % 8) ≡ marked (cells d) r u
   unfolding cells offset size
   marked-at zero u h n l e = absurd (n refl)
-  marked-at (suc r) u h n l e = rw (e, sub-one, lt-ltb r 63 (omega arith), lt-ltb u updates l) (let e : 512 * r + u / 8 ≡ 0 + (512 * r + u / 8) = omega arith in ap (λ z. bit (getD d z 0) (u % 8)) e ∙ ap (λ b. bit b (u % 8)) (part-byte d rowsPart 0 32256 (512 * r + u / 8) refl refl (omega arith)))
+  marked-at (suc r) u h n l e = rw (e, sub-one, lt-ltb r 63 (omega arith), lt-ltb u updates l) (let e : 512 * r + u / 8 ≡ offset rowsPart + (512 * r + u / 8) = omega arith in ap (λ z. bit (getD d z 0) (u % 8)) e ∙ ap (λ b. bit b (u % 8)) (part-byte d rowsPart (512 * r + u / 8) (omega arith)))
 
   -- a whole row
   pub row-used : (r x : ℕ) → 0 < r → r < revisions → x ≡ r → cells d .used r ≡ true → rowBytes 512 (λ u. bit (byte d (512 * (x - 1) + u / 8)) (u % 8)) ≡ rowBytes 512 (marked (cells d) r)
@@ -48,6 +40,6 @@ module _ (d : List ℕ) where
   row-unused r e = no-marks 512 ∙ rowBytes-same 512 _ (marked (cells d) r) (λ u h. unused-unmarked r u e)
 
 -- the rows begin at revision 1
-pub row-of : (t : List ℕ) (c x : ℕ) (f : ℕ → Bool) → 0 < c → x ≡ c → putRow 512 t (x - 1) f ≡ putRowOf t c f
-row-of t zero x f h e = absurd (omega arith)
-row-of t (suc c) x f h e = rw (e, sub-one)
+pub row-of : (t : List ℕ) (r : ℕ) (f : ℕ → Bool) → 0 < r → putRow 512 t (r - 1) f ≡ putRowOf t r f
+row-of t zero f h = absurd (omega arith)
+row-of t (suc r) f h = rw sub-one

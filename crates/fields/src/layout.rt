@@ -5,14 +5,18 @@ ghost use Prim.Native.Nat.{_+_, _<_};
 ghost use lib.ListN.{drop, length, take};
 ghost use Rattle.lists.specs.Lists.{insert, remove};
 ghost use Rattle.fields.specs.Place.{firstPlace};
+use crate::table::Table;
 
-// The first place of r, or 64.
+// The last place.
+const LAST_PLACE: usize = Table::REVISIONS - 1;
+
+// The first place of r, or `Table::REVISIONS`.
 pub fn find(t: &[u8], r: u8) -> usize
     requires { ⌜ length (now t) ≡ 64 ⌝ }
     ensures { λ i. ⌜ i ≡ firstPlace r (now (t .entry)) ⌝ }
 {
     let mut i: usize = 0;
-    while i < 64 {
+    while i < Table::REVISIONS {
         if t[i] == r {
             return i;
         }
@@ -27,24 +31,24 @@ pub fn close_gap(t: &mut [u8], i: usize)
     ensures { λ _. ⌜ now (t .exit) ≡ (take i (now (t .entry)) ++ drop (i + 1) (now (t .entry))) ++ (0 ∷ []) ⌝ }
 {
     let mut j = i;
-    while j < 63 {
+    while j < LAST_PLACE {
         t[j] = t[j + 1];
         j += 1;
     }
-    t[63] = 0;
+    t[LAST_PLACE] = 0;
 }
 
-// What stands at place i and behind it moves one place back; the last falls out. c comes to place i.
-pub fn open_gap(t: &mut [u8], i: usize, c: u8)
+// What stands at place i and behind it moves one place back; the last falls out. The child comes to place i.
+pub fn open_gap(t: &mut [u8], i: usize, child: u8)
     requires { ⌜ (length (now t) ≡ 64) × (i < 64) ⌝ }
-    ensures { λ _. ⌜ now (t .exit) ≡ take 64 (take i (now (t .entry)) ++ (c ∷ drop i (now (t .entry)))) ⌝ }
+    ensures { λ _. ⌜ now (t .exit) ≡ take 64 (take i (now (t .entry)) ++ (child ∷ drop i (now (t .entry)))) ⌝ }
 {
-    let mut j: usize = 63;
+    let mut j = LAST_PLACE;
     while i < j {
         t[j] = t[j - 1];
         j -= 1;
     }
-    t[i] = c;
+    t[i] = child;
 }
 
 // b leaves the layout.
@@ -53,18 +57,18 @@ pub fn take_out(t: &mut [u8], b: u8)
     ensures { λ _. ⌜ now (t .exit) ≡ take 64 (remove b (now (t .entry)) ++ (0 ∷ [])) ⌝ }
 {
     let i = find(t, b);
-    if i < 64 {
+    if i < Table::REVISIONS {
         close_gap(t, i);
     }
 }
 
-// c comes into the layout in front of p.
-pub fn put_in(t: &mut [u8], p: u8, c: u8)
+// The child comes into the layout in front of the parent.
+pub fn put_in(t: &mut [u8], parent: u8, child: u8)
     requires { ⌜ length (now t) ≡ 64 ⌝ }
-    ensures { λ _. ⌜ now (t .exit) ≡ take 64 (insert p c (now (t .entry))) ⌝ }
+    ensures { λ _. ⌜ now (t .exit) ≡ take 64 (insert parent child (now (t .entry))) ⌝ }
 {
-    let i = find(t, p);
-    if i < 64 {
-        open_gap(t, i, c);
+    let i = find(t, parent);
+    if i < Table::REVISIONS {
+        open_gap(t, i, child);
     }
 }

@@ -26,9 +26,10 @@ use crate::table::QUEUE;
 use crate::table::Revision;
 use crate::table::SEEN;
 use crate::table::STATE;
+use crate::table::Table;
 use crate::table::USED;
 
-// 0 never given out, 1 out, 2 joined.
+// One of the three states of `Table`, on every table in range.
 pub fn state(d: &[u8], r: Revision) -> usize
     requires { ⌜ (length (now d) ≡ bytes) × (r .0 < revisions) ⌝ }
     ensures { λ v. ⌜ (v ≡ cells (now (d .entry)) .state (r .0)) × (v < 256) ⌝ }
@@ -96,7 +97,7 @@ pub fn inherited(d: &[u8], r: Revision, u: usize) -> bool
         return false;
     }
     if used(d, r) {
-        return marks::bits::mark(d[512 * (x - 1) + u / 8], u % 8);
+        return marks::bits::mark(d[Table::ROW * (x - 1) + u / 8], u % 8);
     }
     false
 }
@@ -129,7 +130,7 @@ pub fn place(d: &[u8], i: usize) -> usize
     byte_at(&d[LAYOUT..QUEUE], i)
 }
 
-// The revision of the open transaction, or 64.
+// The revision of the open transaction, or `Table::CLOSED`.
 pub fn opened(d: &[u8], c: Client) -> usize
     requires { ⌜ (length (now d) ≡ bytes) × (c .0 < clients) ⌝ }
     ensures { λ v. ⌜ (v ≡ cells (now (d .entry)) .opened (c .0)) × (v < 256) ⌝ }
@@ -142,7 +143,7 @@ pub fn out(d: &[u8]) -> usize
     requires { ⌜ length (now d) ≡ bytes ⌝ }
     ensures { λ v. ⌜ (v ≡ cells (now (d .entry)) .out) × (v < 256) ⌝ }
 {
-    byte_at(&d[COUNTERS..KEPT], 2)
+    byte_at(&d[COUNTERS..KEPT], Table::REVISIONS_OUT)
 }
 
 // How many revision numbers were given out.
@@ -150,7 +151,7 @@ pub fn given(d: &[u8]) -> usize
     requires { ⌜ length (now d) ≡ bytes ⌝ }
     ensures { λ v. ⌜ (v ≡ cells (now (d .entry)) .given) × (v < 256) ⌝ }
 {
-    byte_at(&d[COUNTERS..KEPT], 3)
+    byte_at(&d[COUNTERS..KEPT], Table::NUMBERS_GIVEN)
 }
 
 // How many updates were taken.
@@ -158,5 +159,5 @@ pub fn updates(d: &[u8]) -> usize
     requires { ⌜ length (now d) ≡ bytes ⌝ }
     ensures { λ v. ⌜ (v ≡ cells (now (d .entry)) .updates) × (v < 65536) ⌝ }
 {
-    word_at(&d[COUNTERS..KEPT], 0)
+    word_at(&d[COUNTERS..KEPT], Table::UPDATES_TAKEN)
 }

@@ -19,8 +19,8 @@ fn copy(d: &[u8], x: usize) -> [u8; Table::ROW]
 {
     let mut row = [0; Table::ROW];
     let mut i: usize = 0;
-    while i < 512 {
-        row[i] = marks::bits::same(d[512 * x + i]);
+    while i < Table::ROW {
+        row[i] = marks::bits::same(d[Table::ROW * x + i]);
         i += 1;
     }
     row
@@ -44,7 +44,7 @@ fn store(t: &mut [u8], row: [u8; Table::ROW])
     ensures { λ _. ⌜ now (t .exit) ≡ rowBytes 512 (markAt row) ⌝ }
 {
     let mut i: usize = 0;
-    while i < 512 {
+    while i < Table::ROW {
         t[i] = marks::bits::same(row[i]);
         i += 1;
     }
@@ -55,7 +55,7 @@ pub fn put(t: &mut [u8], x: usize, row: [u8; Table::ROW])
     requires { ⌜ (length (now t) ≡ 32256) × (x < 63) ⌝ }
     ensures { λ _. ⌜ now (t .exit) ≡ putRow 512 (now (t .entry)) x (markAt row) ⌝ }
 {
-    let at = 512 * x;
-    let end = at + 512;
+    let at = Table::ROW * x;
+    let end = at + Table::ROW;
     store(&mut t[at..end], row);
 }

@@ -88,6 +88,39 @@ impl Table {
     // The bytes of the lower half, which is all that this crate knows of the table.
     pub const LOWER: usize = 40960;
 
+    // The state of a revision whose number was never given out.
+    pub const STATE_NEVER: usize = 0;
+
+    // The state of a revision that is out.
+    pub const STATE_OUT: usize = 1;
+
+    // The state of a revision that was joined.
+    pub const STATE_JOINED: usize = 2;
+
+    // In the cell of a client's open transaction: there is none.
+    pub const CLOSED: usize = 64;
+
+    // In the counters: the word that counts updates taken.
+    pub const UPDATES_TAKEN: usize = 0;
+
+    // In the counters: the byte that counts revisions out.
+    pub const REVISIONS_OUT: usize = 2;
+
+    // In the counters: the byte that counts revision numbers given out.
+    pub const NUMBERS_GIVEN: usize = 3;
+
+    // The limit of a state cell: every state is below it.
+    pub const STATE_LIMIT: usize = Table::STATE_JOINED + 1;
+
+    // The limit of a cell that says whether a row is in use: 0 or 1.
+    pub const USED_LIMIT: usize = 2;
+
+    // The limit of a count of updates: 0 to 4,096.
+    pub const UPDATES_LIMIT: usize = Table::UPDATES + 1;
+
+    // The limit of a count of revisions, 0 to 64, and of an open transaction's cell, which may be closed.
+    pub const REVISIONS_LIMIT: usize = Table::REVISIONS + 1;
+
     // A client without events may start anywhere: every caught-up mark, eight to a byte.
     pub fn fresh_caught() -> [[u8; Table::REVISIONS / 8]; Table::CLIENTS]
         ensures { λ r. ⌜ r ≡ replicate clients (replicate 8 255) ⌝ }
@@ -99,7 +132,7 @@ impl Table {
     pub fn fresh_opened() -> [u8; Table::CLIENTS]
         ensures { λ r. ⌜ r ≡ replicate clients closed ⌝ }
     {
-        [64; Table::CLIENTS]
+        [Table::CLOSED as u8; Table::CLIENTS]
     }
 
     // What marks the bytes as a table with this layout.

@@ -105,21 +105,21 @@ pub fn updates(d: &mut [u8], v: usize)
     requires { ⌜ (length (now d) ≡ bytes) × (v < 65536) ⌝ }
     ensures { λ _. ⌜ now (d .exit) ≡ wrote (now (d .entry)) countersPart (putWord (split (now (d .entry)) countersPart) 0 v) ⌝ }
 {
-    put_word(&mut d[COUNTERS..KEPT], 0, v);
+    put_word(&mut d[COUNTERS..KEPT], Table::UPDATES_TAKEN, v);
 }
 
 pub fn out(d: &mut [u8], v: usize)
     requires { ⌜ (length (now d) ≡ bytes) × (v < 256) ⌝ }
     ensures { λ _. ⌜ now (d .exit) ≡ wrote (now (d .entry)) countersPart (set (split (now (d .entry)) countersPart) 2 v) ⌝ }
 {
-    put_byte(&mut d[COUNTERS..KEPT], 2, v);
+    put_byte(&mut d[COUNTERS..KEPT], Table::REVISIONS_OUT, v);
 }
 
 pub fn given(d: &mut [u8], v: usize)
     requires { ⌜ (length (now d) ≡ bytes) × (v < 256) ⌝ }
     ensures { λ _. ⌜ now (d .exit) ≡ wrote (now (d .entry)) countersPart (set (split (now (d .entry)) countersPart) 3 v) ⌝ }
 {
-    put_byte(&mut d[COUNTERS..KEPT], 3, v);
+    put_byte(&mut d[COUNTERS..KEPT], Table::NUMBERS_GIVEN, v);
 }
 
 // Client c has caught up with r alone.
@@ -130,12 +130,12 @@ pub fn caught_only(d: &mut [u8], c: Client, r: Revision)
     marks::packed::set_only(&mut d[CAUGHT..STATE], wide(c.0), wide(r.0));
 }
 
-// p forked c: the seen marks.
-pub fn fork_seen(d: &mut [u8], p: Revision, c: Revision)
-    requires { ⌜ (length (now d) ≡ bytes) × (p .0 < revisions) × (c .0 < revisions) ⌝ }
-    ensures { λ _. ⌜ now (d .exit) ≡ wrote (now (d .entry)) seenPart (pack revisions (forkSeen (cells (now (d .entry)) .seen) (p .0) (c .0))) ⌝ }
+// The parent forked the child: the seen marks.
+pub fn fork_seen(d: &mut [u8], parent: Revision, child: Revision)
+    requires { ⌜ (length (now d) ≡ bytes) × (parent .0 < revisions) × (child .0 < revisions) ⌝ }
+    ensures { λ _. ⌜ now (d .exit) ≡ wrote (now (d .entry)) seenPart (pack revisions (forkSeen (cells (now (d .entry)) .seen) (parent .0) (child .0))) ⌝ }
 {
-    marks::packed::fork_seen(&mut d[SEEN..CAUGHT], wide(p.0), wide(c.0));
+    marks::packed::fork_seen(&mut d[SEEN..CAUGHT], wide(parent.0), wide(child.0));
 }
 
 // a joined b: the seen marks.
@@ -146,12 +146,12 @@ pub fn join_seen(d: &mut [u8], a: Revision, b: Revision)
     marks::packed::join_seen(&mut d[SEEN..CAUGHT], wide(a.0), wide(b.0));
 }
 
-// p forked c: the caught-up marks.
-pub fn fork_caught(d: &mut [u8], p: Revision, c: Revision)
-    requires { ⌜ (length (now d) ≡ bytes) × (p .0 < revisions) × (c .0 < revisions) ⌝ }
-    ensures { λ _. ⌜ now (d .exit) ≡ wrote (now (d .entry)) caughtPart (pack clients (forkCaught (cells (now (d .entry)) .caught) (p .0) (c .0))) ⌝ }
+// The parent forked the child: the caught-up marks.
+pub fn fork_caught(d: &mut [u8], parent: Revision, child: Revision)
+    requires { ⌜ (length (now d) ≡ bytes) × (parent .0 < revisions) × (child .0 < revisions) ⌝ }
+    ensures { λ _. ⌜ now (d .exit) ≡ wrote (now (d .entry)) caughtPart (pack clients (forkCaught (cells (now (d .entry)) .caught) (parent .0) (child .0))) ⌝ }
 {
-    marks::packed::fork_caught(&mut d[CAUGHT..STATE], wide(p.0), wide(c.0));
+    marks::packed::fork_caught(&mut d[CAUGHT..STATE], wide(parent.0), wide(child.0));
 }
 
 // a joined b: the caught-up marks.
@@ -162,12 +162,12 @@ pub fn join_caught(d: &mut [u8], a: Revision, b: Revision)
     marks::packed::join_caught(&mut d[CAUGHT..STATE], wide(a.0), wide(b.0));
 }
 
-// c comes into the layout in front of p.
-pub fn enter(d: &mut [u8], p: Revision, c: Revision)
+// The child comes into the layout in front of the parent.
+pub fn enter(d: &mut [u8], parent: Revision, child: Revision)
     requires { ⌜ length (now d) ≡ bytes ⌝ }
-    ensures { λ _. ⌜ now (d .exit) ≡ wrote (now (d .entry)) layoutPart (take revisions (insert (p .0) (c .0) (split (now (d .entry)) layoutPart))) ⌝ }
+    ensures { λ _. ⌜ now (d .exit) ≡ wrote (now (d .entry)) layoutPart (take revisions (insert (parent .0) (child .0) (split (now (d .entry)) layoutPart))) ⌝ }
 {
-    crate::layout::put_in(&mut d[LAYOUT..QUEUE], p.0, c.0);
+    crate::layout::put_in(&mut d[LAYOUT..QUEUE], parent.0, child.0);
 }
 
 // b leaves the layout.
@@ -178,11 +178,11 @@ pub fn leave(d: &mut [u8], b: Revision)
     crate::layout::take_out(&mut d[LAYOUT..QUEUE], b.0);
 }
 
-// The row of revision c, which is not the main revision.
-pub fn row(d: &mut [u8], c: Revision, row: [u8; Table::ROW])
-    requires { ⌜ (length (now d) ≡ bytes) × (0 < c .0) × (c .0 < revisions) ⌝ }
-    ensures { λ _. ⌜ now (d .exit) ≡ wrote (now (d .entry)) rowsPart (putRowOf (split (now (d .entry)) rowsPart) (c .0) (markAt row)) ⌝ }
+// The row of revision r, which is not the main revision.
+pub fn row(d: &mut [u8], r: Revision, row: [u8; Table::ROW])
+    requires { ⌜ (length (now d) ≡ bytes) × (0 < r .0) × (r .0 < revisions) ⌝ }
+    ensures { λ _. ⌜ now (d .exit) ≡ wrote (now (d .entry)) rowsPart (putRowOf (split (now (d .entry)) rowsPart) (r .0) (markAt row)) ⌝ }
 {
-    let x = wide(c.0) - 1;
+    let x = wide(r.0) - 1;
     crate::row::put(&mut d[ROWS..LOW], x, row);
 }

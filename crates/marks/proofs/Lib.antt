@@ -1,3 +1,3 @@
--- Laws that belong to no one function.
+-- Laws that serve several proofs: bytes by their bits, and rows of marks by value.
 pub mod Bytes
 pub mod Laws

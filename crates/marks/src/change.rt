@@ -7,19 +7,20 @@ ghost use lib.ListN.{set};
 ghost use Rattle.lists.specs.Lists.{changed};
 ghost use Rattle.cells.specs.Marks.{markAt, rowBytes, rows, markOf};
 ghost use Rattle.cells.specs.CellSteps.{forkSeen, forkCaught, joinSeen, joinCaught};
+use crate::ROW;
 use crate::bits;
 
 // The row with one mark alone.
-pub fn only(r: usize) -> [u8; 8]
+pub fn only(r: usize) -> [u8; ROW]
     requires { ⌜ r < 64 ⌝ }
     ensures { λ row. ⌜ row ≡ rowBytes 8 (λ y. eqb y r) ⌝ }
 {
-    let mut row = [0; 8];
+    let mut row = [0; ROW];
     row[r / 8] = bits::set(0, r % 8);
     row
 }
 
-fn mark(row: [u8; 8], y: usize) -> bool
+fn mark(row: [u8; ROW], y: usize) -> bool
     requires { ⌜ y < 64 ⌝ }
     ensures { λ r. ⌜ r ≡ markAt row y ⌝ }
 {
@@ -33,12 +34,12 @@ fn or(a: bool, b: bool) -> bool
 }
 
 // The marks of either row.
-fn either(a: [u8; 8], b: [u8; 8]) -> [u8; 8]
+fn either(a: [u8; ROW], b: [u8; ROW]) -> [u8; ROW]
     ensures { λ r. ⌜ r ≡ rowBytes 8 (λ y. markAt a y || markAt b y) ⌝ }
 {
-    let mut z = [0; 8];
+    let mut z = [0; ROW];
     let mut k: usize = 0;
-    while k < 8 {
+    while k < ROW {
         z[k] = bits::either(a[k], b[k]);
         k += 1;
     }
@@ -46,12 +47,12 @@ fn either(a: [u8; 8], b: [u8; 8]) -> [u8; 8]
 }
 
 // The marks of a that b has not.
-fn without(a: [u8; 8], b: [u8; 8]) -> [u8; 8]
+fn without(a: [u8; ROW], b: [u8; ROW]) -> [u8; ROW]
     ensures { λ r. ⌜ r ≡ rowBytes 8 (λ y. markAt a y && not (markAt b y)) ⌝ }
 {
-    let mut z = [0; 8];
+    let mut z = [0; ROW];
     let mut k: usize = 0;
-    while k < 8 {
+    while k < ROW {
         z[k] = bits::without(a[k], b[k]);
         k += 1;
     }
@@ -59,41 +60,41 @@ fn without(a: [u8; 8], b: [u8; 8]) -> [u8; 8]
 }
 
 // The row with the marks of w as told. A loop over rows makes w once.
-fn with(row: [u8; 8], w: [u8; 8], on: bool) -> [u8; 8]
+fn with(row: [u8; ROW], w: [u8; ROW], on: bool) -> [u8; ROW]
     ensures { λ r. ⌜ r ≡ rowBytes 8 (λ y. cond (markAt w y) on (markAt row y)) ⌝ }
 {
     if on { either(row, w) } else { without(row, w) }
 }
 
-// c's column: p has seen c's fork, and no other has.
-fn fork_column(s: [[u8; 8]; 64], p: usize, c: usize) -> [[u8; 8]; 64]
-    requires { ⌜ (p < 64) × (c < 64) ⌝ }
-    ensures { λ r. ⌜ r ≡ rows 64 (λ x. changed (markOf s x) c (eqb x p)) ⌝ }
+// The child's column: the parent has seen the child's fork, and no other has.
+fn fork_column(s: [[u8; ROW]; 64], parent: usize, child: usize) -> [[u8; ROW]; 64]
+    requires { ⌜ (parent < 64) × (child < 64) ⌝ }
+    ensures { λ r. ⌜ r ≡ rows 64 (λ x. changed (markOf s x) child (eqb x parent)) ⌝ }
 {
-    let column = only(c);
-    let mut z = [[0; 8]; 64];
+    let column = only(child);
+    let mut z = [[0; ROW]; 64];
     let mut x: usize = 0;
     while x < 64 {
         let row = s[x];
-        z[x] = with(row, column, x == p);
+        z[x] = with(row, column, x == parent);
         x += 1;
     }
     z
 }
 
-// The seen marks after p forked c.
-pub fn fork_seen(seen: [[u8; 8]; 64], p: usize, c: usize) -> [[u8; 8]; 64]
-    requires { ⌜ (p < 64) × (c < 64) ⌝ }
-    ensures { λ r. ⌜ r ≡ rows 64 (forkSeen (markOf seen) p c) ⌝ }
+// The seen marks after the parent forked the child.
+pub fn fork_seen(seen: [[u8; ROW]; 64], parent: usize, child: usize) -> [[u8; ROW]; 64]
+    requires { ⌜ (parent < 64) × (child < 64) ⌝ }
+    ensures { λ r. ⌜ r ≡ rows 64 (forkSeen (markOf seen) parent child) ⌝ }
 {
     let mut s = seen;
-    let row = s[p];
-    s[c] = row;
-    fork_column(s, p, c)
+    let row = s[parent];
+    s[child] = row;
+    fork_column(s, parent, child)
 }
 
 // The seen marks after a joined b.
-pub fn join_seen(seen: [[u8; 8]; 64], a: usize, b: usize) -> [[u8; 8]; 64]
+pub fn join_seen(seen: [[u8; ROW]; 64], a: usize, b: usize) -> [[u8; ROW]; 64]
     requires { ⌜ (a < 64) × (b < 64) ⌝ }
     ensures { λ r. ⌜ r ≡ set seen a (rowBytes 8 (joinSeen (markOf seen) a b a)) ⌝ }
 {
@@ -104,29 +105,29 @@ pub fn join_seen(seen: [[u8; 8]; 64], a: usize, b: usize) -> [[u8; 8]; 64]
     s
 }
 
-// The caught-up marks after p forked c.
-pub fn fork_caught(caught: [[u8; 8]; 16], p: usize, c: usize) -> [[u8; 8]; 16]
-    requires { ⌜ (p < 64) × (c < 64) ⌝ }
-    ensures { λ r. ⌜ r ≡ rows 16 (forkCaught (markOf caught) p c) ⌝ }
+// The caught-up marks after the parent forked the child.
+pub fn fork_caught(caught: [[u8; ROW]; 16], parent: usize, child: usize) -> [[u8; ROW]; 16]
+    requires { ⌜ (parent < 64) × (child < 64) ⌝ }
+    ensures { λ r. ⌜ r ≡ rows 16 (forkCaught (markOf caught) parent child) ⌝ }
 {
-    let column = only(c);
-    let mut z = [[0; 8]; 16];
+    let column = only(child);
+    let mut z = [[0; ROW]; 16];
     let mut x: usize = 0;
     while x < 16 {
         let row = caught[x];
-        z[x] = with(row, column, mark(row, p));
+        z[x] = with(row, column, mark(row, parent));
         x += 1;
     }
     z
 }
 
 // The caught-up marks after a joined b.
-pub fn join_caught(caught: [[u8; 8]; 16], a: usize, b: usize) -> [[u8; 8]; 16]
+pub fn join_caught(caught: [[u8; ROW]; 16], a: usize, b: usize) -> [[u8; ROW]; 16]
     requires { ⌜ (a < 64) × (b < 64) ⌝ }
     ensures { λ r. ⌜ r ≡ rows 16 (joinCaught (markOf caught) a b) ⌝ }
 {
     let column = only(a);
-    let mut z = [[0; 8]; 16];
+    let mut z = [[0; ROW]; 16];
     let mut x: usize = 0;
     while x < 16 {
         let row = caught[x];

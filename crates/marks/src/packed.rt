@@ -8,12 +8,12 @@ ghost use Rattle.cells.specs.CellSteps.{forkSeen, forkCaught, joinSeen, joinCau
 use crate::change;
 use crate::rows;
 
-pub fn fork_seen(t: &mut [u8], p: usize, c: usize)
-    requires { ⌜ (length (now t) ≡ 512) × (p < 64) × (c < 64) ⌝ }
-    ensures { λ _. ⌜ now (t .exit) ≡ pack 64 (forkSeen (markIn 8 64 (now (t .entry))) p c) ⌝ }
+pub fn fork_seen(t: &mut [u8], parent: usize, child: usize)
+    requires { ⌜ (length (now t) ≡ 512) × (parent < 64) × (child < 64) ⌝ }
+    ensures { λ _. ⌜ now (t .exit) ≡ pack 64 (forkSeen (markIn 8 64 (now (t .entry))) parent child) ⌝ }
 {
     let s = rows::load64(t);
-    let z = change::fork_seen(s, p, c);
+    let z = change::fork_seen(s, parent, child);
     rows::store64(t, z);
 }
 
@@ -26,12 +26,12 @@ pub fn join_seen(t: &mut [u8], a: usize, b: usize)
     rows::store64(t, z);
 }
 
-pub fn fork_caught(t: &mut [u8], p: usize, c: usize)
-    requires { ⌜ (length (now t) ≡ 128) × (p < 64) × (c < 64) ⌝ }
-    ensures { λ _. ⌜ now (t .exit) ≡ pack 16 (forkCaught (markIn 8 16 (now (t .entry))) p c) ⌝ }
+pub fn fork_caught(t: &mut [u8], parent: usize, child: usize)
+    requires { ⌜ (length (now t) ≡ 128) × (parent < 64) × (child < 64) ⌝ }
+    ensures { λ _. ⌜ now (t .exit) ≡ pack 16 (forkCaught (markIn 8 16 (now (t .entry))) parent child) ⌝ }
 {
     let s = rows::load16(t);
-    let z = change::fork_caught(s, p, c);
+    let z = change::fork_caught(s, parent, child);
     rows::store16(t, z);
 }
 

@@ -1,3 +1,3 @@
--- Laws that belong to no one function.
+-- Laws that serve several proofs: the revisions behind a place of the layout, entries put behind others, lists gathered along the links.
 pub mod Behind
 pub mod Laws

@@ -6,9 +6,10 @@ ghost use mathlib.Core.List.{_++_};
 ghost use Prim.Native.Nat.{_<_, _≤_};
 ghost use lib.ListN.{drop, length};
 ghost use Rattle.cells.specs.Sizes.{bytes, revisions, updates};
-ghost use Rattle.cells.specs.Cells.{chain, own};
+ghost use Rattle.cells.specs.Cells.{own};
 ghost use Rattle.cells.specs.Decode.{cells};
 ghost use Rattle.cells.specs.Range.{inRange};
+ghost use Rattle.order.specs.Chain.{withChain};
 use fields::read;
 use fields::table::Revision;
 use fields::table::Table;
@@ -20,15 +21,18 @@ pub fn room() -> [u16; Table::UPDATES]
     [0; Table::UPDATES]
 }
 
-// How many of n entries are left to the next call: all but 64, or none.
+// How many entries one call of `gather` puts in their places. With one a call, a list of 4,096 would need as many stack frames.
+const CHUNK: usize = 64;
+
+// How many of n entries are left to the next call: all but a chunk, or none.
 fn rest(n: usize) -> usize
     requires { ⌜ 0 < n ⌝ }
     ensures { λ m. ⌜ m < n ⌝ }
 {
-    if n < 64 {
+    if n < CHUNK {
         return 0;
     }
-    n - 64
+    n - CHUNK
 }
 
 // What is left of a walk: so many updates, which end at `at`.
@@ -37,11 +41,12 @@ pub struct Walk {
     pub left: usize,
 }
 
-// Of the n updates that end at `at` the last ones, in their places: one, and those before it as long as their numbers follow one
-// another and more than m are left. So the next number is known before the link that says so is read.
+// A run of the walk, backwards: update `at` goes to the last of n places, the update before it to the place in front, and so on, while
+// each link leads to the next lower number and more than m are left. Updates entered in a row have such links, so the code can go on
+// with that number and need not wait for the link. What is left, gathered later, makes what all n gathered at once would have made.
 fn run(d: &[u8], at: usize, n: usize, m: usize, out: &mut [u16]) -> Walk
     requires { ⌜ (length (now d) ≡ bytes) × (at < updates) × (m < n) × (n ≤ length (now out)) ⌝ }
-    ensures { λ w. ⌜ (w .at < updates) × (m ≤ w .left) × (w .left < n) × (chain (cells (now (d .entry)) .link) (w .at) (w .left) ++ drop (w .left) (now (out .exit)) ≡ chain (cells (now (d .entry)) .link) at n ++ drop n (now (out .entry))) ⌝ }
+    ensures { λ w. ⌜ (w .at < updates) × (m ≤ w .left) × (w .left < n) × (withChain (now (d .entry)) (w .at) (w .left) (now (out .exit)) ≡ withChain (now (d .entry)) at n (now (out .entry))) ⌝ }
 {
     let mut u = at;
     let mut i = n;
@@ -57,10 +62,10 @@ fn run(d: &[u8], at: usize, n: usize, m: usize, out: &mut [u16]) -> Walk
     Walk { at: u, left: i }
 }
 
-// Of the n updates that end at `at` all but the first m, in their places; the last of those m.
+// Of the n updates that end at `at` all but the first m, in their places, run by run. The answer is the last of those m.
 fn gather_some(d: &[u8], at: usize, n: usize, m: usize, out: &mut [u16]) -> usize
     requires { ⌜ (length (now d) ≡ bytes) × (at < updates) × (m ≤ n) × (n ≤ length (now out)) ⌝ }
-    ensures { λ u. ⌜ (u < updates) × (chain (cells (now (d .entry)) .link) u m ++ drop m (now (out .exit)) ≡ chain (cells (now (d .entry)) .link) at n ++ drop n (now (out .entry))) ⌝ }
+    ensures { λ u. ⌜ (u < updates) × (withChain (now (d .entry)) u m (now (out .exit)) ≡ withChain (now (d .entry)) at n (now (out .entry))) ⌝ }
 {
     let mut u = at;
     let mut i = n;
@@ -75,7 +80,7 @@ fn gather_some(d: &[u8], at: usize, n: usize, m: usize, out: &mut [u16]) -> usiz
 // The n updates that end at `at`, in the first n places.
 pub fn gather(d: &[u8], at: usize, n: usize, out: &mut [u16])
     requires { ⌜ (length (now d) ≡ bytes) × (at < updates) × (n ≤ length (now out)) ⌝ }
-    ensures { λ _. ⌜ now (out .exit) ≡ chain (cells (now (d .entry)) .link) at n ++ drop n (now (out .entry)) ⌝ }
+    ensures { λ _. ⌜ now (out .exit) ≡ withChain (now (d .entry)) at n (now (out .entry)) ⌝ }
 {
     if n == 0 {
         return;

@@ -17,6 +17,7 @@ use crate::links;
 use fields::read;
 use fields::table::Revision;
 use fields::table::RevisionCheck;
+use fields::table::Table;
 use fields::table::check_revision;
 
 // x goes behind the first n, if there is room.
@@ -24,7 +25,7 @@ fn push(out: &mut [u16], n: usize, x: u16) -> usize
     requires { ⌜ (length (now out) ≡ updates) × (n ≤ updates) ⌝ }
     ensures { λ m. ⌜ Added (now (out .entry)) n (x ∷ []) (now (out .exit)) m ⌝ }
 {
-    if n == 4096 {
+    if n == Table::UPDATES {
         return n;
     }
     out[n] = x;
@@ -39,7 +40,7 @@ fn wanted(d: &[u8], r: Revision, base: usize, i: usize, u: usize) -> bool
     if i < base {
         return true;
     }
-    if 4096 <= u {
+    if Table::UPDATES <= u {
         return false;
     }
     read::inherited(d, r, u)

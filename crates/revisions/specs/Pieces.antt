@@ -3,7 +3,7 @@ use Prim.Native.Nat.{ℕ}
 use mathlib.Core.List.{[], _∷_, _++_}
 use lib.ListN.{set, take}
 use Rattle.lists.specs.Lists.{insert, remove}
-use Rattle.cells.specs.Sizes.{revisions, clients, isOut, isJoined}
+use Rattle.cells.specs.Sizes.{revisions, clients, stateOut, stateJoined}
 use Rattle.cells.specs.Parts.{Parts, _⟨_≔_⟩, seenPart, caughtPart, statePart, layoutPart, countersPart}
 use Rattle.cells.specs.Marks.{pack}
 use Rattle.cells.specs.Decode.{decode}
@@ -16,7 +16,7 @@ retireParts p a b n =
     p
     ⟨ seenPart ≔ pack revisions (joinSeen (k .seen) a b) ⟩
     ⟨ caughtPart ≔ pack clients (joinCaught (k .caught) a b) ⟩
-    ⟨ statePart ≔ set (p statePart) b isJoined ⟩
+    ⟨ statePart ≔ set (p statePart) b stateJoined ⟩
     ⟨ layoutPart ≔ take revisions (remove b (p layoutPart) ++ (0 ∷ [])) ⟩
     ⟨ countersPart ≔ set (p countersPart) 2 n ⟩
 
@@ -27,6 +27,6 @@ startParts p q c n m =
     p
     ⟨ seenPart ≔ pack revisions (forkSeen (k .seen) q c) ⟩
     ⟨ caughtPart ≔ pack clients (forkCaught (k .caught) q c) ⟩
-    ⟨ statePart ≔ set (p statePart) c isOut ⟩
+    ⟨ statePart ≔ set (p statePart) c stateOut ⟩
     ⟨ layoutPart ≔ take revisions (insert q c (p layoutPart)) ⟩
     ⟨ countersPart ≔ set (set (p countersPart) 2 n) 3 m ⟩

@@ -4,6 +4,7 @@ ghost use lib.ListN.{length};
 ghost use Rattle.cells.specs.Sizes.{bytes};
 ghost use Rattle.cells.specs.Steps.{freshBytes};
 use fields::table::Revision;
+use fields::table::Table;
 use fields::write;
 
 pub fn fresh(d: &mut [u8])
@@ -12,7 +13,7 @@ pub fn fresh(d: &mut [u8])
 {
     fields::fresh::clear(d);
     fields::fresh::caught(d);
-    write::state(d, Revision::main(), 1);
+    write::state(d, Revision::main(), Table::STATE_OUT);
     fields::fresh::opened(d);
     write::out(d, 1);
     write::given(d, 1);

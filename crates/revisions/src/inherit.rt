@@ -24,19 +24,19 @@ fn number(x: u16) -> usize
     x as usize
 }
 
-// The row of p, which is not the main revision, with the updates of p's own list.
-fn forked_row(d: &[u8], p: Revision) -> [u8; Table::ROW]
-    requires { ⌜ (length (now d) ≡ bytes) × (inRange (now d) ≡ true) × (0 < p .0) × (p .0 < revisions) ⌝ }
-    ensures { λ row. ⌜ row ≡ rowBytes 512 (forkRow (cells (now (d .entry))) (p .0)) ⌝ }
+// The row of the parent, which is not the main revision, with the updates of its own list.
+fn forked_row(d: &[u8], parent: Revision) -> [u8; Table::ROW]
+    requires { ⌜ (length (now d) ≡ bytes) × (inRange (now d) ≡ true) × (0 < parent .0) × (parent .0 < revisions) ⌝ }
+    ensures { λ row. ⌜ row ≡ rowBytes 512 (forkRow (cells (now (d .entry))) (parent .0)) ⌝ }
 {
     let mut own = links::room();
-    let n = links::own_list(d, p, &mut own);
-    let mut marks = row::load(d, p);
+    let n = links::own_list(d, parent, &mut own);
+    let mut marks = row::load(d, parent);
     let mut i: usize = 0;
     while i < n {
         // every link is below 4,096, so the test never fails; with it no proof of that is needed here
         let u = number(own[i]);
-        if u < 4096 {
+        if u < Table::UPDATES {
             marks[u / 8] = bits::set(marks[u / 8], u % 8);
         }
         i += 1;
@@ -44,35 +44,35 @@ fn forked_row(d: &[u8], p: Revision) -> [u8; Table::ROW]
     marks
 }
 
-fn by_count(d: &mut [u8], c: Revision)
-    requires { ⌜ (length (now d) ≡ bytes) × (c .0 < revisions) ⌝ }
-    ensures { λ _. ⌜ now (d .exit) ≡ glue (inheritParts (split (now (d .entry))) 0 (c .0)) ⌝ }
+fn by_count(d: &mut [u8], child: Revision)
+    requires { ⌜ (length (now d) ≡ bytes) × (child .0 < revisions) ⌝ }
+    ensures { λ _. ⌜ now (d .exit) ≡ glue (inheritParts (split (now (d .entry))) 0 (child .0)) ⌝ }
 {
     let base = read::count(d, Revision::main());
-    write::used(d, c, 0);
-    write::base(d, c, base);
-    write::count(d, c, 0);
+    write::used(d, child, 0);
+    write::base(d, child, base);
+    write::count(d, child, 0);
 }
 
-fn by_row(d: &mut [u8], p: Revision, c: Revision)
-    requires { ⌜ (length (now d) ≡ bytes) × (inRange (now d) ≡ true) × (0 < p .0) × (p .0 < revisions) × (0 < c .0) × (c .0 < revisions) ⌝ }
-    ensures { λ _. ⌜ now (d .exit) ≡ glue (inheritParts (split (now (d .entry))) (p .0) (c .0)) ⌝ }
+fn by_row(d: &mut [u8], parent: Revision, child: Revision)
+    requires { ⌜ (length (now d) ≡ bytes) × (inRange (now d) ≡ true) × (0 < parent .0) × (parent .0 < revisions) × (0 < child .0) × (child .0 < revisions) ⌝ }
+    ensures { λ _. ⌜ now (d .exit) ≡ glue (inheritParts (split (now (d .entry))) (parent .0) (child .0)) ⌝ }
 {
-    let base = read::base(d, p);
-    let marks = forked_row(d, p);
-    write::row(d, c, marks);
-    write::used(d, c, 1);
-    write::base(d, c, base);
-    write::count(d, c, 0);
+    let base = read::base(d, parent);
+    let marks = forked_row(d, parent);
+    write::row(d, child, marks);
+    write::used(d, child, 1);
+    write::base(d, child, base);
+    write::count(d, child, 0);
 }
 
-pub fn inherit(d: &mut [u8], p: Revision, c: Revision)
-    requires { ⌜ (length (now d) ≡ bytes) × (inRange (now d) ≡ true) × (p .0 < revisions) × (0 < c .0) × (c .0 < revisions) ⌝ }
-    ensures { λ _. ⌜ now (d .exit) ≡ glue (inheritParts (split (now (d .entry))) (p .0) (c .0)) ⌝ }
+pub fn inherit(d: &mut [u8], parent: Revision, child: Revision)
+    requires { ⌜ (length (now d) ≡ bytes) × (inRange (now d) ≡ true) × (parent .0 < revisions) × (0 < child .0) × (child .0 < revisions) ⌝ }
+    ensures { λ _. ⌜ now (d .exit) ≡ glue (inheritParts (split (now (d .entry))) (parent .0) (child .0)) ⌝ }
 {
-    if p.0 == 0 {
-        by_count(d, c);
+    if parent.0 == 0 {
+        by_count(d, child);
         return;
     }
-    by_row(d, p, c);
+    by_row(d, parent, child);
 }

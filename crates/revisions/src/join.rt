@@ -12,6 +12,7 @@ ghost use Rattle.revisions.specs.Pieces.{retireParts};
 use crate::own;
 use fields::read;
 use fields::table::Revision;
+use fields::table::Table;
 use fields::write;
 
 // The marks, b's state and place, and the count of those out.
@@ -21,7 +22,7 @@ fn retire(d: &mut [u8], a: Revision, b: Revision, out: usize)
 {
     write::join_seen(d, a, b);
     write::join_caught(d, a, b);
-    write::state(d, b, 2);
+    write::state(d, b, Table::STATE_JOINED);
     write::leave(d, b);
     write::out(d, out);
 }

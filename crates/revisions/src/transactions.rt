@@ -7,6 +7,7 @@ ghost use Rattle.cells.specs.Steps.{closeBytes, queryBytes};
 use fields::numbers::wide;
 use fields::table::Client;
 use fields::table::Revision;
+use fields::table::Table;
 use fields::write;
 
 // An event of c on r: c's transaction is on r, and c has caught up with r alone.
@@ -23,5 +24,5 @@ pub fn close(d: &mut [u8], c: Client)
     requires { ⌜ (length (now d) ≡ bytes) × (c .0 < clients) ⌝ }
     ensures { λ _. ⌜ now (d .exit) ≡ closeBytes (now (d .entry)) (c .0) ⌝ }
 {
-    write::opened(d, c, 64);
+    write::opened(d, c, Table::CLOSED);
 }

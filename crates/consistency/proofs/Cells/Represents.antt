@@ -9,7 +9,7 @@ use lib.Dec.{ltb}
 use lib.ListN.{length, take}
 use Rattle.lists.specs.Lists.{_∈_, member}
 use Rattle.machine.specs.Machine.{Machine}
-use Rattle.cells.specs.Sizes.{clients, closed, isJoined, isOut, main, neverGiven, revisions, updates}
+use Rattle.cells.specs.Sizes.{clients, closed, main, revisions, stateJoined, stateNever, stateOut, updates}
 use Rattle.cells.specs.Cells.{Cells, marked, outs, own}
 use Rattle.cells.proofs.Chain.{chain-length}
 use Rattle.consistency.proofs.Cells.Laid.{Laid}
@@ -20,7 +20,7 @@ openCell none = closed
 openCell (some r) = r
 
 abbrev pub stateCell : Machine → ℕ → ℕ
-stateCell m r = cond (ltb r (m .revisions)) (cond (m .joined r) isJoined isOut) neverGiven
+stateCell m r = cond (ltb r (m .revisions)) (cond (m .joined r) stateJoined stateOut) stateNever
 
 pub record Represents (k : Cells) (m : Machine) : Type 0 where
   -- who is out, and where; numbers given out; states

@@ -29,7 +29,7 @@ loop-again c =
     let at-loop = c .before .before in
     let l = at-loop .loop in
     let d = at-loop .before .before .before .args .d .now in
-    (omega arith, every-next (λ j. eqb (byte (split d signaturePart) j) (byte signature j)) (l .i) (l .inv .1) (rw (part-byte d signaturePart 40952 8 (l .i) refl refl (omega arith), l .inv .2)), l .inv .2)
+    (omega arith, every-next (λ j. eqb (byte (split d signaturePart) j) (byte signature j)) (l .i) (l .inv .1) (rw (part-byte d signaturePart (l .i) (omega arith), l .inv .2)), l .inv .2)
 
 returns : tie.Need-returns Inv-loop μ-loop
 returns c =

@@ -1,5 +1,5 @@
 -- `fields::fresh::caught` meets its contract. Assumes nothing.
-use mathlib.Core.Path.{_∙_, ap, refl}
+use mathlib.Core.Path.{_∙_, ap}
 use native.Mathlib.Omega.{arith}
 use borrow.Author.Needs.{needs}
 use Rattle.cells.specs.Parts.{caughtPart, offset, size, wrote}
@@ -15,7 +15,7 @@ returns c =
     let at-fresh-caught = at-store16 .before in
     let start = at-fresh-caught .before .before .before in
     let d = start .args .d .now in
-    part-wrote d caughtPart 38912 128 _ (omega arith) (omega arith) refl refl ∙ ap (wrote d caughtPart) (at-store16 .store16 .ensures ∙ all-marked 16 (at-fresh-caught .fresh-caught .result) (at-fresh-caught .fresh-caught .ensures))
+    part-wrote d caughtPart _ (omega arith) (omega arith) ∙ ap (wrote d caughtPart) (at-store16 .store16 .ensures ∙ all-marked 16 (at-fresh-caught .fresh-caught .result) (at-fresh-caught .fresh-caught .ensures))
 
 pub caught-spec : {M : Type 1} → statement M
 caught-spec = tie.close (tie.spec

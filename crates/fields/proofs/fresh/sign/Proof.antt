@@ -1,5 +1,5 @@
 -- `fields::fresh::sign` meets its contract: one part is lent and comes back written. Assumes nothing.
-use mathlib.Core.Path.{_∙_, ap, refl}
+use mathlib.Core.Path.{_∙_, ap}
 use native.Mathlib.Omega.{arith}
 use borrow.Author.Needs.{needs}
 use Rattle.cells.specs.Parts.{offset, signaturePart, size, wrote}
@@ -13,7 +13,7 @@ returns c =
     let at-copy = c .before .before in
     let at-signature = at-copy .before .before .before in
     let d = at-signature .before .before .args .d .now in
-    part-wrote d signaturePart 40952 8 _ (omega arith) (omega arith) refl refl ∙ ap (wrote d signaturePart) (at-copy .copy .ensures ∙ at-signature .signature .ensures)
+    part-wrote d signaturePart _ (omega arith) (omega arith) ∙ ap (wrote d signaturePart) (at-copy .copy .ensures ∙ at-signature .signature .ensures)
 
 pub sign-spec : {M : Type 1} → statement M
 sign-spec = tie.close (tie.spec

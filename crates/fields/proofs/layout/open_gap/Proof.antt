@@ -31,7 +31,7 @@ returns c =
     let s = c .before .before .args in
     let l = c .before .loop in
     let e : l .j ≡ s .i = omega arith in
-    ap (λ z. set z (s .i) (s .c)) (l .inv .3 ∙ ap (λ j. moved 63 j (s .t .now)) e) ∙ moved-end 63 (s .i) (s .t .now) (s .c) (omega arith) (omega arith)
+    ap (λ z. set z (s .i) (s .child)) (l .inv .3 ∙ ap (λ j. moved 63 j (s .t .now)) e) ∙ moved-end 63 (s .i) (s .t .now) (s .child) (omega arith) (omega arith)
 
 pub open-gap-spec : {M : Type 1} → statement M
 open-gap-spec = tie.close (tie.spec

@@ -12,13 +12,13 @@ returns c =
     let at-if1 = at-open-gap .before .before in
     let at-find = at-if1 .before in
     let start = at-find .before .before .before in
-    at-open-gap .open-gap .ensures ∙ put-in (start .args .p) (start .args .c) (at-find .find .result) (start .args .t .now) (omega arith) (at-find .find .ensures) (at-if1 .if1 .taken)
+    at-open-gap .open-gap .ensures ∙ put-in (start .args .parent) (start .args .child) (at-find .find .result) (start .args .t .now) (omega arith) (at-find .find .ensures) (at-if1 .if1 .taken)
 
 returns-2 : tie.Need-returns-2
 returns-2 c =
     let at-find = c .before in
     let start = at-find .before .before .before in
-    none-in (start .args .p) (start .args .c) (at-find .find .result) (start .args .t .now) (omega arith) (at-find .find .ensures) (c .if1 .left)
+    none-in (start .args .parent) (start .args .child) (at-find .find .result) (start .args .t .now) (omega arith) (at-find .find .ensures) (c .if1 .left)
 
 pub put-in-spec : {M : Type 1} → statement M
 put-in-spec = tie.close (tie.spec

@@ -1,23 +1,17 @@
 -- `fields::read::caught` meets its contract: the mark is read in its place. Assumes nothing.
-use Prim.Native.Nat.{_%_, _*_, _+_, _/_}
-use mathlib.Core.Path.{_∙_, ap}
+use mathlib.Core.Path.{_∙_, refl}
 use native.Mathlib.Omega.{arith}
-use lib.ListN.{getD}
 use borrow.Author.Needs.{needs}
-use Rattle.cells.specs.Marks.{bit}
-use Rattle.fields.proofs.MarkReads.{caught-at}
+use Rattle.cells.specs.Decode.{cells}
+use Rattle.cells.specs.Parts.{offset, caughtPart, size}
+use Rattle.cells.specs.Sizes.{clients}
+use Rattle.fields.proofs.InPart.{mark-read}
 use Rattle.fields.proofs.read.caught.Statement.{statement}
 use Rattle.fields.proofs.read.caught.Tie as tie
 
 returns : tie.Need-returns
-returns c =
-    let at-wide2 = c .before .before in
-    let at-wide = at-wide2 .before in
-    let start = at-wide .before .before in
-    let s = start .args in
-    c .mark .ensures ∙ ap (λ x. bit (getD (s .d .now) (38912 + (8 * x + at-wide2 .wide2 .result / 8)) 0) (at-wide2 .wide2 .result % 8)) (at-wide .wide .ensures .0)
-    ∙ ap (λ y. bit (getD (s .d .now) (38912 + (8 * s .c .0 + y / 8)) 0) (y % 8)) (at-wide2 .wide2 .ensures .0)
-    ∙ caught-at (s .d .now) (s .c .0) (s .r .0) (omega arith) (omega arith)
+unfolding cells offset size
+returns c = c .mark .ensures ∙ mark-read (c .before .before .before .before .before .args .d .now) caughtPart clients refl (c .before .before .before .wide .ensures .0) (c .before .before .wide2 .ensures .0) (omega arith) (omega arith)
 
 pub caught-spec : {M : Type 1} → statement M
 caught-spec = tie.close (tie.spec

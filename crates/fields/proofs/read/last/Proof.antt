@@ -1,21 +1,13 @@
 -- `fields::read::last` meets its contract: the part is read in its place. Assumes nothing.
-use mathlib.Core.Path.{_∙_, ap, refl}
 use borrow.Author.Needs.{needs}
-use borrow.Rule.Slice.PartMut.{midOf}
 use Rattle.cells.specs.Decode.{cells}
-use Rattle.cells.specs.Parts.{lastPart, offset, size}
-use Rattle.cells.specs.Words.{word}
-use Rattle.cells.proofs.Parts.{part-read}
+use Rattle.cells.specs.Parts.{offset, size, split}
 use Rattle.fields.proofs.read.last.Statement.{statement}
 use Rattle.fields.proofs.read.last.Tie as tie
 
 returns : tie.Need-returns
-unfolding cells offset size
-returns c =
-    let at-wide = c .before in
-    let start = at-wide .before .before .before in
-    let d = start .args .d .now in
-    (c .word-at .ensures .0 ∙ ap (λ r. word (midOf 39168 128 d) r) (at-wide .wide .ensures .0) ∙ ap (λ t. word t (start .args .r .0)) (part-read d lastPart 39168 128 refl refl), c .word-at .ensures .1)
+unfolding cells offset size split
+returns c = rw (c .before .wide .ensures .0) at (c .word-at .ensures)
 
 pub last-spec : {M : Type 1} → statement M
 last-spec = tie.close (tie.spec

@@ -1,21 +1,13 @@
 -- `fields::read::opened` meets its contract: the part is read in its place. Assumes nothing.
-use mathlib.Core.Path.{_∙_, ap, refl}
 use borrow.Author.Needs.{needs}
-use borrow.Rule.Slice.PartMut.{midOf}
 use Rattle.cells.specs.Decode.{cells}
-use Rattle.cells.specs.Parts.{offset, openedPart, size}
-use Rattle.cells.specs.Words.{byte}
-use Rattle.cells.proofs.Parts.{part-read}
+use Rattle.cells.specs.Parts.{offset, size, split}
 use Rattle.fields.proofs.read.opened.Statement.{statement}
 use Rattle.fields.proofs.read.opened.Tie as tie
 
 returns : tie.Need-returns
-unfolding cells offset size
-returns c =
-    let at-wide = c .before in
-    let start = at-wide .before .before .before in
-    let d = start .args .d .now in
-    (c .byte-at .ensures .0 ∙ ap (λ r. byte (midOf 39808 16 d) r) (at-wide .wide .ensures .0) ∙ ap (λ t. byte t (start .args .c .0)) (part-read d openedPart 39808 16 refl refl), c .byte-at .ensures .1)
+unfolding cells offset size split
+returns c = rw (c .before .wide .ensures .0) at (c .byte-at .ensures)
 
 pub opened-spec : {M : Type 1} → statement M
 opened-spec = tie.close (tie.spec

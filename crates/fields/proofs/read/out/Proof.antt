@@ -1,18 +1,13 @@
 -- `fields::read::out` meets its contract: the part is read in its place. Assumes nothing.
-use mathlib.Core.Path.{_∙_, ap, refl}
 use borrow.Author.Needs.{needs}
 use Rattle.cells.specs.Decode.{cells}
-use Rattle.cells.specs.Parts.{countersPart, offset, size}
-use Rattle.cells.specs.Words.{byte}
-use Rattle.cells.proofs.Parts.{part-read}
+use Rattle.cells.specs.Parts.{offset, size, split}
 use Rattle.fields.proofs.read.out.Statement.{statement}
 use Rattle.fields.proofs.read.out.Tie as tie
 
 returns : tie.Need-returns
-unfolding cells offset size
-returns c =
-    let d = c .before .before .before .args .d .now in
-    (c .byte-at .ensures .0 ∙ ap (λ t. byte t 2) (part-read d countersPart 39824 4 refl refl), c .byte-at .ensures .1)
+unfolding cells offset size split
+returns c = c .byte-at .ensures
 
 pub out-spec : {M : Type 1} → statement M
 out-spec = tie.close (tie.spec

@@ -1,5 +1,4 @@
 -- `fields::write::enter` meets its contract: one part is lent and comes back written. Assumes nothing.
-use mathlib.Core.Path.{refl}
 use native.Mathlib.Omega.{arith}
 use lib.ListN.{take}
 use borrow.Author.Needs.{needs}
@@ -12,10 +11,7 @@ use Rattle.fields.proofs.write.enter.Tie as tie
 
 returns : tie.Need-returns
 unfolding offset size
-returns c =
-    let s = c .before .before .before .before .before .args in
-    let d = s .d .now in
-    part-lent d layoutPart 39680 64 (λ t. take revisions (insert (s .p .0) (s .c .0) t)) _ (omega arith) (omega arith) refl refl (c .before .before .put-in .ensures)
+returns c = let s = c .before .before .before .before .before .args in part-lent (s .d .now) layoutPart (λ t. take revisions (insert (s .parent .0) (s .child .0) t)) (omega arith) (omega arith) (c .before .before .put-in .ensures)
 
 pub enter-spec : {M : Type 1} → statement M
 enter-spec = tie.close (tie.spec

@@ -1,23 +1,14 @@
 -- `fields::write::first` meets its contract: one part is lent and comes back written. Assumes nothing.
-use mathlib.Core.Path.{_∙_, ap, refl}
 use native.Mathlib.Omega.{arith}
 use borrow.Author.Needs.{needs}
-use Rattle.cells.specs.Parts.{firstPart, offset, size, split, wrote}
-use Rattle.cells.specs.Words.{putWord}
-use Rattle.cells.proofs.Parts.{part-lent}
+use Rattle.cells.specs.Parts.{firstPart, offset, size}
+use Rattle.fields.proofs.InPart.{word-lent}
 use Rattle.fields.proofs.write.first.Statement.{statement}
 use Rattle.fields.proofs.write.first.Tie as tie
 
 returns : tie.Need-returns
 unfolding offset size
-returns c =
-    let at-put-word = c .before .before in
-    let at-wide = at-put-word .before in
-    let start = at-wide .before .before .before in
-    let s = start .args in
-    let d = s .d .now in
-    part-lent d firstPart 39296 128 (λ t. putWord t (at-wide .wide .result) (s .v)) _ (omega arith) (omega arith) refl refl (at-put-word .put-word .ensures)
-    ∙ ap (λ r. wrote d firstPart (putWord (split d firstPart) r (s .v))) (at-wide .wide .ensures .0)
+returns c = let s = c .before .before .before .before .before .before .args in word-lent (s .d .now) firstPart (s .v) (omega arith) (omega arith) (c .before .before .before .wide .ensures .0) (c .before .before .put-word .ensures)
 
 pub first-spec : {M : Type 1} → statement M
 first-spec = tie.close (tie.spec

@@ -1,5 +1,4 @@
 -- `fields::write::leave` meets its contract: one part is lent and comes back written. Assumes nothing.
-use mathlib.Core.Path.{refl}
 use mathlib.Core.List.{[], _++_, _∷_}
 use native.Mathlib.Omega.{arith}
 use lib.ListN.{take}
@@ -13,10 +12,7 @@ use Rattle.fields.proofs.write.leave.Tie as tie
 
 returns : tie.Need-returns
 unfolding offset size
-returns c =
-    let s = c .before .before .before .before .before .args in
-    let d = s .d .now in
-    part-lent d layoutPart 39680 64 (λ t. take revisions (remove (s .b .0) t ++ (0 ∷ []))) _ (omega arith) (omega arith) refl refl (c .before .before .take-out .ensures)
+returns c = let s = c .before .before .before .before .before .args in part-lent (s .d .now) layoutPart (λ t. take revisions (remove (s .b .0) t ++ (0 ∷ []))) (omega arith) (omega arith) (c .before .before .take-out .ensures)
 
 pub leave-spec : {M : Type 1} → statement M
 leave-spec = tie.close (tie.spec

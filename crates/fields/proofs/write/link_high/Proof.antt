@@ -1,5 +1,4 @@
 -- `fields::write::link_high` meets its contract: one part is lent and comes back written. Assumes nothing.
-use mathlib.Core.Path.{refl}
 use native.Mathlib.Omega.{arith}
 use borrow.Author.Needs.{needs}
 use Rattle.cells.specs.Parts.{highPart, offset, size}
@@ -10,10 +9,7 @@ use Rattle.fields.proofs.write.link_high.Tie as tie
 
 returns : tie.Need-returns
 unfolding offset size
-returns c =
-    let s = c .before .before .before .before .before .args in
-    let d = s .d .now in
-    part-lent d highPart 36352 2048 (λ t. putHalf t (s .u) (s .v)) _ (omega arith) (omega arith) refl refl (c .before .before .put-half .ensures)
+returns c = let s = c .before .before .before .before .before .args in part-lent (s .d .now) highPart (λ t. putHalf t (s .u) (s .v)) (omega arith) (omega arith) (c .before .before .put-half .ensures)
 
 pub link-high-spec : {M : Type 1} → statement M
 link-high-spec = tie.close (tie.spec

@@ -1,19 +1,15 @@
 -- `fields::write::link_low` meets its contract: one part is lent and comes back written. Assumes nothing.
 use mathlib.Core.Path.{refl}
 use native.Mathlib.Omega.{arith}
-use lib.ListN.{set}
 use borrow.Author.Needs.{needs}
 use Rattle.cells.specs.Parts.{lowPart, offset, size}
-use Rattle.cells.proofs.Parts.{part-lent}
+use Rattle.fields.proofs.InPart.{byte-lent}
 use Rattle.fields.proofs.write.link_low.Statement.{statement}
 use Rattle.fields.proofs.write.link_low.Tie as tie
 
 returns : tie.Need-returns
 unfolding offset size
-returns c =
-    let s = c .before .before .before .before .before .args in
-    let d = s .d .now in
-    part-lent d lowPart 32256 4096 (λ t. set t (s .u) (s .v)) _ (omega arith) (omega arith) refl refl (c .before .before .put-byte .ensures)
+returns c = let s = c .before .before .before .before .before .args in byte-lent (s .d .now) lowPart (s .v) (omega arith) (omega arith) refl (c .before .before .put-byte .ensures)
 
 pub link-low-spec : {M : Type 1} → statement M
 link-low-spec = tie.close (tie.spec

@@ -1,11 +1,11 @@
 -- `fields::write::row` meets its contract: one part is lent and comes back written. Assumes nothing.
 use Prim.Native.Nat.{_-_}
-use mathlib.Core.Path.{_∙_, ap, refl}
+use mathlib.Core.Path.{_∙_, ap}
 use native.Mathlib.Omega.{arith}
 use borrow.Author.Needs.{needs}
 use Rattle.cells.specs.Marks.{markAt, putRow}
 use Rattle.cells.specs.Parts.{offset, rowsPart, size, split, wrote}
-use Rattle.cells.proofs.Parts.{part-lent}
+use Rattle.fields.proofs.InPart.{lent-at}
 use Rattle.fields.proofs.MarkReads.{row-of}
 use Rattle.fields.proofs.write.row.Statement.{statement}
 use Rattle.fields.proofs.write.row.Tie as tie
@@ -15,11 +15,10 @@ unfolding offset size
 returns c =
     let at-put = c .before .before in
     let at-wide = at-put .before .before in
-    let start = at-wide .before .before in
-    let s = start .args in
+    let s = at-wide .before .before .args in
     let d = s .d .now in
-    part-lent d rowsPart 0 32256 (λ t. putRow 512 t (at-wide .wide .result - 1) (markAt (s .row))) _ (omega arith) (omega arith) refl refl (at-put .put .ensures)
-    ∙ ap (wrote d rowsPart) (row-of (split d rowsPart) (s .c .0) (at-wide .wide .result) (markAt (s .row)) (omega arith) (at-wide .wide .ensures .0))
+    lent-at d rowsPart (λ x t. putRow 512 t (x - 1) (markAt (s .row))) (omega arith) (omega arith) (at-wide .wide .ensures .0) (at-put .put .ensures)
+    ∙ ap (wrote d rowsPart) (row-of (split d rowsPart) (s .r .0) (markAt (s .row)) (omega arith))
 
 pub row-spec : {M : Type 1} → statement M
 row-spec = tie.close (tie.spec

@@ -3,17 +3,13 @@ use mathlib.Core.Path.{refl}
 use native.Mathlib.Omega.{arith}
 use borrow.Author.Needs.{needs}
 use Rattle.cells.specs.Parts.{countersPart, offset, size}
-use Rattle.cells.specs.Words.{putWord}
-use Rattle.cells.proofs.Parts.{part-lent}
+use Rattle.fields.proofs.InPart.{word-lent}
 use Rattle.fields.proofs.write.updates.Statement.{statement}
 use Rattle.fields.proofs.write.updates.Tie as tie
 
 returns : tie.Need-returns
 unfolding offset size
-returns c =
-    let s = c .before .before .before .before .before .args in
-    let d = s .d .now in
-    part-lent d countersPart 39824 4 (λ t. putWord t 0 (s .v)) _ (omega arith) (omega arith) refl refl (c .before .before .put-word .ensures)
+returns c = let s = c .before .before .before .before .before .args in word-lent (s .d .now) countersPart (s .v) (omega arith) (omega arith) refl (c .before .before .put-word .ensures)
 
 pub updates-spec : {M : Type 1} → statement M
 updates-spec = tie.close (tie.spec

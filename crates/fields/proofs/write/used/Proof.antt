@@ -1,23 +1,14 @@
 -- `fields::write::used` meets its contract: one part is lent and comes back written. Assumes nothing.
-use mathlib.Core.Path.{_∙_, ap, refl}
 use native.Mathlib.Omega.{arith}
-use lib.ListN.{set}
 use borrow.Author.Needs.{needs}
-use Rattle.cells.specs.Parts.{offset, size, split, usedPart, wrote}
-use Rattle.cells.proofs.Parts.{part-lent}
+use Rattle.cells.specs.Parts.{offset, size, usedPart}
+use Rattle.fields.proofs.InPart.{byte-lent}
 use Rattle.fields.proofs.write.used.Statement.{statement}
 use Rattle.fields.proofs.write.used.Tie as tie
 
 returns : tie.Need-returns
 unfolding offset size
-returns c =
-    let at-put-byte = c .before .before in
-    let at-wide = at-put-byte .before in
-    let start = at-wide .before .before .before in
-    let s = start .args in
-    let d = s .d .now in
-    part-lent d usedPart 39104 64 (λ t. set t (at-wide .wide .result) (s .v)) _ (omega arith) (omega arith) refl refl (at-put-byte .put-byte .ensures)
-    ∙ ap (λ r. wrote d usedPart (set (split d usedPart) r (s .v))) (at-wide .wide .ensures .0)
+returns c = let s = c .before .before .before .before .before .before .args in byte-lent (s .d .now) usedPart (s .v) (omega arith) (omega arith) (c .before .before .before .wide .ensures .0) (c .before .before .put-byte .ensures)
 
 pub used-spec : {M : Type 1} → statement M
 used-spec = tie.close (tie.spec

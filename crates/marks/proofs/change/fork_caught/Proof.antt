@@ -14,10 +14,10 @@ use Rattle.marks.proofs.change.fork_caught.Statement.{statement}
 use Rattle.marks.proofs.change.fork_caught.Tie as tie
 
 abbrev Inv-loop : tie.InvT-loop
-Inv-loop p c caught column z₀ x₀ z x = (x ≤ 16) × (length z ≡ 16) × (take x z ≡ tab (λ i. rowBytes 8 (forkCaught (markOf caught) p c i)) x)
+Inv-loop parent child caught column z₀ x₀ z x = (x ≤ 16) × (length z ≡ 16) × (take x z ≡ tab (λ i. rowBytes 8 (forkCaught (markOf caught) parent child i)) x)
 
 abbrev μ-loop : tie.MeasureT-loop
-μ-loop p c caught column z₀ x₀ z x = 16 - x
+μ-loop parent child caught column z₀ x₀ z x = 16 - x
 
 loop-holds : tie.Need-loop-holds Inv-loop μ-loop
 loop-holds c = (search needs, search needs, tab-none _)

@@ -15,10 +15,10 @@ use Rattle.marks.proofs.change.fork_column.Statement.{statement}
 use Rattle.marks.proofs.change.fork_column.Tie as tie
 
 abbrev Inv-loop : tie.InvT-loop
-Inv-loop p c s column z₀ x₀ z x = (x ≤ 64) × (length z ≡ 64) × (take x z ≡ tab (λ i. rowBytes 8 (changed (markOf s i) c (eqb i p))) x)
+Inv-loop parent child s column z₀ x₀ z x = (x ≤ 64) × (length z ≡ 64) × (take x z ≡ tab (λ i. rowBytes 8 (changed (markOf s i) child (eqb i parent))) x)
 
 abbrev μ-loop : tie.MeasureT-loop
-μ-loop p c s column z₀ x₀ z x = 64 - x
+μ-loop parent child s column z₀ x₀ z x = 64 - x
 
 loop-holds : tie.Need-loop-holds Inv-loop μ-loop
 loop-holds c = (search needs, search needs, tab-none _)

@@ -9,7 +9,7 @@ use Rattle.marks.proofs.change.fork_seen.Tie as tie
 returns : tie.Need-returns
 returns c =
     let s = c .before .before .args in
-    c .fork-column .ensures ∙ fork-rows (s .seen) (s .p) (s .c) (search needs) (omega arith)
+    c .fork-column .ensures ∙ fork-rows (s .seen) (s .parent) (s .child) (search needs) (omega arith)
 
 pub fork-seen-spec : {M : Type 1} → statement M
 fork-seen-spec = tie.close (tie.spec

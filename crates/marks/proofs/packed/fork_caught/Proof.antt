@@ -12,7 +12,7 @@ returns c =
     let at-fork-caught = at-store16 .before .before in
     let at-load16 = at-fork-caught .before in
     let start = at-load16 .before .before .before in
-    at-store16 .store16 .ensures ∙ fork-caught-stored (start .args .t .now) (at-load16 .load16 .result) (at-fork-caught .fork-caught .result) (start .args .p) (start .args .c) (omega arith) (omega arith) (at-load16 .load16 .ensures) (at-fork-caught .fork-caught .ensures)
+    at-store16 .store16 .ensures ∙ fork-caught-stored (start .args .t .now) (at-load16 .load16 .result) (at-fork-caught .fork-caught .result) (start .args .parent) (start .args .child) (omega arith) (omega arith) (at-load16 .load16 .ensures) (at-fork-caught .fork-caught .ensures)
 
 pub fork-caught-spec : {M : Type 1} → statement M
 fork-caught-spec = tie.close (tie.spec

@@ -12,7 +12,7 @@ returns c =
     let at-fork-seen = at-store64 .before .before in
     let at-load64 = at-fork-seen .before in
     let start = at-load64 .before .before .before in
-    at-store64 .store64 .ensures ∙ fork-seen-stored (start .args .t .now) (at-load64 .load64 .result) (at-fork-seen .fork-seen .result) (start .args .p) (start .args .c) (omega arith) (omega arith) (at-load64 .load64 .ensures) (at-fork-seen .fork-seen .ensures)
+    at-store64 .store64 .ensures ∙ fork-seen-stored (start .args .t .now) (at-load64 .load64 .result) (at-fork-seen .fork-seen .result) (start .args .parent) (start .args .child) (omega arith) (omega arith) (at-load64 .load64 .ensures) (at-fork-seen .fork-seen .ensures)
 
 pub fork-seen-spec : {M : Type 1} → statement M
 fork-seen-spec = tie.close (tie.spec

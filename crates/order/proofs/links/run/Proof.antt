@@ -1,19 +1,18 @@
 -- `order::links::run` meets its contract: at each turn what is left to do makes the whole with what is done. Assumes nothing.
 use Prim.Native.Nat.{_-_, _<_, _≤_}
 use mathlib.Core.Path.{_≡_, _∙_, refl}
-use mathlib.Core.List.{_++_}
 use native.Mathlib.Omega.{arith}
-use lib.ListN.{drop, length, length-set}
+use lib.ListN.{length, length-set}
 use borrow.Author.Needs.{needs}
 use Rattle.cells.specs.Sizes.{updates}
-use Rattle.cells.specs.Cells.{chain}
 use Rattle.cells.specs.Decode.{cells}
+use Rattle.order.specs.Chain.{withChain}
 use Rattle.order.proofs.Laws.{gather-more}
 use Rattle.order.proofs.links.run.Statement.{statement}
 use Rattle.order.proofs.links.run.Tie as tie
 
 abbrev Inv-loop : tie.InvT-loop
-Inv-loop d at n m out₀ u₀ i₀ out u i = (m ≤ i) × (i ≤ n) × (u < updates) × (length out ≡ length out₀) × (chain (cells d .link) u i ++ drop i out ≡ chain (cells d .link) at n ++ drop n out₀)
+Inv-loop d at n m out₀ u₀ i₀ out u i = (m ≤ i) × (i ≤ n) × (u < updates) × (length out ≡ length out₀) × (withChain d u i out ≡ withChain d at n out₀)
 
 abbrev μ-loop : tie.MeasureT-loop
 μ-loop d at n m out₀ u₀ i₀ out u i = i - m

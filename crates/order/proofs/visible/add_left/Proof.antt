@@ -43,10 +43,7 @@ add-some-requires c κs =
     let at-at-place = c .before .before .before in
     let at-loop = at-at-place .before .before in
     let start = at-loop .before .before .before .before .before in
-    let s = start .args in
     let l = at-loop .loop in
-    let r = ranges (s .d .now) (start .pre .1) in
-    let o = r .most-out in
     (start .pre .0, start .pre .1, start .pre .2, at-at-place .at-place .ensures .1, l .inv .3, l .inv .4, l .inv .2)
 
 loop-again : tie.Need-loop-again Inv-loop μ-loop

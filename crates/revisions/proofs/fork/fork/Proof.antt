@@ -29,7 +29,7 @@ returns c =
     let at-out = at-given .before .before in
     let start = at-out .before .before .before in
     let s = start .args in
-    fork-done (s .d .now) (start .pre .0) _ _ (s .p .0) (s .c .0) (at-out .out .result) (at-given .given .result) (start .pre .4) (at-out .out .ensures .0) (at-given .given .ensures .0) (at-inherit .inherit .ensures) (at-start .start .ensures)
+    fork-done (s .d .now) (start .pre .0) _ _ (s .parent .0) (s .child .0) (at-out .out .result) (at-given .given .result) (start .pre .4) (at-out .out .ensures .0) (at-given .given .ensures .0) (at-inherit .inherit .ensures) (at-start .start .ensures)
 
 pub fork-spec : {M : Type 1} → statement M
 fork-spec = tie.close (tie.spec

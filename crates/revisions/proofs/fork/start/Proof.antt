@@ -16,7 +16,7 @@ returns c =
     let at-fork-seen = at-fork-caught .before .before .before .before in
     let start = at-fork-seen .before .before .before in
     let s = start .args in
-    start-done (s .d .now) (start .pre .0) _ _ _ _ _ _ (s .p .0) (s .c .0) (s .out) (s .given) (at-fork-seen .fork-seen .ensures) (at-fork-caught .fork-caught .ensures) (at-state .state .ensures) (at-enter .enter .ensures) (at-out .out .ensures) (at-given .given .ensures)
+    start-done (s .d .now) (start .pre .0) _ _ _ _ _ _ (s .parent .0) (s .child .0) (s .out) (s .given) (at-fork-seen .fork-seen .ensures) (at-fork-caught .fork-caught .ensures) (at-state .state .ensures) (at-enter .enter .ensures) (at-out .out .ensures) (at-given .given .ensures)
 
 pub start-spec : {M : Type 1} → statement M
 start-spec = tie.close (tie.spec

@@ -25,8 +25,8 @@ returns c =
     let s = start .args in
     let d = s .d .now in
     let f : ℕ → Bool = markAt (at-forked-row .forked-row .result) in
-    let e = putRowOf-same (split d rowsPart) (s .c .0) f (forkRow (cells d) (s .p .0)) (row-marks 512 (forkRow (cells d) (s .p .0)) (at-forked-row .forked-row .result) (at-forked-row .forked-row .ensures)) in
-    by-row-done d (start .pre .0) _ _ _ _ (s .p .0) (s .c .0) (at-base .base .result) f (omega arith) (omega arith) (at-base .base .ensures .0) e (at-row .row .ensures) (at-used .used .ensures) (at-base2 .base2 .ensures) (at-count .count .ensures)
+    let e = putRowOf-same (split d rowsPart) (s .child .0) f (forkRow (cells d) (s .parent .0)) (row-marks 512 (forkRow (cells d) (s .parent .0)) (at-forked-row .forked-row .result) (at-forked-row .forked-row .ensures)) in
+    by-row-done d (start .pre .0) _ _ _ _ (s .parent .0) (s .child .0) (at-base .base .result) f (omega arith) (omega arith) (at-base .base .ensures .0) e (at-row .row .ensures) (at-used .used .ensures) (at-base2 .base2 .ensures) (at-count .count .ensures)
 
 pub by-row-spec : {M : Type 1} → statement M
 by-row-spec = tie.close (tie.spec

@@ -48,7 +48,7 @@ returns c =
     let l = at-loop .loop in
     let o = at-own-list .own-list .last .1 .1 .0 in
     let e : l .i ≡ at-own-list .own-list .result = omega arith in
-    row-done k (s .p .0) (at-own-list .own-list .result) o (at-load .load .result) (l .marks) (gathered k (s .p .0) _ o _ (at-own-list .own-list .ensures .0) (at-own-list .own-list .ensures .2) .1)
+    row-done k (s .parent .0) (at-own-list .own-list .result) o (at-load .load .result) (l .marks) (gathered k (s .parent .0) _ o _ (at-own-list .own-list .ensures .0) (at-own-list .own-list .ensures .2) .1)
     (at-load .load .ensures)
     (l .inv .4 ∙ ap (λ n. rowBytes 512 (withFirst (markAt (at-load .load .result)) o 512 n)) e)
 

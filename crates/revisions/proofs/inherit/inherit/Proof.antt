@@ -11,7 +11,7 @@ returns c =
     let at-by-count = c .before .before in
     let at-if1 = at-by-count .before .before in
     let start = at-if1 .before .before .before in
-    at-by-count .by-count .ensures ∙ ap (λ p. glue (inheritParts (split (start .args .d .now)) p (start .args .c .0))) (sym (at-if1 .if1 .taken))
+    at-by-count .by-count .ensures ∙ ap (λ p. glue (inheritParts (split (start .args .d .now)) p (start .args .child .0))) (sym (at-if1 .if1 .taken))
 
 returns-2 : tie.Need-returns-2
 returns-2 c = c .before .before .by-row .ensures
