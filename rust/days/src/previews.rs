@@ -25,8 +25,16 @@ pub fn fault_of_previews<D: Clone + PartialEq>(
                 vec![Answer::refused(Code::BadEntry)]
             } else {
                 let listed = listed(&mut copy, joiner, bib, &make);
-                let read = [listed].into_iter().chain(queried(&mut copy, joiner, bib, &make));
-                read.map(|read| Answer { gain: joined.value, ..read }).collect()
+                let told = |read: Answer| Answer { gain: joined.value, ..read };
+                if listed.code == Code::Accepted {
+                    [listed]
+                        .into_iter()
+                        .chain(queried(&mut copy, joiner, bib, &make))
+                        .map(told)
+                        .collect()
+                } else {
+                    vec![listed]
+                }
             };
             Some((right, before))
         }

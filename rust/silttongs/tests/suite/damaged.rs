@@ -4,7 +4,7 @@
 use std::collections::BTreeMap;
 
 use calls::{Answer, Call, Code, Line, State, BIBS, CLIENTS, REVISIONS};
-use days::{fault_of_bundles, random_day, seeds, Profile, Rng};
+use days::{fault_of_bundles, fault_of_previews, random_day, seeds, Profile, Rng};
 use silttongs::{Refusal, Table, BUNDLE, BYTES, SHEET};
 
 use super::cells::{cells, is_table, Cell};
@@ -180,14 +180,19 @@ fn judged(cells: &[Cell], t: &mut Vec<u8>, call: &Call) -> Result<Given, String>
     }
     let code = given.answer.code;
     let table = is_table(cells, &before);
-    // Of a bundle, an entry may leave a cell out of its range, and what comes next finds no table.
-    if table && matches!(call, Call::Bundle { .. }) {
-        let bundle = std::slice::from_ref(call);
-        if let Some(fault) = fault_of_bundles(before.clone(), bundle, answered) {
-            return Err(fault);
+    // An entry of a bundle, or the join of a preview, may leave a cell out of its range, and what comes
+    // next finds no table.
+    let one = std::slice::from_ref(call);
+    let fault = match call {
+        Call::Bundle { .. } if table => fault_of_bundles(before.clone(), one, answered),
+        Call::Preview { .. } if table => fault_of_previews(before.clone(), one, answered),
+        _ if (code == Code::NoTable) == table => {
+            Some(format!("code {code}, against docs/CELLS.md"))
         }
-    } else if (code == Code::NoTable) == table {
-        return Err(format!("code {code}, against docs/CELLS.md"));
+        _ => None,
+    };
+    if let Some(fault) = fault {
+        return Err(fault);
     }
     if code != Code::Accepted && (given != refused(call, code) || *t != before) {
         return Err(format!("refused with code {code}, but with an answer or bytes changed"));
