@@ -18,7 +18,7 @@ pub record Cells : Type 0 where
   pub row : ℕ → ℕ → Bool
   -- the update before this one in the own list that it stands in
   pub link : ℕ → ℕ
-  -- of a joiner and a joinee: the joinee's fork is seen at the joiner's terminal and the joinee's start is not
+  -- of a joiner and a joinee, while both are out: the joinee's fork is seen at the joiner's terminal and the joinee's start is not
   pub seen : ℕ → ℕ → Bool
   -- of a client and a revision: the client's last event is seen at the revision's terminal
   pub caught : ℕ → ℕ → Bool
