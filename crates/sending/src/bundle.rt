@@ -22,6 +22,7 @@ use entering::update::put;
 use entering::yields::close;
 use fields::table::Client;
 use fields::table::Revision;
+use fields::table::Table;
 use table::answer::Answer;
 use table::bib;
 use table::bib::BibCheck;
@@ -63,7 +64,7 @@ fn check_entry(number: u8, n: u16) -> KindCheck
 fn check_own(own: usize) -> FitCheck
     ensures { λ r. ⌜ r ≡ ownCheck own ⌝ }
 {
-    if 4096 < own {
+    if Table::UPDATES < own {
         return FitCheck::Refused(1);
     }
     FitCheck::Fits
@@ -80,7 +81,7 @@ fn check_fit(number: u8, n: u16, taken: usize, own: usize) -> FitCheck
     let KindCheck::Known(k) = check_entry(number, n) else {
         return FitCheck::Refused(5);
     };
-    if taken < 4096 {
+    if taken < Table::UPDATES {
         return FitCheck::Fits;
     }
     FitCheck::Refused(9)
