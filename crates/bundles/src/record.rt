@@ -4,6 +4,7 @@ ghost use Prim.Native.Nat.{_*_, _+_, _≤_};
 ghost use lib.ListN.{length};
 ghost use Rattle.bundles.specs.Records.{entryAt, entryIn, recordOf, withRecord};
 use crate::entry::Entry;
+use crate::sizes::Record;
 use records::numbers::read;
 
 // The record's client and number are not looked at.
@@ -20,8 +21,8 @@ pub fn entry_at(b: &[u8], i: usize) -> Entry
     requires { ⌜ 12 * i + 12 ≤ length (now b) ⌝ }
     ensures { λ e. ⌜ e ≡ entryAt (now (b .entry)) i ⌝ }
 {
-    let at = 12 * i;
-    let end = at + 12;
+    let at = Record::BYTES * i;
+    let end = at + Record::BYTES;
     decode(&b[at..end])
 }
 
@@ -50,7 +51,7 @@ pub fn put(b: &mut [u8], i: usize, e: Entry)
     requires { ⌜ 12 * i + 12 ≤ length (now b) ⌝ }
     ensures { λ _. ⌜ now (b .exit) ≡ withRecord (now (b .entry)) i e ⌝ }
 {
-    let at = 12 * i;
-    let end = at + 12;
+    let at = Record::BYTES * i;
+    let end = at + Record::BYTES;
     write(&mut b[at..end], e);
 }

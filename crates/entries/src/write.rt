@@ -5,6 +5,7 @@ ghost use lib.ListN.{length};
 ghost use Rattle.entries.specs.Sizes.{bytes, updates, clients, bibs};
 ghost use Rattle.entries.specs.Stored.{entry};
 ghost use Rattle.entries.specs.Entries.{wrote};
+use crate::entry::Entry;
 use crate::store::store;
 use updates::kind::Kind;
 
@@ -12,7 +13,7 @@ pub fn write(t: &mut [u8], n: u16, kind: Kind, client: u8, bib: u16, v: u32)
     requires { ⌜ (length (now t) ≡ bytes) × (n < updates) × (client < clients) × (bib < bibs) ⌝ }
     ensures { λ _. ⌜ now (t .exit) ≡ wrote (now (t .entry)) n (entry kind client bib v) ⌝ }
 {
-    let at = 6 * (n as usize);
-    let end = at + 6;
+    let at = Entry::BYTES * (n as usize);
+    let end = at + Entry::BYTES;
     store(&mut t[at..end], kind, client, bib, v);
 }

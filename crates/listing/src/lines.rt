@@ -7,6 +7,7 @@ ghost use Rattle.entries.specs.Sizes.{bytes};
 ghost use Rattle.entries.specs.Entries.{entryAt};
 ghost use Rattle.listing.specs.Lines.{line, sheet};
 use crate::line;
+use bundles::sizes::Record;
 
 // Line i is of update n.
 fn put(t: &[u8], n: u16, s: &mut [u8], i: usize)
@@ -15,8 +16,8 @@ fn put(t: &[u8], n: u16, s: &mut [u8], i: usize)
 {
     let e = entries::read::read(t, n);
     let kind = e.kind;
-    let at = 12 * i;
-    let end = at + 12;
+    let at = Record::BYTES * i;
+    let end = at + Record::BYTES;
     line::write(&mut s[at..end], kind, e.client, e.bib, e.v, n as u32);
 }
 

@@ -12,6 +12,7 @@ ghost use Rattle.table.specs.Halves.{bytes, high, isTable, low};
 ghost use Rattle.table.specs.Answers.{check, left, taken};
 ghost use Rattle.table.specs.Calls.{listOut, shownOut};
 ghost use Rattle.showing.specs.Checks.{sheetCheck};
+use bundles::sizes::Record;
 use fields::table::Revision;
 use fields::table::Table;
 use table::answer::Answer;
@@ -33,7 +34,7 @@ fn check_sheet(sheet: &[u8], n: usize) -> SheetCheck
     requires { ⌜ n ≤ updates ⌝ }
     ensures { λ r. ⌜ r ≡ sheetCheck (length (now (sheet .entry))) n ⌝ }
 {
-    if sheet.len() < 12 * n {
+    if sheet.len() < Record::BYTES * n {
         SheetCheck::Short
     } else {
         SheetCheck::Fits
