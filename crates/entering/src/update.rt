@@ -8,7 +8,7 @@ ghost use Rattle.cells.specs.Sizes as Lower;
 ghost use Rattle.cells.specs.Sizes.{clients, revisions, updates};
 ghost use Rattle.cells.specs.Range.{inRange};
 ghost use Rattle.cells.specs.Steps.{updateBytes};
-ghost use Rattle.entries.specs.Sizes.{bibs};
+ghost use Rattle.entries.specs.Sizes.{bibRange};
 ghost use Rattle.entries.specs.Stored.{entry};
 ghost use Rattle.entries.specs.Entries.{wrote};
 ghost use Rattle.table.specs.Halves.{bytes, cellsOf, high, isTable, low};
@@ -28,9 +28,9 @@ use table::event::EventCheck;
 use table::sizes::Whole;
 use table::sound;
 use table::sound::TableCheck;
-use updates::kind;
 use updates::kind::Kind;
 use updates::kind::KindCheck;
+use updates::kind::check_kind;
 
 // What checks 2 to 9 find.
 pub enum UpdateCheck {
@@ -62,7 +62,7 @@ fn check_lower(d: &[u8], client: u8, revision: u8, kind: u8, bib: u16) -> Update
     let BibCheck::Known = bib::check_bib(bib) else {
         return UpdateCheck::Refused(5);
     };
-    let KindCheck::Known(k) = kind::check(kind) else {
+    let KindCheck::Known(k) = check_kind(kind) else {
         return UpdateCheck::Refused(5);
     };
     let next = event::check_turn(d, c, r);
@@ -93,7 +93,7 @@ fn append(t: &mut [u8], c: Client, r: Revision) -> usize
 
 // Entry n is stored.
 fn store(t: &mut [u8], n: usize, kind: Kind, client: u8, bib: u16, v: u32)
-    requires { ⌜ (length (now t) ≡ bytes) × (n < updates) × (client < clients) × (bib < bibs) ⌝ }
+    requires { ⌜ (length (now t) ≡ bytes) × (n < updates) × (client < clients) × (bib < bibRange) ⌝ }
     ensures { λ _. ⌜ now (t .exit) ≡ low (now (t .entry)) ++ wrote (high (now (t .entry))) n (entry kind client bib v) ⌝ }
 {
     entries::write::write(
@@ -108,7 +108,7 @@ fn store(t: &mut [u8], n: usize, kind: Kind, client: u8, bib: u16, v: u32)
 
 // Both, for the update that the checks allow.
 pub fn put(t: &mut [u8], c: Client, r: Revision, kind: Kind, bib: u16, v: u32) -> u32
-    requires { ⌜ (length (now t) ≡ bytes) × (inRange (low (now t)) ≡ true) × (c .0 < clients) × (r .0 < revisions) × (cellsOf (now t) .updates < updates) × (bib < bibs) ⌝ }
+    requires { ⌜ (length (now t) ≡ bytes) × (inRange (low (now t)) ≡ true) × (c .0 < clients) × (r .0 < revisions) × (cellsOf (now t) .updates < updates) × (bib < bibRange) ⌝ }
     ensures { λ u. ⌜ (u ≡ cellsOf (now (t .entry)) .updates) × (now (t .exit) ≡ updateBytes (low (now (t .entry))) (c .0) (r .0) ++ wrote (high (now (t .entry))) (cellsOf (now (t .entry)) .updates) (entry kind (c .0) bib v)) ⌝ }
 {
     let u = append(t, c, r);

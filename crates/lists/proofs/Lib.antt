@@ -9,3 +9,5 @@ pub mod Counts
 pub mod Grown
 pub mod Sums
 pub mod Replaced
+pub mod Rows
+pub mod Told
