@@ -1,4 +1,4 @@
--- Laws of the words for lists, each said once, over variables.
+-- Laws of the words for lists, of rows, and of answers that a test picks, each said once, over variables.
 pub mod Cases
 pub mod Changed
 pub mod Sublists
