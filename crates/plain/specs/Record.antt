@@ -24,7 +24,7 @@ abbrev pub freshDay : PlainDay
 freshDay = record { day = Day.fresh; entries = λ n. record { kind = Time; client = 0; bib = 0; v = 0 } }
 
 abbrev pub ofBib : (ℕ → Entry) → ℕ → List ℕ → List Update
-ofBib entries = Applied.ofBib (λ n. entries n .bib) (λ n. record { kind = entries n .kind; v = entries n .v })
+ofBib entries bib ns = Applied.ofBib (λ n. entries n .bib) (λ n. record { kind = entries n .kind; v = entries n .v }) bib ns
 
 -- "applied to the fresh values"
 abbrev pub standingOf : (ℕ → Entry) → ℕ → List ℕ → Standing

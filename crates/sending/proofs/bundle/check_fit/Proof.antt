@@ -24,16 +24,18 @@ unfolding fitCheck onKind
 returns-3 c =
     let k = c .before .before .before in
     let o = k .before .before .before .before in
-    rw (sym (o .before .before .check-own .ensures) ∙ o .enum-told .given .1, sym (k .before .before .before .check-entry .ensures) ∙ k .before .k .given .1,
-    room-told _ .fails (sym (c .before .before .check-room .ensures) ∙ c .enum-told5 .given .1))
+    let e = sym (o .before .before .check-own .ensures) ∙ o .enum-told .given .1 in
+    let f = sym (k .before .before .before .check-entry .ensures) ∙ k .before .k .given .1 in
+    rw (e, f, room-told _ .fails (sym (c .before .before .check-room .ensures) ∙ c .enum-told5 .given .1))
 
 returns-4 : tie.Need-returns-4
 unfolding fitCheck onKind
 returns-4 c =
     let k = c .before .before .before in
     let o = k .before .before .before .before in
-    rw (sym (o .before .before .check-own .ensures) ∙ o .enum-told .given .1, sym (k .before .before .before .check-entry .ensures) ∙ k .before .k .given .1,
-    room-told _ .holds (sym (c .before .before .check-room .ensures) ∙ c .enum-told4 .given .1))
+    let e = sym (o .before .before .check-own .ensures) ∙ o .enum-told .given .1 in
+    let f = sym (k .before .before .before .check-entry .ensures) ∙ k .before .k .given .1 in
+    rw (e, f, room-told _ .holds (sym (c .before .before .check-room .ensures) ∙ c .enum-told4 .given .1))
 
 pub check-fit-spec : {M : Type 1} → statement M
 check-fit-spec = tie.close (tie.spec
