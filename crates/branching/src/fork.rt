@@ -15,6 +15,7 @@ ghost use Rattle.branching.specs.Checks.{forkCheck, forkIn};
 use checks::next::NextCheck;
 use checks::next::check_next;
 use fields::table::Revision;
+use fields::table::Table;
 use table::answer::Answer;
 use table::idle;
 use table::idle::IdleCheck;
@@ -27,7 +28,7 @@ fn start(t: &mut [u8], p: Revision, c: Revision)
     requires { ⌜ (length (now t) ≡ bytes) × (inRange (low (now t)) ≡ true) × (p .0 < revisions) × (0 < c .0) × (c .0 < revisions) ⌝ }
     ensures { λ _. ⌜ now (t .exit) ≡ forkBytes (low (now (t .entry))) (p .0) (c .0) ++ high (now (t .entry)) ⌝ }
 {
-    revisions::fork::fork(&mut t[0..40960], p, c);
+    revisions::fork::fork(&mut t[0..Table::LOWER], p, c);
 }
 
 // Checks 3, 4, 7, 10: the revision, and the number of the new one.
@@ -50,7 +51,7 @@ fn fork_sound(t: &mut [u8], revision: u8) -> Answer
     requires { ⌜ (isTable (now t) ≡ true) × (length (now t) ≡ bytes) × (inRange (low (now t)) ≡ true) ⌝ }
     ensures { λ a. ⌜ left a (now (t .exit)) ≡ forkOut (now (t .entry)) revision ⌝ }
 {
-    let found = check_fork(&t[0..40960], revision);
+    let found = check_fork(&t[0..Table::LOWER], revision);
     let PairCheck::Allowed(p, c) = found else {
         return Answer {
             code: found.code(),

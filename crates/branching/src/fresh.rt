@@ -7,7 +7,9 @@ ghost use Rattle.entries.specs.Sizes as Upper;
 ghost use Rattle.table.specs.Halves.{bytes};
 ghost use Rattle.table.specs.Answers.{left};
 ghost use Rattle.table.specs.Calls.{freshOut};
+use fields::table::Table;
 use table::answer::Answer;
+use table::sizes::Whole;
 use table::sound;
 use table::sound::LengthCheck;
 
@@ -16,8 +18,8 @@ fn start(t: &mut [u8])
     requires { ⌜ length (now t) ≡ bytes ⌝ }
     ensures { λ _. ⌜ now (t .exit) ≡ freshBytes ++ replicate Upper.bytes 0 ⌝ }
 {
-    revisions::fresh::fresh(&mut t[0..40960]);
-    fields::fresh::clear(&mut t[40960..65536]);
+    revisions::fresh::fresh(&mut t[0..Table::LOWER]);
+    fields::fresh::clear(&mut t[Table::LOWER..Whole::BYTES]);
 }
 
 pub fn fresh(t: &mut [u8]) -> Answer

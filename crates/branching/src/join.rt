@@ -11,6 +11,7 @@ ghost use Rattle.table.specs.Halves.{bytes, cellsOf, high, isTable, low};
 ghost use Rattle.table.specs.Answers.{left};
 ghost use Rattle.table.specs.Calls.{joinOut};
 use fields::table::Revision;
+use fields::table::Table;
 use table::answer::Answer;
 use table::join::check_join;
 use table::pair::PairCheck;
@@ -22,7 +23,7 @@ fn join_lower(t: &mut [u8], a: Revision, b: Revision) -> u32
     requires { ⌜ (length (now t) ≡ bytes) × (inRange (low (now t)) ≡ true) × (a .0 < revisions) × (b .0 < revisions) ⌝ }
     ensures { λ n. ⌜ (n ≡ cellsOf (now (t .entry)) .count (b .0)) × (now (t .exit) ≡ joinBytes (low (now (t .entry))) (a .0) (b .0) ++ high (now (t .entry))) ⌝ }
 {
-    let n = revisions::join::join(&mut t[0..40960], a, b);
+    let n = revisions::join::join(&mut t[0..Table::LOWER], a, b);
     n as u32
 }
 
@@ -31,7 +32,7 @@ fn join_sound(t: &mut [u8], joiner: u8, joinee: u8) -> Answer
     requires { ⌜ (isTable (now t) ≡ true) × (length (now t) ≡ bytes) × (inRange (low (now t)) ≡ true) ⌝ }
     ensures { λ a. ⌜ left a (now (t .exit)) ≡ joinOut (now (t .entry)) joiner joinee ⌝ }
 {
-    let found = check_join(&t[0..40960], joiner, joinee);
+    let found = check_join(&t[0..Table::LOWER], joiner, joinee);
     let PairCheck::Allowed(a, b) = found else {
         return Answer {
             code: found.code(),

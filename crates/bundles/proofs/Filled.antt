@@ -1,27 +1,18 @@
 -- Room for records with one record more.
 use Prim.Native.Nat.{ℕ, _+_, _*_, _-_, _<_, _≤_}
 use mathlib.Core.Path.{_≡_, refl, sym, _∙_, ap}
-use mathlib.Core.List.{List, [], _∷_, _++_, append-assoc, append-nil}
+use mathlib.Core.List.{List, _++_}
 use native.Mathlib.Omega.{arith}
-use native.Mathlib.Numerals.{add-one}
 use lib.Dec.{ltb}
 use lib.ListN.{length, take, drop, getD, replicate, replicate-append-replicate}
-use lib.Seq.{take-at, drop-at, drop-drop, take-all, take-length, take-suc, length-take-le}
+use lib.Seq.{take-at, drop-at, take-all, take-length, length-take-le}
 use borrow.Author.Tests.{ltb-true, ltb-false}
 use Rattle.lists.proofs.Cases.{cases}
+use Rattle.lists.proofs.Rows as Rows
 use Rattle.bundles.specs.declared.entry.Entry.{Entry}
 use Rattle.bundles.specs.Records.{recordOf, recordsOf, withRecord}
 use Rattle.bundles.specs.Packed.{atMost, filled, packedOf}
-use Rattle.bundles.proofs.Held.{records-length}
-
-records-append : (a b : List Entry) → recordsOf (a ++ b) ≡ recordsOf a ++ recordsOf b
-unfolding recordsOf
-records-append [] b = refl
-records-append (e ∷ a) b = ap (λ z. recordOf e ++ z) (records-append a b) ∙ sym (append-assoc (recordOf e) (recordsOf a) (recordsOf b))
-
-records-one : (e : Entry) → recordsOf (e ∷ []) ≡ recordOf e
-unfolding recordsOf
-records-one e = append-nil (recordOf e)
+use Rattle.bundles.proofs.Held.{record-length, records-length}
 
 pub none-filled : (es : List Entry) → replicate 768 0 ≡ filled (take 0 es)
 unfolding filled recordsOf
@@ -38,21 +29,12 @@ room-left i small =
 
 -- record i put behind the i records before it
 pub one-more : (es : List Entry) (i : ℕ) (d : Entry) → i < 64 → i < length es → withRecord (filled (take i es)) i (getD es i d) ≡ filled (take (i + 1) es)
-unfolding filled
+unfolding filled recordsOf
 one-more es i d small h =
-    let e = getD es i d in
-    let first = recordsOf (take i es) in
     let size : length (take i es) ≡ i = length-take-le i es (omega arith) in
-    let long : length first ≡ 12 * i = records-length (take i es) ∙ ap (λ k. 12 * k) size in
-    let b = filled (take i es) in
-    let b-is : b ≡ first ++ replicate (768 - 12 * i) 0 = ap (λ k. first ++ replicate (768 - 12 * k) 0) size in
-    let front : take (12 * i) b ≡ first = ap (take (12 * i)) b-is ∙ take-at first (replicate (768 - 12 * i) 0) (12 * i) long in
-    let back : drop (12 * i + 12) b ≡ replicate (768 - 12 * (i + 1)) 0 =
-    sym (drop-drop 12 (12 * i) b) ∙ ap (drop 12) (ap (drop (12 * i)) b-is ∙ drop-at first (replicate (768 - 12 * i) 0) (12 * i) long) ∙ room-left i small in
-    let next : take (i + 1) es ≡ take i es ++ (e ∷ []) = ap (λ k. take k es) (add-one i) ∙ take-suc es i d h in
-    let more : recordsOf (take (i + 1) es) ≡ first ++ recordOf e = ap recordsOf next ∙ records-append (take i es) (e ∷ []) ∙ ap (λ z. first ++ z) (records-one e) in
     let count : length (take (i + 1) es) ≡ i + 1 = length-take-le (i + 1) es (omega arith) in
-    rw (front, back, more, count) (sym (append-assoc first (recordOf e) (replicate (768 - 12 * (i + 1)) 0)))
+    Rows.one-more 12 recordOf record-length recordsOf refl (λ e es. refl) es d i h (filled (take i es)) (replicate (768 - 12 * i) 0) (ap (λ k. recordsOf (take i es) ++ replicate (768 - 12 * k) 0) size)
+    ∙ rw count (ap (λ z. recordsOf (take (i + 1) es) ++ z) (room-left i small))
 
 -- a list of fewer than 64 is taken whole
 pub all-taken : (es : List Entry) → take (atMost (length es)) es ≡ take 64 es

@@ -1,13 +1,14 @@
 -- The entries of a bundle one after the other; one that is not wrong has a first.
 use Prim.Native.Nat.{ℕ, zero, suc, _+_, _-_, _*_, _/_, _%_, _<_, _≤_}
-use mathlib.Core.Bool.{Bool, true, false, cond, not}
-use mathlib.Core.Path.{_≡_, refl, sym, _∙_, ap}
+use mathlib.Core.Bool.{true, false, not}
+use mathlib.Core.Path.{_≡_, refl, _∙_, ap}
 use mathlib.Core.List.{List, [], _∷_}
 use native.Mathlib.Omega.{arith}
 use lib.Dec.{eqb, ltb}
 use lib.ListN.{length}
 use borrow.Author.Tests.{eqb-false, ltb-false}
 use Rattle.lists.proofs.Cases.{or-false}
+use Rattle.lists.proofs.Told.{held, failed}
 use Rattle.bundles.specs.declared.entry.Entry.{Entry}
 use Rattle.bundles.specs.Records.{entriesFrom, entriesIn, entryAt, isWrong, bundleCheck}
 use Rattle.bundles.specs.declared.check.BundleCheck.the-variants.{Count, Wrong}
@@ -46,24 +47,17 @@ pub record Counted (b : List ℕ) (n : ℕ) : Type 0 where
   pub some : 0 < n
   pub most : n ≤ 64
 
-count-is : (w : Bool) (k n : ℕ) → cond w Wrong (Count k) ≡ Count n → (w ≡ false) × (n ≡ k)
-count-is true k n e = absurd (let z : _≡_ {A = ℕ} 0 1 = cc in omega arith)
-count-is false k n e = (refl, let z : _≡_ {A = ℕ} k n = cc in sym z)
-
 pub counted : (b : List ℕ) (n : ℕ) → bundleCheck b ≡ Count n → Counted b n
 unfolding bundleCheck isWrong
 counted b n e =
-    let c = count-is (isWrong b) (length b / 12) n e in
+    let c = failed (isWrong b) Wrong (Count (length b / 12)) (Count n) (λ h. cc) e in
+    let count : n ≡ length b / 12 = cc (c .1) in
     let o = or-false (not (eqb (length b % 12) 0)) _ (c .0) .1 in
     let p = or-false (eqb (length b / 12) 0) (ltb 64 (length b / 12)) o in
     let z = eqb-false (length b / 12) 0 (p .0) in
     let m = ltb-false 64 (length b / 12) (p .1) in
-    record { right = c .0; count = c .1; within = omega (arith, c .1); some = omega (arith, c .1, z); most = omega (arith, c .1) }
+    record { right = c .0; count = count; within = omega arith; some = omega (arith, z); most = omega arith }
 
 pub uncounted : (b : List ℕ) → bundleCheck b ≡ Wrong → isWrong b ≡ true
 unfolding bundleCheck
-uncounted b e = wrong-is (isWrong b) (length b / 12) e
-  where
-    wrong-is : (w : Bool) (k : ℕ) → cond w Wrong (Count k) ≡ Wrong → w ≡ true
-    wrong-is true k e = refl
-    wrong-is false k e = absurd (let z : _≡_ {A = ℕ} 0 1 = cc in omega arith)
+uncounted b e = held (isWrong b) Wrong (Count (length b / 12)) Wrong (λ h. cc) e .0

@@ -1,5 +1,5 @@
 -- The records of entries hold those entries, and are a bundle if there are 1 to 64.
-use Prim.Native.Nat.{ℕ, suc, _+_, _*_, _/_, _%_}
+use Prim.Native.Nat.{ℕ, suc, _*_, _/_, _%_}
 use mathlib.Core.Bool.{_||_}
 use mathlib.Core.Path.{_≡_, refl, sym, _∙_, ap}
 use mathlib.Core.List.{List, [], _∷_, _++_, append-assoc}
@@ -7,14 +7,13 @@ use native.Mathlib.Omega.{arith}
 use lib.Dec.{eqb, ltb}
 use lib.ListN.{length, take, drop, length-append}
 use lib.Seq.{take-at, drop-at}
-use Rattle.records.specs.Numbers.{word}
+use Rattle.lists.proofs.Rows.{rows-length}
 use Rattle.records.proofs.Widths.{number-two, number-word}
 use Rattle.bundles.specs.declared.entry.Entry.{Entry}
-use Rattle.bundles.specs.Records.{entryIn, entriesFrom, entriesIn, isWrong, recordOf, recordsOf}
+use Rattle.bundles.specs.Records.{entryIn, entriesFrom, entriesIn, isWrong, laid, recordOf, recordsOf}
 
--- "kind (1 byte), tablet (1), bib (2), v (4), update's number (4)": whatever client and number are, the entry is kind, bib and v
-pub entry-laid : (kind client bib v : ℕ) (number : List ℕ)
-    → entryIn (kind ∷ client ∷ bib % 256 ∷ bib / 256 ∷ (word v ++ number)) ≡ record { kind = kind; bib = bib; v = v }
+-- whatever client and number are, the entry is kind, bib and v
+pub entry-laid : (kind client bib v number : ℕ) → entryIn (laid kind client bib v number) ≡ record { kind = kind; bib = bib; v = v }
 entry-laid kind client bib v number = rw (number-two bib, number-word v)
 
 pub record-length : (e : Entry) → length (recordOf e) ≡ 12
@@ -23,15 +22,11 @@ record-length e = refl
 
 pub records-length : (es : List Entry) → length (recordsOf es) ≡ 12 * length es
 unfolding recordsOf
-records-length [] = refl
-records-length (e ∷ es) =
-    let h = records-length es in
-    let l = record-length e in
-    length-append (recordOf e) (recordsOf es) ∙ omega arith
+records-length = rows-length 12 recordOf record-length recordsOf refl (λ e es. refl)
 
 pub entry-of-record : (e : Entry) → entryIn (recordOf e) ≡ e
 unfolding recordOf
-entry-of-record e = entry-laid (e .kind) 0 (e .bib) (e .v) (0 ∷ 0 ∷ 0 ∷ 0 ∷ [])
+entry-of-record e = entry-laid (e .kind) 0 (e .bib) (e .v) 0
 
 -- the records of es behind i records
 from-records : (es : List Entry) (a : List ℕ) (i : ℕ) → length a ≡ 12 * i → entriesFrom (a ++ recordsOf es) i (length es) ≡ es

@@ -10,8 +10,11 @@ use Rattle.bundles.specs.declared.entry.Entry.{Entry}
 use Rattle.bundles.specs.declared.check.BundleCheck.{BundleCheck}
 use Rattle.bundles.specs.declared.check.BundleCheck.the-variants.{Count, Wrong}
 
--- "Records are laid out as in the listing; their tablet and number aren't looked at": "kind (1 byte), tablet (1), bib (2), v (4),
--- update's number (4)"
+-- "kind (1 byte), tablet (1), bib (2), v (4), update's number (4), least significant byte first"
+abbrev pub laid : ℕ → ℕ → ℕ → ℕ → ℕ → List ℕ
+laid kind client bib v number = kind ∷ client ∷ bib % 256 ∷ bib / 256 ∷ (word v ++ word number)
+
+-- "Records are laid out as in the listing; their tablet and number aren't looked at"
 abbrev pub entryIn : List ℕ → Entry
 entryIn p = record { kind = getD p 0 0; bib = numberAt p 2 2; v = numberAt p 4 4 }
 
@@ -36,7 +39,7 @@ bundleCheck b = cond (isWrong b) Wrong (Count (length b / 12))
 
 -- an entry as a record: what is not looked at is 0
 unfoldable pub recordOf : Entry → List ℕ
-recordOf e = e .kind ∷ 0 ∷ e .bib % 256 ∷ e .bib / 256 ∷ (word (e .v) ++ (0 ∷ 0 ∷ 0 ∷ 0 ∷ []))
+recordOf e = laid (e .kind) 0 (e .bib) (e .v) 0
 
 unfoldable pub recordsOf : List Entry → List ℕ
 recordsOf [] = []

@@ -1,6 +1,8 @@
 // The check of a bundle's bytes: how many records they are, or that they are none.
 ghost use mathlib.Core.Path.{_≡_};
 ghost use Rattle.bundles.specs.Records.{bundleCheck};
+use crate::sizes::Bundle;
+use crate::sizes::Record;
 
 pub enum BundleCheck {
     Count(usize),
@@ -10,14 +12,14 @@ pub enum BundleCheck {
 pub fn check_bundle(b: &[u8]) -> BundleCheck
     ensures { λ r. ⌜ r ≡ bundleCheck (now (b .entry)) ⌝ }
 {
-    if b.len() % 12 != 0 {
+    if b.len() % Record::BYTES != 0 {
         return BundleCheck::Wrong;
     }
-    let n = b.len() / 12;
+    let n = b.len() / Record::BYTES;
     if n == 0 {
         return BundleCheck::Wrong;
     }
-    if 64 < n {
+    if Bundle::MOST < n {
         return BundleCheck::Wrong;
     }
     BundleCheck::Count(n)

@@ -4,24 +4,25 @@ ghost use Prim.Native.Nat.{_<_};
 ghost use Rattle.bundles.specs.Packed.{atMost, blank, packedOf, withEntry};
 use crate::entry::Entry;
 use crate::record::put;
+use crate::sizes::Bundle;
 
 // Room for 64 records, and the count of entries, which may be above 64.
 pub struct Packed {
-    pub bytes: [u8; 768],
+    pub bytes: [u8; Bundle::BYTES],
     pub count: usize,
 }
 
 fn at_most(n: usize) -> usize
     ensures { λ r. ⌜ r ≡ atMost n ⌝ }
 {
-    if n < 64 { n } else { 64 }
+    if n < Bundle::MOST { n } else { Bundle::MOST }
 }
 
 fn room(count: usize) -> Packed
     ensures { λ p. ⌜ p ≡ blank count ⌝ }
 {
     Packed {
-        bytes: [0; 768],
+        bytes: [0; Bundle::BYTES],
         count,
     }
 }

@@ -2,8 +2,9 @@
 ghost use mathlib.Core.Path.{_≡_};
 ghost use Prim.Native.Nat.{_*_, _+_, _≤_};
 ghost use lib.ListN.{length};
-ghost use Rattle.bundles.specs.Records.{entryAt, entryIn, recordOf, withRecord};
+ghost use Rattle.bundles.specs.Records.{entryAt, entryIn, laid, withRecord};
 use crate::entry::Entry;
+use crate::sizes::Record;
 use records::numbers::read;
 
 // The record's client and number are not looked at.
@@ -20,29 +21,28 @@ pub fn entry_at(b: &[u8], i: usize) -> Entry
     requires { ⌜ 12 * i + 12 ≤ length (now b) ⌝ }
     ensures { λ e. ⌜ e ≡ entryAt (now (b .entry)) i ⌝ }
 {
-    let at = 12 * i;
-    let end = at + 12;
+    let at = Record::BYTES * i;
+    let end = at + Record::BYTES;
     decode(&b[at..end])
 }
 
-fn write(p: &mut [u8], e: Entry)
+// A record's twelve bytes. A line of the listing is laid out so too.
+pub fn write(p: &mut [u8], kind: u8, client: u8, bib: u16, v: u32, number: u32)
     requires { ⌜ length (now p) ≡ 12 ⌝ }
-    ensures { λ _. ⌜ now (p .exit) ≡ recordOf e ⌝ }
+    ensures { λ _. ⌜ now (p .exit) ≡ laid kind client bib v number ⌝ }
 {
-    let bib = e.bib;
-    let v = e.v;
-    p[0] = e.kind;
-    p[1] = 0;
+    p[0] = kind;
+    p[1] = client;
     p[2] = (bib % 256) as u8;
     p[3] = (bib / 256) as u8;
     p[4] = (v % 256) as u8;
     p[5] = (v / 256 % 256) as u8;
     p[6] = (v / 65536 % 256) as u8;
     p[7] = (v / 16777216) as u8;
-    p[8] = 0;
-    p[9] = 0;
-    p[10] = 0;
-    p[11] = 0;
+    p[8] = (number % 256) as u8;
+    p[9] = (number / 256 % 256) as u8;
+    p[10] = (number / 65536 % 256) as u8;
+    p[11] = (number / 16777216) as u8;
 }
 
 // Record i becomes the entry's; the other bytes stay.
@@ -50,7 +50,7 @@ pub fn put(b: &mut [u8], i: usize, e: Entry)
     requires { ⌜ 12 * i + 12 ≤ length (now b) ⌝ }
     ensures { λ _. ⌜ now (b .exit) ≡ withRecord (now (b .entry)) i e ⌝ }
 {
-    let at = 12 * i;
-    let end = at + 12;
-    write(&mut b[at..end], e);
+    let at = Record::BYTES * i;
+    let end = at + Record::BYTES;
+    write(&mut b[at..end], e.kind, 0, e.bib, e.v, 0);
 }

@@ -7,7 +7,7 @@ use Rattle.updates.specs.Kinds.{kindCheck, badBib}
 use Rattle.cells.specs.Sizes.{clients, revisions, updates}
 use Rattle.cells.specs.Decode.{cells}
 use Rattle.cells.specs.Checks.{logFull}
-use Rattle.entries.specs.Sizes.{bibs}
+use Rattle.entries.specs.Sizes.{bibRange}
 use Rattle.table.specs.Found.{onKind, onEvent}
 use Rattle.table.specs.Checks.{placeCheck, turnCheck}
 use Rattle.entering.specs.declared.update.UpdateCheck.{UpdateCheck}
@@ -26,7 +26,7 @@ updateCheck d c n k bib =
 -- what is found is in range
 abbrev pub updateIn : List ℕ → ℕ → UpdateCheck → Type 0
 updateIn d bib (update.Refused k) = Unit {0}
-updateIn d bib (update.Allowed x y kind) = (x .0 < clients) × (y .0 < revisions) × (cells d .updates < updates) × (bib < bibs)
+updateIn d bib (update.Allowed x y kind) = (x .0 < clients) × (y .0 < revisions) × (cells d .updates < updates) × (bib < bibRange)
 
 -- the code of a check that ends the call, 0 where none does
 abbrev pub updateCode : UpdateCheck → ℕ

@@ -8,7 +8,7 @@ ghost use Rattle.cells.specs.Sizes as Lower;
 ghost use Rattle.cells.specs.Sizes.{clients, revisions, updates};
 ghost use Rattle.cells.specs.Range.{inRange};
 ghost use Rattle.cells.specs.Steps.{updateBytes};
-ghost use Rattle.entries.specs.Sizes.{bibs};
+ghost use Rattle.entries.specs.Sizes.{bibRange};
 ghost use Rattle.entries.specs.Stored.{entry};
 ghost use Rattle.entries.specs.Entries.{wrote};
 ghost use Rattle.table.specs.Halves.{bytes, cellsOf, high, isTable, low};
@@ -19,16 +19,18 @@ use checks::log::LogCheck;
 use checks::log::check_log;
 use fields::table::Client;
 use fields::table::Revision;
+use fields::table::Table;
 use table::answer::Answer;
 use table::bib;
 use table::bib::BibCheck;
 use table::event;
 use table::event::EventCheck;
+use table::sizes::Whole;
 use table::sound;
 use table::sound::TableCheck;
-use updates::kind;
 use updates::kind::Kind;
 use updates::kind::KindCheck;
+use updates::kind::check_kind;
 
 // What checks 2 to 9 find.
 pub enum UpdateCheck {
@@ -60,7 +62,7 @@ fn check_lower(d: &[u8], client: u8, revision: u8, kind: u8, bib: u16) -> Update
     let BibCheck::Known = bib::check_bib(bib) else {
         return UpdateCheck::Refused(5);
     };
-    let KindCheck::Known(k) = kind::check(kind) else {
+    let KindCheck::Known(k) = check_kind(kind) else {
         return UpdateCheck::Refused(5);
     };
     let next = event::check_turn(d, c, r);
@@ -78,7 +80,7 @@ pub fn check_update(t: &[u8], client: u8, revision: u8, kind: u8, bib: u16) -> U
     requires { ⌜ length (now t) ≡ bytes ⌝ }
     ensures { λ a. ⌜ (a ≡ updateCheck (low (now (t .entry))) client revision kind bib) × updateIn (low (now (t .entry))) bib a ⌝ }
 {
-    check_lower(&t[0..40960], client, revision, kind, bib)
+    check_lower(&t[0..Table::LOWER], client, revision, kind, bib)
 }
 
 // The update is r's last event; its number is the answer.
@@ -86,20 +88,27 @@ fn append(t: &mut [u8], c: Client, r: Revision) -> usize
     requires { ⌜ (length (now t) ≡ bytes) × (inRange (low (now t)) ≡ true) × (c .0 < clients) × (r .0 < revisions) × (cellsOf (now t) .updates < updates) ⌝ }
     ensures { λ u. ⌜ (u ≡ cellsOf (now (t .entry)) .updates) × (now (t .exit) ≡ updateBytes (low (now (t .entry))) (c .0) (r .0) ++ high (now (t .entry))) ⌝ }
 {
-    revisions::record::update(&mut t[0..40960], c, r)
+    revisions::record::update(&mut t[0..Table::LOWER], c, r)
 }
 
 // Entry n is stored.
 fn store(t: &mut [u8], n: usize, kind: Kind, client: u8, bib: u16, v: u32)
-    requires { ⌜ (length (now t) ≡ bytes) × (n < updates) × (client < clients) × (bib < bibs) ⌝ }
+    requires { ⌜ (length (now t) ≡ bytes) × (n < updates) × (client < clients) × (bib < bibRange) ⌝ }
     ensures { λ _. ⌜ now (t .exit) ≡ low (now (t .entry)) ++ wrote (high (now (t .entry))) n (entry kind client bib v) ⌝ }
 {
-    entries::write::write(&mut t[40960..65536], n as u16, kind, client, bib, v);
+    entries::write::write(
+        &mut t[Table::LOWER..Whole::BYTES],
+        n as u16,
+        kind,
+        client,
+        bib,
+        v,
+    );
 }
 
 // Both, for the update that the checks allow.
 pub fn put(t: &mut [u8], c: Client, r: Revision, kind: Kind, bib: u16, v: u32) -> u32
-    requires { ⌜ (length (now t) ≡ bytes) × (inRange (low (now t)) ≡ true) × (c .0 < clients) × (r .0 < revisions) × (cellsOf (now t) .updates < updates) × (bib < bibs) ⌝ }
+    requires { ⌜ (length (now t) ≡ bytes) × (inRange (low (now t)) ≡ true) × (c .0 < clients) × (r .0 < revisions) × (cellsOf (now t) .updates < updates) × (bib < bibRange) ⌝ }
     ensures { λ u. ⌜ (u ≡ cellsOf (now (t .entry)) .updates) × (now (t .exit) ≡ updateBytes (low (now (t .entry))) (c .0) (r .0) ++ wrote (high (now (t .entry))) (cellsOf (now (t .entry)) .updates) (entry kind (c .0) bib v)) ⌝ }
 {
     let u = append(t, c, r);

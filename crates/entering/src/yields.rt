@@ -11,6 +11,7 @@ ghost use Rattle.table.specs.Calls.{yieldOut};
 use checks::client::ClientCheck;
 use checks::client::check_client;
 use fields::table::Client;
+use fields::table::Table;
 use revisions::transactions;
 use table::answer::Answer;
 use table::sound::TableCheck;
@@ -20,7 +21,7 @@ pub fn close(t: &mut [u8], c: Client)
     requires { ⌜ (length (now t) ≡ bytes) × (c .0 < clients) ⌝ }
     ensures { λ _. ⌜ now (t .exit) ≡ closeBytes (low (now (t .entry))) (c .0) ++ high (now (t .entry)) ⌝ }
 {
-    transactions::close(&mut t[0..40960], c);
+    transactions::close(&mut t[0..Table::LOWER], c);
 }
 
 pub fn yields(t: &mut [u8], client: u8) -> Answer

@@ -12,7 +12,7 @@ use Rattle.lists.proofs.Cases.{cases}
 use Rattle.lists.proofs.Replaced.{replaced-length, replaced-here, replaced-other}
 use Rattle.updates.specs.declared.kind.Kind.the-variants.{Time}
 use Rattle.entries.specs.declared.entry.Entry.{Entry}
-use Rattle.entries.specs.Sizes.{updates, bytes, bibs}
+use Rattle.entries.specs.Sizes.{updates, bytes, bibRange}
 use Rattle.entries.specs.Stored.{entry, stored, kindAfter, decoded}
 use Rattle.entries.specs.Entries.{entryAt, wrote}
 use Rattle.entries.proofs.Stored.{stored-length, decoded-stored}
@@ -25,7 +25,7 @@ module _ (t : List ℕ) (n : ℕ) (e : Entry) (h : length t ≡ bytes) (l : n < 
   unfolding wrote
   wrote-length = replaced-length t (stored e) (6 * n) 6 (room t n h l) (stored-length e) ∙ h
 
-  pub entry-same : e .bib < bibs → entryAt (wrote t n e) n ≡ e
+  pub entry-same : e .bib < bibRange → entryAt (wrote t n e) n ≡ e
   unfolding entryAt wrote
   entry-same b = ap decoded (replaced-here t (stored e) (6 * n) 6 (room t n h l) (stored-length e)) ∙ decoded-stored e b
 
@@ -35,7 +35,7 @@ module _ (t : List ℕ) (n : ℕ) (e : Entry) (m : ℕ) (h : length t ≡ bytes)
   entry-other o = ap decoded (replaced-other t (stored e) 6 n m (room t n h l) (stored-length e) o)
 
   -- the two as one: the entries are the old ones changed at n
-  pub entry-wrote : e .bib < bibs → entryAt (wrote t n e) m ≡ changed (entryAt t) n e m
+  pub entry-wrote : e .bib < bibRange → entryAt (wrote t n e) m ≡ changed (entryAt t) n e m
   entry-wrote b =
       cases (eqb m n)
       (λ q. rw (q, eqb-true m n q) (entry-same t n e h l b))

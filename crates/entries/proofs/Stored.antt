@@ -9,7 +9,7 @@ use Rattle.updates.specs.Kinds.{kindNumber}
 use Rattle.updates.specs.declared.kind.Kind.{Kind}
 use Rattle.updates.specs.declared.kind.Kind.the-variants.{Time, Earliest, Penalty, Strike}
 use Rattle.entries.specs.declared.entry.Entry.{Entry}
-use Rattle.entries.specs.Sizes.{bibs}
+use Rattle.entries.specs.Sizes.{bibRange}
 use Rattle.entries.specs.Stored.{stored, kindAfter, decoded}
 
 pub stored-length : (e : Entry) → length (stored e) ≡ 6
@@ -47,7 +47,7 @@ bib-back b = omega arith
 v-back : (v : ℕ) → v % 256 + 256 * (v / 256 % 256) + 65536 * (v / 65536 % 256) + 16777216 * (v / 16777216) ≡ v
 v-back v = omega arith
 
-pub decoded-stored : (e : Entry) → e .bib < bibs → decoded (stored e) ≡ e
+pub decoded-stored : (e : Entry) → e .bib < bibRange → decoded (stored e) ≡ e
 unfolding stored decoded
 decoded-stored e h =
     let c = e .client in

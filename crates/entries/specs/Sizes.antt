@@ -13,6 +13,6 @@ bytes = 24576
 abbrev pub clients : ℕ
 clients = 16
 
--- a bib has ten bits, room for "bibs 0 to 999"
-abbrev pub bibs : ℕ
-bibs = 1024
+-- what a bib's ten bits hold; "bibs 0 to 999" are in it
+abbrev pub bibRange : ℕ
+bibRange = 1024

@@ -7,3 +7,11 @@ pub struct Entry {
     pub bib: u16,
     pub v: u32,
 }
+
+impl Entry {
+    // docs/CELLS.md: six bytes an entry
+    pub const BYTES: usize = 6;
+
+    // 01: "4,096 updates at most"
+    pub const MOST: u16 = 4096;
+}

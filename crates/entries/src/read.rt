@@ -12,9 +12,9 @@ pub fn read(t: &[u8], n: u16) -> Entry
     requires { ⌜ length (now t) ≡ bytes ⌝ }
     ensures { λ e. ⌜ e ≡ entryAt (now (t .entry)) n ⌝ }
 {
-    if n < 4096 {
-        let at = 6 * (n as usize);
-        let end = at + 6;
+    if n < Entry::MOST {
+        let at = Entry::BYTES * (n as usize);
+        let end = at + Entry::BYTES;
         return load(&t[at..end]);
     }
     Entry {

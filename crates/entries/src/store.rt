@@ -3,7 +3,7 @@ ghost use mathlib.Core.Path.{_≡_};
 ghost use Prim.Native.Nat.{_-_, _<_};
 ghost use lib.ListN.{length};
 ghost use Rattle.updates.specs.Kinds.{kindNumber};
-ghost use Rattle.entries.specs.Sizes.{clients, bibs};
+ghost use Rattle.entries.specs.Sizes.{clients, bibRange};
 ghost use Rattle.entries.specs.Stored.{entry, stored};
 use updates::kind::Kind;
 
@@ -15,7 +15,7 @@ fn two_bits(kind: Kind) -> u8
 }
 
 pub fn store(p: &mut [u8], kind: Kind, client: u8, bib: u16, v: u32)
-    requires { ⌜ (length (now p) ≡ 6) × (client < clients) × (bib < bibs) ⌝ }
+    requires { ⌜ (length (now p) ≡ 6) × (client < clients) × (bib < bibRange) ⌝ }
     ensures { λ _. ⌜ now (p .exit) ≡ stored (entry kind client bib v) ⌝ }
 {
     p[0] = (bib % 256) as u8;

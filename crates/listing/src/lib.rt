@@ -1,3 +1,2 @@
 // The listing of numbered entries, twelve bytes each, into a lent sheet. Knows no revision.
-pub mod line; // line.rt: a line put into twelve bytes
 pub mod lines; // lines.rt: the lines of some numbers put into a sheet

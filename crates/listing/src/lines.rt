@@ -6,7 +6,9 @@ ghost use Rattle.lists.specs.Lists.{replaced};
 ghost use Rattle.entries.specs.Sizes.{bytes};
 ghost use Rattle.entries.specs.Entries.{entryAt};
 ghost use Rattle.listing.specs.Lines.{line, sheet};
-use crate::line;
+use bundles::record::write;
+use bundles::sizes::Record;
+use updates::kind::number;
 
 // Line i is of update n.
 fn put(t: &[u8], n: u16, s: &mut [u8], i: usize)
@@ -15,9 +17,16 @@ fn put(t: &[u8], n: u16, s: &mut [u8], i: usize)
 {
     let e = entries::read::read(t, n);
     let kind = e.kind;
-    let at = 12 * i;
-    let end = at + 12;
-    line::write(&mut s[at..end], kind, e.client, e.bib, e.v, n as u32);
+    let at = Record::BYTES * i;
+    let end = at + Record::BYTES;
+    write(
+        &mut s[at..end],
+        number(kind),
+        e.client,
+        e.bib,
+        e.v,
+        n as u32,
+    );
 }
 
 // The lines of the first `count` numbers of `order`; the other bytes stay.

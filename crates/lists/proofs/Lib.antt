@@ -1,4 +1,4 @@
--- Laws of the words for lists, each said once, over variables.
+-- Laws of the words for lists, of rows, and of answers that a test picks, each said once, over variables.
 pub mod Cases
 pub mod Changed
 pub mod Sublists
@@ -9,3 +9,5 @@ pub mod Counts
 pub mod Grown
 pub mod Sums
 pub mod Replaced
+pub mod Rows
+pub mod Told

@@ -1,12 +1,12 @@
 -- The day kept on paper: 01, "The plain day and its line-up". The day of revisions, with what each update was.
 use Prim.Native.Nat.{ℕ}
-use mathlib.Core.Bool.{true, cond}
+use mathlib.Core.Bool.{true}
 use mathlib.Core.List.{List, [], _∷_}
-use lib.Dec.{eqb}
 use Rattle.lists.specs.Lists.{changed}
 use Rattle.updates.specs.declared.kind.Kind.{Kind}
 use Rattle.updates.specs.declared.kind.Kind.the-variants.{Time}
 use Rattle.updates.specs.declared.standing.Standing.{Standing}
+use Rattle.updates.specs.Applied as Applied
 use Rattle.updates.specs.Applied.{Update, applied, freshStanding}
 use Rattle.diagram.specs.Effects.{view}
 use Rattle.diagram.specs.Day as Day
@@ -23,11 +23,8 @@ pub record PlainDay : Type 0 where
 abbrev pub freshDay : PlainDay
 freshDay = record { day = Day.fresh; entries = λ n. record { kind = Time; client = 0; bib = 0; v = 0 } }
 
--- the updates of one bib among some numbers, in their order
 abbrev pub ofBib : (ℕ → Entry) → ℕ → List ℕ → List Update
-ofBib entries bib [] = []
-ofBib entries bib (n ∷ ns) =
-    cond (eqb (entries n .bib) bib) (record { kind = entries n .kind; v = entries n .v } ∷ ofBib entries bib ns) (ofBib entries bib ns)
+ofBib entries bib ns = Applied.ofBib (λ n. entries n .bib) (λ n. record { kind = entries n .kind; v = entries n .v }) bib ns
 
 -- "applied to the fresh values"
 abbrev pub standingOf : (ℕ → Entry) → ℕ → List ℕ → Standing

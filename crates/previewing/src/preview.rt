@@ -123,7 +123,7 @@ fn preview_sound(t: &[u8], joiner: u8, joinee: u8, bib: u16) -> Prospect
     requires { ⌜ (isTable (now t) ≡ true) × (length (now t) ≡ bytes) × (inRange (low (now t)) ≡ true) ⌝ }
     ensures { λ p. ⌜ p ≡ previewOut (now (t .entry)) joiner joinee bib ⌝ }
 {
-    let found = check_preview(&t[0..40960], joiner, joinee, bib);
+    let found = check_preview(&t[0..Table::LOWER], joiner, joinee, bib);
     let PairCheck::Allowed(a, b) = found else {
         return refused(found.code());
     };

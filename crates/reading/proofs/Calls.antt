@@ -19,11 +19,6 @@ use Rattle.table.specs.declared.event.EventCheck.the-variants as event
 use Rattle.table.proofs.Calls.{client-is, given-is, event-cond}
 use Rattle.reading.specs.Checks.{queryCheck}
 
--- a refusal is passed on
-pub event-ends : (f q : EventCheck) (k : ℕ) (rest : Client → Revision → EventCheck) → f ≡ q → f ≡ event.Refused k → f ≡ onEvent q event.Refused rest
-unfolding onEvent
-event-ends f q k rest e h = h ∙ rw (sym e ∙ h)
-
 -- the call on bytes that are no table
 pub no-query : (t : List ℕ) → isTable t ≡ false → (c n b : ℕ) → refused t 1 ≡ queryOut t c n b
 unfolding queryOut

@@ -17,6 +17,7 @@ use crate::standing::standing_at;
 use crate::standing::tell;
 use fields::table::Client;
 use fields::table::Revision;
+use fields::table::Table;
 use table::answer::Reading;
 use table::bib;
 use table::bib::BibCheck;
@@ -31,7 +32,7 @@ fn record(t: &mut [u8], c: Client, r: Revision)
     requires { ⌜ (length (now t) ≡ bytes) × (c .0 < clients) × (r .0 < revisions) ⌝ }
     ensures { λ _. ⌜ now (t .exit) ≡ queryBytes (low (now (t .entry))) (c .0) (r .0) ++ high (now (t .entry)) ⌝ }
 {
-    revisions::record::query(&mut t[0..40960], c, r);
+    revisions::record::query(&mut t[0..Table::LOWER], c, r);
 }
 
 // Checks 2 to 8, on the lower half.
@@ -54,7 +55,7 @@ fn check_query(t: &[u8], client: u8, revision: u8, bib: u16) -> EventCheck
     requires { ⌜ length (now t) ≡ bytes ⌝ }
     ensures { λ a. ⌜ (a ≡ queryCheck (low (now (t .entry))) client revision bib) × eventIn a ⌝ }
 {
-    check_lower(&t[0..40960], client, revision, bib)
+    check_lower(&t[0..Table::LOWER], client, revision, bib)
 }
 
 // The call on bytes that are a table.

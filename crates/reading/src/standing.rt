@@ -9,7 +9,9 @@ ghost use Rattle.updates.specs.Effect.{stateOf, valueIn};
 ghost use Rattle.table.specs.Halves.{bytes, low};
 ghost use Rattle.table.specs.Calls.{standingAt};
 use fields::table::Revision;
+use fields::table::Table;
 use table::answer::Reading;
+use table::sizes::Whole;
 use table::visible::visible;
 use updates::standing::Standing;
 use updates::standing::State;
@@ -40,11 +42,11 @@ pub fn tell(standing: Standing) -> Reading
 }
 
 // The standing of a bib after the updates visible at r.
-pub fn standing_at(t: &[u8], r: Revision, bib: u16) -> Standing
+pub(crate) fn standing_at(t: &[u8], r: Revision, bib: u16) -> Standing
     requires { ⌜ (length (now t) ≡ bytes) × (inRange (low (now t)) ≡ true) × (r .0 < revisions) ⌝ }
     ensures { λ s. ⌜ s ≡ standingAt (now (t .entry)) (r .0) bib ⌝ }
 {
     let mut out = order::links::room();
     let n = visible(t, r, &mut out);
-    entries::standing::standing(&t[40960..65536], &out, n, bib)
+    entries::standing::standing(&t[Table::LOWER..Whole::BYTES], &out, n, bib)
 }

@@ -1,35 +1,29 @@
 -- What a good file is: its header and its length fit, and each of its records is whole.
 use Prim.Native.Nat.{ℕ, _+_, _*_, _≤_, _<_}
-use mathlib.Core.Bool.{Bool, false, cond}
+use mathlib.Core.Bool.{false}
 use mathlib.Core.Path.{_≡_, sym, _∙_, ap}
 use mathlib.Core.List.{List}
 use native.Mathlib.Omega.{arith}
 use lib.Dec.{eqb, ltb}
 use lib.ListN.{length, take, drop}
 use borrow.Author.Tests.{ltb-false, eqb-true, not-false, le-leb}
-use Rattle.lists.proofs.Cases.{cases, or-false}
+use Rattle.lists.proofs.Cases.{or-false}
+use Rattle.lists.proofs.Told.{failed}
 use Rattle.records.specs.File.{count, offset, isBad, fileCheck}
 use Rattle.records.specs.Record.{stepAt, stepOf}
 use Rattle.records.specs.declared.file.FileCheck.the-variants.{Good, Bad}
 
-bad-not-good : (n : ℕ) → Bad ≡ Good n → ⊥
-bad-not-good n e = let z : _≡_ {A = ℕ} 0 1 = cc in omega arith
-
 module _ (f : List ℕ) (n : ℕ) (h : fileCheck f ≡ Good n) where
-  not-bad : isBad f ≡ false
+  good : (isBad f ≡ false) × (Good (count f) ≡ Good n)
   unfolding fileCheck
-  not-bad =
-      cases (isBad f)
-      (λ e. absurd (bad-not-good n (sym (ap (λ (b : Bool). cond b Bad (Good (count f))) e) ∙ h)))
-      (λ e. e)
+  good = failed (isBad f) Bad (Good (count f)) (Good n) (λ e. cc) h
 
   pub count-is : count f ≡ n
-  unfolding fileCheck
-  count-is = let g : Good (count f) ≡ Good n = sym (ap (λ (b : Bool). cond b Bad (Good (count f))) not-bad) ∙ h in cc
+  count-is = cc (good .1)
 
   pub header-fits : (8 ≤ offset f) × (offset f + 12 * n ≡ length f) × (length f ≤ 65536)
   header-fits =
-      let a = or-false (ltb (length f) 8) _ not-bad in
+      let a = or-false (ltb (length f) 8) _ (good .0) in
       let b = or-false (ltb 65536 (length f)) _ (a .1) in
       let c = or-false (ltb (offset f) 8) _ (b .1) in
       let e = eqb-true (offset f + 12 * count f) (length f) (not-false (eqb (offset f + 12 * count f) (length f)) (c .1)) in

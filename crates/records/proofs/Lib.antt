@@ -1,4 +1,4 @@
--- Laws that belong to no one function, and examples.
+-- Laws of a number and its bytes, and of what a good file is; and examples.
 pub mod Widths
 pub mod Good
 pub mod Examples

@@ -1,6 +1,7 @@
 // A step of a day, and the step of a record by its index.
 ghost use mathlib.Core.Path.{_≡_};
 ghost use Rattle.records.specs.Record.{stepAt};
+use crate::file::File;
 use crate::numbers::read;
 use crate::record::decode;
 
@@ -28,11 +29,11 @@ pub enum Step {
 pub fn step_at(f: &[u8], i: u32) -> Step
     ensures { λ s. ⌜ s ≡ stepAt (now (f .entry)) i ⌝ }
 {
-    if f.len() < 8 {
+    if f.len() < File::HEADER {
         return Step::Unknown;
     }
-    let at = read(&f[4..8]) + 12 * (i as u64);
-    let end = at + 12;
+    let at = read(&f[4..8]) + File::RECORD * (i as u64);
+    let end = at + File::RECORD;
     if end > f.len() as u64 {
         return Step::Unknown;
     }

@@ -1,4 +1,4 @@
--- Laws that belong to no one function, and examples.
+-- Laws of how long the printed day is, of one record further, of a fresh table, and of what a buffer is left with; and examples.
 pub mod Bounds
 pub mod Grown
 pub mod Fresh

@@ -24,12 +24,10 @@ use Rattle.table.specs.Found.{onEvent, onKind}
 use Rattle.table.specs.Checks.{placeCheck, turnCheck}
 use Rattle.table.proofs.Calls.{client-is, event-cond, given-is}
 use Rattle.sending.specs.Bundles.{Going}
-use Rattle.sending.specs.declared.bundle.FitCheck.the-variants.{Refused}
 use Rattle.entering.specs.Checks.{updateCheck}
 use Rattle.entering.specs.declared.update.UpdateCheck.{UpdateCheck}
 use Rattle.entering.specs.declared.update.UpdateCheck.the-variants as update
 use Rattle.entering.proofs.Calls as Calls
-use Rattle.sending.proofs.Fit.{update-refused}
 use Rattle.sending.proofs.Sent.{refused-settled}
 
 -- the first update's checks, one by one

@@ -1,5 +1,5 @@
 -- 1, 5 and 9 of an entry from the counts alone: an update that fits is taken, and one that does not is refused so.
-use Prim.Native.Nat.{ℕ, _+_, _<_, _≤_}
+use Prim.Native.Nat.{ℕ, _<_, _≤_}
 use mathlib.Core.Bool.{Bool, true, false, cond, not}
 use mathlib.Core.Path.{_≡_, refl, sym, _∙_, ap}
 use mathlib.Core.List.{List, _++_}
@@ -7,6 +7,7 @@ use native.Mathlib.Omega.{arith}
 use lib.Dec.{ltb}
 use borrow.Author.Tests.{le-ltb, lt-ltb, ltb-false, ltb-true}
 use Rattle.lists.proofs.Cases.{cases}
+use Rattle.lists.proofs.Told.{Told, told}
 use Rattle.updates.specs.Kinds.{kindCheck, badBib}
 use Rattle.updates.specs.declared.kind.Kind.{Kind}
 use Rattle.updates.specs.declared.kind.KindCheck.{KindCheck}
@@ -15,13 +16,14 @@ use Rattle.bundles.specs.declared.entry.Entry.{Entry}
 use Rattle.cells.specs.Sizes.{updates}
 use Rattle.cells.specs.Checks.{logFull}
 use Rattle.cells.specs.Steps.{updateBytes}
+use Rattle.checks.specs.declared.log.LogCheck.the-variants as log
 use Rattle.entries.specs.Stored.{entry}
 use Rattle.entries.specs.Entries.{wrote}
 use Rattle.table.specs.Halves.{low, high, cellsOf}
 use Rattle.table.specs.Answers.{Out, check, named, refused, taken}
 use Rattle.table.specs.Calls.{updateOut}
 use Rattle.table.specs.Found.{onKind}
-use Rattle.sending.specs.Bundles.{Going, entered, entryCheck, fitCheck, onFit, ownCheck}
+use Rattle.sending.specs.Bundles.{Going, entered, entryCheck, fitCheck, onFit, ownCheck, roomCheck}
 use Rattle.sending.specs.declared.bundle.FitCheck.{FitCheck}
 use Rattle.sending.specs.declared.bundle.FitCheck.the-variants.{Fits, Refused}
 use Rattle.sending.proofs.Going.{few-own, halves}
@@ -44,6 +46,10 @@ own-over own h = rw (lt-ltb updates own h)
 
 pub own-few : (own : ℕ) → ownCheck own ≡ Fits → own ≤ updates
 own-few own e = cases (ltb updates own) (λ h. fits-not 1 (sym (own-over own (ltb-true updates own h)) ∙ e)) (λ h. ltb-false updates own h)
+
+pub room-told : (taken : ℕ) → Told (ltb taken updates) log.Room log.Full (roomCheck taken)
+unfolding roomCheck
+room-told taken = told _ _ _ (λ h. cc)
 
 -- 5 and 9 of an entry
 abbrev rest-of : KindCheck → Bool → FitCheck

@@ -29,7 +29,6 @@ use Rattle.entries.specs.Stored.{entry}
 use Rattle.entries.specs.Entries.{wrote}
 use Rattle.entries.proofs.Entries.{wrote-length}
 use Rattle.table.specs.Halves.{bytes, low, high, cellsOf, isTable}
-use Rattle.table.specs.Answers.{taken}
 use Rattle.table.specs.Found.{onKind}
 use Rattle.table.proofs.Halves.{low-of}
 use Rattle.sending.specs.Bundles.{Going, entered}

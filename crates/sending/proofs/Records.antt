@@ -10,7 +10,6 @@ use Rattle.updates.specs.Kinds.{badBib}
 use Rattle.bundles.specs.declared.entry.Entry.{Entry}
 use Rattle.bundles.specs.Records.{entriesFrom, entryAt}
 use Rattle.bundles.proofs.First.{entries-all, entries-next, entries-none}
-use Rattle.cells.specs.Sizes.{updates}
 use Rattle.table.specs.Halves.{cellsOf}
 use Rattle.table.specs.Answers.{taken}
 use Rattle.sending.specs.Bundles.{Going, entered, enteredAll, fitCheck, onFit, ownCheck, sentCheck}

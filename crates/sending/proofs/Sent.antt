@@ -1,5 +1,5 @@
 -- Updates sent one by one by a client that may go on: the earliest refusal, or the bytes at the end.
-use Prim.Native.Nat.{ℕ, suc, _+_, _<_, _≤_}
+use Prim.Native.Nat.{ℕ, suc, _<_, _≤_}
 use mathlib.Core.Bool.{false, cond}
 use mathlib.Core.Path.{_≡_, refl, sym, _∙_, ap}
 use mathlib.Core.List.{List, [], _∷_, _++_}
@@ -16,7 +16,6 @@ use Rattle.table.specs.Calls.{sentOut, settled, yieldOut}
 use Rattle.sending.specs.Bundles.{Going, entered, enteredAll, fitCheck, onFit, ownCheck, sentCheck}
 use Rattle.sending.specs.declared.bundle.FitCheck.{FitCheck}
 use Rattle.sending.specs.declared.bundle.FitCheck.the-variants.{Fits, Refused}
-use Rattle.entering.specs.declared.update.UpdateCheck.the-variants as update
 use Rattle.entering.proofs.Calls.{no-update, no-yield}
 use Rattle.sending.proofs.Going.{few-own, sound-is, more-taken, more-own, going-next}
 use Rattle.sending.proofs.Fit.{fits-not, on-fits, own-fits, own-over, own-few, Fit, fit, update-taken, update-refused}

@@ -10,6 +10,8 @@ use Rattle.updates.specs.declared.kind.KindCheck.the-variants as kinds
 use Rattle.bundles.specs.declared.entry.Entry.{Entry}
 use Rattle.cells.specs.Sizes.{updates}
 use Rattle.cells.specs.Checks.{isClient, givenOut, joined, openElsewhere, busyByOther, stale}
+use Rattle.checks.specs.declared.log.LogCheck.{LogCheck}
+use Rattle.checks.specs.declared.log.LogCheck.the-variants as log
 use Rattle.cells.specs.Steps.{updateBytes}
 use Rattle.entries.specs.Stored.{entry}
 use Rattle.entries.specs.Entries.{wrote}
@@ -35,6 +37,10 @@ entryCheck k bib = cond (badBib bib) kinds.Unknown (kindCheck k)
 -- 1 of the next call, where the revision has so many updates of its own. More than the log holds: on no day.
 unfoldable pub ownCheck : ℕ → FitCheck
 ownCheck own = cond (ltb updates own) (Refused 1) Fits
+
+-- 9 of an entry, where so many updates are taken
+unfoldable pub roomCheck : ℕ → LogCheck
+roomCheck taken = cond (ltb taken updates) log.Room log.Full
 
 abbrev pub onFit : FitCheck → FitCheck → FitCheck
 onFit Fits rest = rest

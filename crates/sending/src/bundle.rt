@@ -10,26 +10,28 @@ ghost use Rattle.entering.specs.Checks.{updateCheck};
 ghost use Rattle.table.specs.Halves.{bytes, cellsOf, isTable, low};
 ghost use Rattle.table.specs.Answers.{left};
 ghost use Rattle.table.specs.Calls.{bundleOut, sentOut, settled};
-ghost use Rattle.sending.specs.Bundles.{Going, entered, enteredAll, entryCheck, fitCheck, fitCode, ownCheck, sentCheck};
+ghost use Rattle.sending.specs.Bundles.{Going, entered, enteredAll, entryCheck, fitCheck, fitCode, ownCheck, roomCheck, sentCheck};
 ghost use Rattle.sending.specs.declared.bundle.FitCheck.the-variants as fit;
 use bundles::check::BundleCheck;
 use bundles::check::check_bundle;
 use bundles::entry::Entry;
 use bundles::record::entry_at;
+use checks::log::LogCheck;
 use entering::update::UpdateCheck;
 use entering::update::check_update;
 use entering::update::put;
 use entering::yields::close;
 use fields::table::Client;
 use fields::table::Revision;
+use fields::table::Table;
 use table::answer::Answer;
-use table::bib;
 use table::bib::BibCheck;
+use table::bib::check_bib;
 use table::counts;
 use table::sound;
 use table::sound::TableCheck;
-use updates::kind;
 use updates::kind::KindCheck;
+use updates::kind::check_kind;
 
 // Whether the next entry, or the yield, is refused.
 pub enum FitCheck {
@@ -50,40 +52,50 @@ impl FitCheck {
 }
 
 // 5 of an entry.
-fn check_entry(number: u8, n: u16) -> KindCheck
-    ensures { λ r. ⌜ r ≡ entryCheck number n ⌝ }
+fn check_entry(kind: u8, bib: u16) -> KindCheck
+    ensures { λ r. ⌜ r ≡ entryCheck kind bib ⌝ }
 {
-    let BibCheck::Known = bib::check_bib(n) else {
+    let BibCheck::Known = check_bib(bib) else {
         return KindCheck::Unknown;
     };
-    kind::check(number)
+    check_kind(kind)
 }
 
 // Code 1 of the next call, once an own list is longer than the log. No day makes such a list.
 fn check_own(own: usize) -> FitCheck
     ensures { λ r. ⌜ r ≡ ownCheck own ⌝ }
 {
-    if 4096 < own {
+    if Table::UPDATES < own {
         return FitCheck::Refused(1);
     }
     FitCheck::Fits
 }
 
+// 9 of an entry, with so many updates taken.
+fn check_room(taken: usize) -> LogCheck
+    ensures { λ r. ⌜ r ≡ roomCheck taken ⌝ }
+{
+    if taken < Table::UPDATES {
+        return LogCheck::Room;
+    }
+    LogCheck::Full
+}
+
 // 1, 5 and 9 of an entry, with so many updates taken, so many of them the revision's own.
-fn check_fit(number: u8, n: u16, taken: usize, own: usize) -> FitCheck
-    ensures { λ r. ⌜ r ≡ fitCheck number n taken own ⌝ }
+fn check_fit(kind: u8, bib: u16, taken: usize, own: usize) -> FitCheck
+    ensures { λ r. ⌜ r ≡ fitCheck kind bib taken own ⌝ }
 {
     let found = check_own(own);
     let FitCheck::Fits = found else {
         return found;
     };
-    let KindCheck::Known(k) = check_entry(number, n) else {
+    let KindCheck::Known(k) = check_entry(kind, bib) else {
         return FitCheck::Refused(5);
     };
-    if taken < 4096 {
-        return FitCheck::Fits;
-    }
-    FitCheck::Refused(9)
+    let LogCheck::Room = check_room(taken) else {
+        return FitCheck::Refused(9);
+    };
+    FitCheck::Fits
 }
 
 // The earliest refusal of the updates, and of the yield behind them.
@@ -108,7 +120,7 @@ fn enter(t: &mut [u8], c: Client, r: Revision, e: Entry)
     requires { ⌜ Going (now t) (c .0) (r .0) × (cellsOf (now t) .updates < updates) × (e .bib < 1000) ⌝ }
     ensures { λ _. ⌜ now (t .exit) ≡ entered (now (t .entry)) (c .0) (r .0) e ⌝ }
 {
-    let KindCheck::Known(k) = kind::check(e.kind) else {
+    let KindCheck::Known(k) = check_kind(e.kind) else {
         return;
     };
     put(t, c, r, k, e.bib, e.v);

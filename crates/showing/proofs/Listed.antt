@@ -1,12 +1,11 @@
 -- The end of a list: too short a sheet, or the lines of what was listed.
 use Prim.Native.Nat.{ℕ, _*_, _≤_}
-use mathlib.Core.Bool.{true, false}
-use mathlib.Core.Path.{_≡_, sym, _∙_, ap}
+use mathlib.Core.Path.{_≡_, _∙_, ap}
 use mathlib.Core.List.{List}
-use native.Mathlib.Omega.{arith}
 use lib.Dec.{ltb}
 use lib.ListN.{length, take}
 use borrow.Author.Tests.{ltb-false}
+use Rattle.lists.proofs.Told.{Told, told}
 use Rattle.cells.specs.Order.{order}
 use Rattle.entries.specs.Sizes as Upper
 use Rattle.entries.specs.Entries.{entryAt}
@@ -16,31 +15,23 @@ use Rattle.table.specs.Answers.{Out, check, refused, taken}
 use Rattle.table.specs.Calls.{shownOut}
 use Rattle.showing.specs.Checks.{sheetCheck}
 use Rattle.showing.specs.declared.list.SheetCheck.the-variants.{Fits, Short}
-use Rattle.table.proofs.Checks.{held, failed}
 use Rattle.table.proofs.Halves.{high-whole}
 
-different : Short ≡ Fits → ⊥
-different e = let z : _≡_ {A = ℕ} 0 1 = cc in omega arith
-
 -- what the check of the sheet found
-is-short : (m n : ℕ) → sheetCheck m n ≡ Short → ltb m (12 * n) ≡ true
+sheet-told : (m n : ℕ) → Told (ltb m (12 * n)) Short Fits (sheetCheck m n)
 unfolding sheetCheck
-is-short m n e = held (ltb m (12 * n)) Short Fits Short (λ d. different (sym d)) e .0
-
-is-long : (m n : ℕ) → sheetCheck m n ≡ Fits → ltb m (12 * n) ≡ false
-unfolding sheetCheck
-is-long m n e = failed (ltb m (12 * n)) Short Fits Fits different e .0
+sheet-told m n = told _ _ _ (λ h. cc)
 
 pub has-room : (m n : ℕ) → sheetCheck m n ≡ Fits → 12 * n ≤ m
-has-room m n e = ltb-false m (12 * n) (is-long m n e)
+has-room m n e = ltb-false m (12 * n) (sheet-told m n .fails e)
 
 -- too short a sheet, and one with room
 pub put-short : (s : List ℕ) (n : ℕ) (rest : Out) → sheetCheck (length s) n ≡ Short → refused s 12 ≡ check (ltb (length s) (12 * n)) 12 s rest
-put-short s n rest e = rw (is-short (length s) n e)
+put-short s n rest e = rw (sheet-told (length s) n .holds e)
 
 pub put-done : (t s l q : List ℕ) (n : ℕ) → length t ≡ bytes → sheetCheck (length s) n ≡ Fits → q ≡ sheet (entryAt (take Upper.bytes (high t))) l s
     → taken q n ≡ check (ltb (length s) (12 * n)) 12 s (taken (sheet (entryAt (high t)) l s) n)
-put-done t s l q n h e eq = rw (is-long (length s) n e) (ap (λ (x : List ℕ). taken x n) (eq ∙ ap (λ (u : List ℕ). sheet (entryAt u) l s) (high-whole t h)))
+put-done t s l q n h e eq = rw (sheet-told (length s) n .fails e) (ap (λ (x : List ℕ). taken x n) (eq ∙ ap (λ (u : List ℕ). sheet (entryAt u) l s) (high-whole t h)))
 
 -- the lines are of what is visible
 pub shown : (t s l : List ℕ) (r n : ℕ) (o : Out) → n ≡ length (order (cellsOf t) r) → l ≡ order (cellsOf t) r

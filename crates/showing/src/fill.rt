@@ -12,6 +12,7 @@ use checks::joined::JoinedCheck;
 use checks::joined::check_joined;
 use fields::read;
 use fields::table::Revision;
+use fields::table::Table;
 use table::answer::Level;
 use table::sound;
 use table::sound::TableCheck;
@@ -59,5 +60,5 @@ pub fn fill(t: &[u8], revision: u8) -> Level
     let TableCheck::Sound = sound::check_table(t) else {
         return refused(1);
     };
-    fill_in(&t[0..40960], revision)
+    fill_in(&t[0..Table::LOWER], revision)
 }

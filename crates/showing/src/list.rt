@@ -12,10 +12,13 @@ ghost use Rattle.table.specs.Halves.{bytes, high, isTable, low};
 ghost use Rattle.table.specs.Answers.{check, left, taken};
 ghost use Rattle.table.specs.Calls.{listOut, shownOut};
 ghost use Rattle.showing.specs.Checks.{sheetCheck};
+use bundles::sizes::Record;
 use fields::table::Revision;
+use fields::table::Table;
 use table::answer::Answer;
 use table::idle;
 use table::idle::IdleCheck;
+use table::sizes::Whole;
 use table::sound;
 use table::sound::TableCheck;
 use table::visible::visible;
@@ -31,7 +34,7 @@ fn check_sheet(sheet: &[u8], n: usize) -> SheetCheck
     requires { ⌜ n ≤ updates ⌝ }
     ensures { λ r. ⌜ r ≡ sheetCheck (length (now (sheet .entry))) n ⌝ }
 {
-    if sheet.len() < 12 * n {
+    if sheet.len() < Record::BYTES * n {
         SheetCheck::Short
     } else {
         SheetCheck::Fits
@@ -46,7 +49,7 @@ fn put(t: &[u8], order: &[u16], n: usize, sheet: &mut [u8]) -> Answer
     let SheetCheck::Fits = check_sheet(sheet, n) else {
         return Answer { code: 12, value: 0 };
     };
-    listing::lines::lines(&t[40960..65536], order, n, sheet);
+    listing::lines::lines(&t[Table::LOWER..Whole::BYTES], order, n, sheet);
     Answer {
         code: 0,
         value: n as u32,
@@ -68,7 +71,7 @@ fn list_sound(t: &[u8], revision: u8, sheet: &mut [u8]) -> Answer
     requires { ⌜ (isTable (now t) ≡ true) × (length (now t) ≡ bytes) × (inRange (low (now t)) ≡ true) ⌝ }
     ensures { λ a. ⌜ left a (now (sheet .exit)) ≡ listOut (now (t .entry)) revision (now (sheet .entry)) ⌝ }
 {
-    let found = idle::check_idle(&t[0..40960], revision);
+    let found = idle::check_idle(&t[0..Table::LOWER], revision);
     let IdleCheck::Idle(r) = found else {
         return Answer {
             code: found.code(),

@@ -3,11 +3,11 @@ use Prim.Native.Nat.{ℕ}
 use mathlib.Core.Bool.{Bool, true, false, cond, _&&_}
 use mathlib.Core.Path.{_≡_, sym, ap}
 use mathlib.Core.List.{List}
-use native.Mathlib.Omega.{arith}
 use lib.Dec.{eqb}
 use lib.ListN.{length}
 use borrow.Author.Tests.{eq-eqb, ne-eqb, eqb-true}
 use Rattle.lists.proofs.Cases.{and-true}
+use Rattle.lists.proofs.Told.{held, failed, Told, told}
 use Rattle.cells.specs.Range.{inRange}
 use Rattle.checks.specs.Answers.{rangeCheck}
 use Rattle.checks.specs.declared.range.RangeCheck.the-variants as range
@@ -15,7 +15,6 @@ use Rattle.table.specs.Halves.{bytes, low, isTable}
 use Rattle.table.specs.Checks.{lengthCheck, tableCheck}
 use Rattle.table.specs.declared.sound.LengthCheck.the-variants as buffer
 use Rattle.table.specs.declared.sound.TableCheck.the-variants as table
-use Rattle.table.proofs.Checks.{held, failed}
 
 -- the length
 pub same-length : (t : List ℕ) → length t ≡ bytes → buffer.Right ≡ lengthCheck t
@@ -26,16 +25,12 @@ pub other-length : (t : List ℕ) → (length t ≡ bytes → ⊥) → buffer.Wr
 unfolding lengthCheck
 other-length t h = sym (ap (λ b. cond b buffer.Right buffer.Wrong) (ne-eqb (length t) bytes h))
 
-pub right : (t : List ℕ) → lengthCheck t ≡ buffer.Right → eqb (length t) bytes ≡ true
+pub length-told : (t : List ℕ) → Told (eqb (length t) bytes) buffer.Right buffer.Wrong (lengthCheck t)
 unfolding lengthCheck
-right t e = held (eqb (length t) bytes) _ _ _ (λ h. let z : _≡_ {A = ℕ} 0 1 = cc in omega arith) e .0
-
-pub wrong : (t : List ℕ) → lengthCheck t ≡ buffer.Wrong → eqb (length t) bytes ≡ false
-unfolding lengthCheck
-wrong t e = failed (eqb (length t) bytes) _ _ _ (λ h. let z : _≡_ {A = ℕ} 0 1 = cc in omega arith) e .0
+length-told t = told _ _ _ (λ h. cc)
 
 pub long : (t : List ℕ) → lengthCheck t ≡ buffer.Right → length t ≡ bytes
-long t e = eqb-true (length t) bytes (right t e)
+long t e = eqb-true (length t) bytes (length-told t .holds e)
 
 -- the length, then the cells
 and-left : {A : Type 0} (a b : Bool) (x y : A) → a ≡ false → y ≡ cond (a && b) x y
@@ -49,33 +44,33 @@ and-both a b x y e f = rw (e, f)
 
 pub wrong-length : (t : List ℕ) → lengthCheck t ≡ buffer.Wrong → table.Damaged ≡ tableCheck t
 unfolding tableCheck isTable
-wrong-length t e = and-left _ _ _ _ (wrong t e)
+wrong-length t e = and-left _ _ _ _ (length-told t .fails e)
 
 pub wrong-cells : (t : List ℕ) → lengthCheck t ≡ buffer.Right → rangeCheck (low t) ≡ range.Damaged → table.Damaged ≡ tableCheck t
 unfolding tableCheck isTable rangeCheck
-wrong-cells t h e = and-right _ _ _ _ (right t h) (failed _ _ _ _ (λ d. let z : _≡_ {A = ℕ} 0 1 = cc in omega arith) e .0)
+wrong-cells t h e = and-right _ _ _ _ (length-told t .holds h) (failed _ _ _ _ (λ d. cc) e .0)
 
 pub right-cells : (t : List ℕ) → lengthCheck t ≡ buffer.Right → rangeCheck (low t) ≡ range.Sound → table.Sound ≡ tableCheck t
 unfolding tableCheck isTable rangeCheck
-right-cells t h e = and-both _ _ _ _ (right t h) (held _ _ _ _ (λ d. let z : _≡_ {A = ℕ} 0 1 = cc in omega arith) e .0)
+right-cells t h e = and-both _ _ _ _ (length-told t .holds h) (held _ _ _ _ (λ d. cc) e .0)
 
 -- what the calls go on with
 pub is-table : (t : List ℕ) → tableCheck t ≡ table.Sound → (isTable t ≡ true) × (length t ≡ bytes) × (inRange (low t) ≡ true)
 unfolding tableCheck isTable
 is-table t e =
-    let h = held (isTable t) _ _ _ (λ d. let z : _≡_ {A = ℕ} 0 1 = cc in omega arith) e .0 in
+    let h = held (isTable t) _ _ _ (λ d. cc) e .0 in
     let p = and-true (eqb (length t) bytes) (inRange (low t)) h in
     (h, eqb-true (length t) bytes (p .0), p .1)
 
 pub no-table : (t : List ℕ) → tableCheck t ≡ table.Damaged → isTable t ≡ false
 unfolding tableCheck
-no-table t e = failed (isTable t) _ _ _ (λ d. let z : _≡_ {A = ℕ} 0 1 = cc in omega arith) e .0
+no-table t e = failed (isTable t) _ _ _ (λ d. cc) e .0
 
 -- the range check of a lower half
 pub in-range : (d : List ℕ) → rangeCheck d ≡ range.Sound → inRange d ≡ true
 unfolding rangeCheck
-in-range d e = held (inRange d) _ _ _ (λ h. let z : _≡_ {A = ℕ} 0 1 = cc in omega arith) e .0
+in-range d e = held (inRange d) _ _ _ (λ h. cc) e .0
 
 pub out-of-range : (d : List ℕ) → rangeCheck d ≡ range.Damaged → inRange d ≡ false
 unfolding rangeCheck
-out-of-range d e = failed (inRange d) _ _ _ (λ h. let z : _≡_ {A = ℕ} 0 1 = cc in omega arith) e .0
+out-of-range d e = failed (inRange d) _ _ _ (λ h. cc) e .0

@@ -22,24 +22,18 @@ use Rattle.table.specs.declared.pair.PairCheck.{PairCheck}
 use Rattle.table.specs.declared.pair.PairCheck.the-variants as pair
 
 -- a check's answer taken apart is a test
-client-by : {A : Type 0} (b : Bool) (x : Client) (end : A) (rest : Client → A) → onClient (cond b (client.Known x) client.Unknown) end rest ≡ cond (not b) end (rest x)
-unfolding onClient
-client-by true x end rest = refl
-client-by false x end rest = refl
+unless : {A B : Type 0} (f : A → B) (b : Bool) (x y : A) → f (cond b x y) ≡ cond (not b) (f y) (f x)
+unless f true x y = refl
+unless f false x y = refl
 
 pub client-is : {A : Type 0} (c : ℕ) (end : A) (rest : Client → A) → onClient (clientCheck c) end rest ≡ cond (not (isClient c)) end (rest (record { 0 = c }))
-unfolding clientCheck
-client-is c end rest = client-by (isClient c) (record { 0 = c }) end rest
-
-given-by : {A : Type 0} (b : Bool) (x : Revision) (end : A) (rest : Revision → A) → onGiven (cond b (given.Given x) given.Never) end rest ≡ cond (not b) end (rest x)
-unfolding onGiven
-given-by true x end rest = refl
-given-by false x end rest = refl
+unfolding clientCheck onClient
+client-is c end rest = unless (λ z. onClient z end rest) (isClient c) (client.Known (record { 0 = c })) client.Unknown
 
 pub given-is : {A : Type 0} (d : List ℕ) (n : ℕ) (end : A) (rest : Revision → A)
     → onGiven (givenCheck d n) end rest ≡ cond (not (givenOut (cells d) n)) end (rest (record { 0 = n }))
-unfolding givenCheck
-given-is d n end rest = given-by (givenOut (cells d) n) (record { 0 = n }) end rest
+unfolding givenCheck onGiven
+given-is d n end rest = unless (λ z. onGiven z end rest) (givenOut (cells d) n) (given.Given (record { 0 = n })) given.Never
 
 -- what goes on after a test
 pub over : {A B : Type 0} (f : A → B) (b : Bool) (x y : A) → f (cond b x y) ≡ cond b (f x) (f y)

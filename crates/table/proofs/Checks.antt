@@ -1,13 +1,14 @@
 -- What the answer of each check that several calls share says. Those of the whole buffer, code 1, are in Buffer.antt.
 use Prim.Native.Nat.{ℕ, _<_}
 use mathlib.Core.Bool.{Bool, true, false, cond}
-use mathlib.Core.Path.{_≡_, refl}
+use mathlib.Core.Path.{_≡_}
 use mathlib.Core.List.{List}
 use native.Mathlib.Omega.{arith}
 use lib.Dec.{ltb}
 use borrow.Author.Tests.{ltb-true}
 use Rattle.updates.specs.Kinds.{badBib}
 use Rattle.lists.proofs.Cases.{and-true}
+use Rattle.lists.proofs.Told.{held, failed, Told, told}
 use Rattle.fields.specs.declared.table.Client.{Client}
 use Rattle.fields.specs.declared.table.Revision.{Revision}
 use Rattle.cells.specs.Sizes.{clients, revisions}
@@ -28,15 +29,6 @@ use Rattle.table.specs.Found.{onGiven}
 use Rattle.table.specs.declared.bib.BibCheck.the-variants as bib
 use Rattle.table.specs.declared.idle.IdleCheck.the-variants as idle
 
--- the answer is not the second one, so the test held; or not the first one, so it did not
-pub held : {A : Type 0} (test : Bool) (a b x : A) → (b ≡ x → ⊥) → cond test a b ≡ x → (test ≡ true) × (a ≡ x)
-held true a b x never e = (refl, e)
-held false a b x never e = absurd (never e)
-
-pub failed : {A : Type 0} (test : Bool) (a b x : A) → (a ≡ x → ⊥) → cond test a b ≡ x → (test ≡ false) × (b ≡ x)
-failed true a b x never e = absurd (never e)
-failed false a b x never e = (refl, e)
-
 -- code 2
 pub known : (n : ℕ) (x : Client) → clientCheck n ≡ client.Known x → x .0 < clients
 known n x e = let k = known-client n x e in omega arith
@@ -44,75 +36,51 @@ known n x e = let k = known-client n x e in omega arith
 -- code 5
 pub bib-known : (n : ℕ) → bibCheck n ≡ bib.Known → badBib n ≡ false
 unfolding bibCheck
-bib-known n e = failed (badBib n) _ _ _ (λ d. let z : _≡_ {A = ℕ} 0 1 = cc in omega arith) e .0
+bib-known n e = failed (badBib n) _ _ _ (λ d. cc) e .0
 
 pub bib-unknown : (n : ℕ) → bibCheck n ≡ bib.Unknown → badBib n ≡ true
 unfolding bibCheck
-bib-unknown n e = held (badBib n) _ _ _ (λ d. let z : _≡_ {A = ℕ} 0 1 = cc in omega arith) e .0
+bib-unknown n e = held (badBib n) _ _ _ (λ d. cc) e .0
 
 module _ (d : List ℕ) where
   -- code 3
   pub was-given : (n : ℕ) (x : Revision) → givenCheck d n ≡ given.Given x → x .0 < revisions
   unfolding givenCheck
   was-given n x e =
-      let p = held (givenOut (cells d) n) _ _ _ (λ d. let z : _≡_ {A = ℕ} 0 1 = cc in omega arith) e in
+      let p = held (givenOut (cells d) n) _ _ _ (λ d. cc) e in
       let v : x .0 ≡ n = cc (p .1) in
       let l = ltb-true n revisions (and-true (ltb n revisions) _ (p .0) .0) in
       omega arith
 
   -- code 4
-  pub is-out : (n : ℕ) → joinedCheck d n ≡ out.Out → joined (cells d) n ≡ false
+  pub joined-told : (n : ℕ) → Told (joined (cells d) n) out.Joined out.Out (joinedCheck d n)
   unfolding joinedCheck
-  is-out n e = failed (joined (cells d) n) _ _ _ (λ d. let z : _≡_ {A = ℕ} 0 1 = cc in omega arith) e .0
-
-  pub is-joined : (n : ℕ) → joinedCheck d n ≡ out.Joined → joined (cells d) n ≡ true
-  unfolding joinedCheck
-  is-joined n e = held (joined (cells d) n) _ _ _ (λ d. let z : _≡_ {A = ℕ} 0 1 = cc in omega arith) e .0
+  joined-told n = told _ _ _ (λ h. cc)
 
   -- code 6
-  pub clear : (c n : ℕ) → openCheck d c n ≡ transaction.Clear → openElsewhere (cells d) c n ≡ false
+  pub open-told : (c n : ℕ) → Told (openElsewhere (cells d) c n) transaction.Elsewhere transaction.Clear (openCheck d c n)
   unfolding openCheck
-  clear c n e = failed (openElsewhere (cells d) c n) _ _ _ (λ d. let z : _≡_ {A = ℕ} 0 1 = cc in omega arith) e .0
-
-  pub elsewhere : (c n : ℕ) → openCheck d c n ≡ transaction.Elsewhere → openElsewhere (cells d) c n ≡ true
-  unfolding openCheck
-  elsewhere c n e = held (openElsewhere (cells d) c n) _ _ _ (λ d. let z : _≡_ {A = ℕ} 0 1 = cc in omega arith) e .0
+  open-told c n = told _ _ _ (λ h. cc)
 
   -- code 7
-  pub free : (n : ℕ) → useCheck d n ≡ revision.Free → busy (cells d) n ≡ false
+  pub use-told : (n : ℕ) → Told (busy (cells d) n) revision.Busy revision.Free (useCheck d n)
   unfolding useCheck
-  free n e = failed (busy (cells d) n) _ _ _ (λ d. let z : _≡_ {A = ℕ} 0 1 = cc in omega arith) e .0
-
-  pub in-use : (n : ℕ) → useCheck d n ≡ revision.Busy → busy (cells d) n ≡ true
-  unfolding useCheck
-  in-use n e = held (busy (cells d) n) _ _ _ (λ d. let z : _≡_ {A = ℕ} 0 1 = cc in omega arith) e .0
+  use-told n = told _ _ _ (λ h. cc)
 
   -- code 7 of an update and a query
-  pub free-of-others : (c n : ℕ) → otherUseCheck d c n ≡ revision.Free → busyByOther (cells d) c n ≡ false
+  pub other-use-told : (c n : ℕ) → Told (busyByOther (cells d) c n) revision.Busy revision.Free (otherUseCheck d c n)
   unfolding otherUseCheck
-  free-of-others c n e = failed (busyByOther (cells d) c n) _ _ _ (λ d. let z : _≡_ {A = ℕ} 0 1 = cc in omega arith) e .0
-
-  pub in-use-by-other : (c n : ℕ) → otherUseCheck d c n ≡ revision.Busy → busyByOther (cells d) c n ≡ true
-  unfolding otherUseCheck
-  in-use-by-other c n e = held (busyByOther (cells d) c n) _ _ _ (λ d. let z : _≡_ {A = ℕ} 0 1 = cc in omega arith) e .0
+  other-use-told c n = told _ _ _ (λ h. cc)
 
   -- code 8
-  pub caught-up : (c n : ℕ) → staleCheck d c n ≡ event.CaughtUp → stale (cells d) c n ≡ false
+  pub stale-told : (c n : ℕ) → Told (stale (cells d) c n) event.Stale event.CaughtUp (staleCheck d c n)
   unfolding staleCheck
-  caught-up c n e = failed (stale (cells d) c n) _ _ _ (λ d. let z : _≡_ {A = ℕ} 0 1 = cc in omega arith) e .0
-
-  pub is-stale : (c n : ℕ) → staleCheck d c n ≡ event.Stale → stale (cells d) c n ≡ true
-  unfolding staleCheck
-  is-stale c n e = held (stale (cells d) c n) _ _ _ (λ d. let z : _≡_ {A = ℕ} 0 1 = cc in omega arith) e .0
+  stale-told c n = told _ _ _ (λ h. cc)
 
   -- code 11
-  pub may-join : (n m : ℕ) → joinableCheck d n m ≡ join.Joinable → joinable (cells d) n m ≡ true
+  pub joinable-told : (n m : ℕ) → Told (joinable (cells d) n m) join.Joinable join.Not (joinableCheck d n m)
   unfolding joinableCheck
-  may-join n m e = held (joinable (cells d) n m) _ _ _ (λ d. let z : _≡_ {A = ℕ} 0 1 = cc in omega arith) e .0
-
-  pub may-not : (n m : ℕ) → joinableCheck d n m ≡ join.Not → joinable (cells d) n m ≡ false
-  unfolding joinableCheck
-  may-not n m e = failed (joinable (cells d) n m) _ _ _ (λ d. let z : _≡_ {A = ℕ} 0 1 = cc in omega arith) e .0
+  joinable-told n m = told _ _ _ (λ h. cc)
 
 -- a revision that is idle was given out
 idle-of : (q : GivenCheck) (j b : Revision → Bool) (x : Revision)
@@ -120,8 +88,8 @@ idle-of : (q : GivenCheck) (j b : Revision → Bool) (x : Revision)
 unfolding onGiven
 idle-of given.Never j b x e = cc
 idle-of (given.Given r) j b x e =
-    let p = failed (j r) _ _ _ (λ h. let z : _≡_ {A = ℕ} 0 1 = cc in omega arith) e in
-    let q = failed (b r) _ _ _ (λ h. let z : _≡_ {A = ℕ} 0 1 = cc in omega arith) (p .1) in
+    let p = failed (j r) _ _ _ (λ h. cc) e in
+    let q = failed (b r) _ _ _ (λ h. cc) (p .1) in
     cc (q .1)
 
 pub idle-in : (d : List ℕ) (n : ℕ) (x : Revision) → idleCheck d n ≡ idle.Idle x → x .0 < revisions

@@ -6,17 +6,18 @@ ghost use Rattle.cells.specs.Sizes.{revisions};
 ghost use Rattle.table.specs.Halves.{bytes, cellsOf};
 use fields::read;
 use fields::table::Revision;
+use fields::table::Table;
 
 pub fn taken(t: &[u8]) -> usize
     requires { ⌜ length (now t) ≡ bytes ⌝ }
     ensures { λ n. ⌜ (n ≡ cellsOf (now (t .entry)) .updates) × (n < 65536) ⌝ }
 {
-    read::updates(&t[0..40960])
+    read::updates(&t[0..Table::LOWER])
 }
 
 pub fn own(t: &[u8], r: Revision) -> usize
     requires { ⌜ (length (now t) ≡ bytes) × (r .0 < revisions) ⌝ }
     ensures { λ n. ⌜ (n ≡ cellsOf (now (t .entry)) .count (r .0)) × (n < 65536) ⌝ }
 {
-    read::count(&t[0..40960], r)
+    read::count(&t[0..Table::LOWER], r)
 }

@@ -4,6 +4,7 @@ ghost use Rattle.table.specs.Checks.{lengthCheck, tableCheck};
 use crate::sizes::Whole;
 use checks::range::RangeCheck;
 use checks::range::check_range;
+use fields::table::Table;
 
 pub enum LengthCheck {
     Right,
@@ -30,7 +31,7 @@ pub fn check_table(t: &[u8]) -> TableCheck
     let LengthCheck::Right = check_length(t) else {
         return TableCheck::Damaged;
     };
-    let RangeCheck::Sound = check_range(&t[0..40960]) else {
+    let RangeCheck::Sound = check_range(&t[0..Table::LOWER]) else {
         return TableCheck::Damaged;
     };
     TableCheck::Sound

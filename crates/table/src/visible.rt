@@ -8,11 +8,12 @@ ghost use Rattle.cells.specs.Order.{order};
 ghost use Rattle.cells.specs.Range.{inRange};
 ghost use Rattle.table.specs.Halves.{bytes, cellsOf, low};
 use fields::table::Revision;
+use fields::table::Table;
 
 // The order of r into the first places of `out`; how many entries it has.
 pub fn visible(t: &[u8], r: Revision, out: &mut [u16]) -> usize
     requires { ⌜ (length (now t) ≡ bytes) × (inRange (low (now t)) ≡ true) × (r .0 < revisions) × (length (now out) ≡ updates) ⌝ }
     ensures { λ n. ⌜ (n ≤ updates) × (n ≤ length (now (out .exit))) × (n ≡ length (order (cellsOf (now (t .entry))) (r .0))) × (take n (now (out .exit)) ≡ order (cellsOf (now (t .entry))) (r .0)) ⌝ }
 {
-    order::visible::list(&t[0..40960], r, out)
+    order::visible::list(&t[0..Table::LOWER], r, out)
 }

@@ -16,7 +16,7 @@ pub enum KindCheck {
 }
 
 // The kind that a byte names; 01 numbers them 1 to 4.
-pub fn check(byte: u8) -> KindCheck
+pub fn check_kind(byte: u8) -> KindCheck
     ensures { λ r. ⌜ r ≡ kindCheck byte ⌝ }
 {
     match byte {

@@ -96,7 +96,7 @@ module _ (p : PlainDay) (t : List ℕ) (S : Stands p t) where
       is : cellsOf t .updates ≡ y .updates
       is = bytes-are p t S .follow .same-updates
 
-      low-bib : bib < Upper.bibs
+      low-bib : bib < Upper.bibRange
       low-bib = omega (arith, ltb-true bib 1000 (not-false _ e5))
 
       kept : (n : ℕ) → n < suc (y .updates) → asEntered (entryAt (wrote (high t) (cellsOf t .updates) (entry kind c bib v)) n) ≡ changed (p .entries) (y .updates) (record { kind = kind; client = c; bib = bib; v = v }) n

@@ -27,14 +27,9 @@ use Rattle.table.specs.Calls as Table
 use Rattle.consistency.specs.Table.{inBytes, sheetWith}
 use Rattle.consistency.proofs.Table.Stands.{Stands, asEntered, numbers-are}
 
--- the updates of a bib, among the entries as they are stored and as they were entered
-ofBib-is : (f : ℕ → Stored.Entry) (bib : ℕ) (ns : List ℕ) → Folded.ofBib f bib ns ≡ Plain.ofBib (λ n. asEntered (f n)) bib ns
-ofBib-is f bib [] = refl
-ofBib-is f bib (n ∷ ns) = rw (ofBib-is f bib ns)
-
 -- a bib's standing by entries that are stored as they were entered
 pub standing-same : (f : ℕ → Stored.Entry) (g : ℕ → Entry) (bib : ℕ) (ns ms : List ℕ) → ns ≡ ms → ((k : ℕ) → k ∈ ms → asEntered (f k) ≡ g k) → Folded.standingOf f bib ns ≡ Plain.standingOf g bib ms
-standing-same f g bib ns ms e h = ap (λ us. applied us freshStanding) (ap (Folded.ofBib f bib) e ∙ ofBib-is f bib ms ∙ ofBib-same _ g bib ms h)
+standing-same f g bib ns ms e h = ap (λ us. applied us freshStanding) (ap (Folded.ofBib f bib) e ∙ ofBib-same (λ n. asEntered (f n)) g bib ms h)
 
 -- the lines in bytes, of the entries as they are stored and as they were entered
 inBytes-is : (f : ℕ → Stored.Entry) (ns : List ℕ) → inBytes (linesOf (λ n. asEntered (f n)) ns) ≡ lines f ns

@@ -4,12 +4,6 @@ use borrow.Author.Needs.{needs}
 use Rattle.day.proofs.main.Statement.{statement}
 use Rattle.day.proofs.main.Tie as tie
 
-array-share-prefix-out : tie.Need-array-share-prefix-out
-array-share-prefix-out c = put-counts _ _ _ _ (c .before .report .ensures) .0
-
-slice-aggregate-write-all : tie.Need-slice-aggregate-write-all
-slice-aggregate-write-all c = put-counts _ _ _ _ (c .before .before .report .ensures) .1
-
 pub main-spec : {M : Type 1} → statement M
 main-spec =
     tie.close
@@ -20,7 +14,7 @@ main-spec =
     (λ c. search needs)
     (λ c. search needs)
     (λ c κs. search needs)
-    array-share-prefix-out
-    slice-aggregate-write-all
+    (λ c. put-counts _ _ _ _ (c .before .report .ensures) .0)
+    (λ c. put-counts _ _ _ _ (c .before .before .report .ensures) .1)
     (λ c κs. search needs)
     (λ c. search needs))

@@ -1,11 +1,13 @@
 -- `bundles::record::put` meets its contract: the record's twelve bytes are lent and come back written. Assumes nothing.
 use Prim.Native.Nat.{_*_}
 use borrow.Author.Needs.{needs}
+use Rattle.bundles.specs.Records.{recordOf}
 use Rattle.lists.proofs.Replaced.{lent-replaced}
 use Rattle.bundles.proofs.record.put.Statement.{statement}
 use Rattle.bundles.proofs.record.put.Tie as tie
 
 returns : tie.Need-returns
+unfolding recordOf
 returns c = let s = c .before .before .before .before .before .args in lent-replaced (s .b .now) _ _ (12 * s .i) 12 (c .before .before .write .ensures)
 
 pub put-spec : {M : Type 1} → statement M

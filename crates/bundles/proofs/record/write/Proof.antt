@@ -2,41 +2,9 @@
 use native.Mathlib.Omega.{arith}
 use lib.ListN.{length-set}
 use borrow.Author.Needs.{needs}
-use Rattle.bundles.specs.Records.{recordOf}
 use Rattle.bundles.proofs.Written.{twelve-set}
 use Rattle.bundles.proofs.record.write.Statement.{statement}
 use Rattle.bundles.proofs.record.write.Tie as tie
-
-slice-write-p-5 : tie.Need-slice-write-p-5
-slice-write-p-5 c = simp length-set (omega arith)
-
-slice-write-p-6 : tie.Need-slice-write-p-6
-slice-write-p-6 c = simp length-set (omega arith)
-
-slice-write-p-7 : tie.Need-slice-write-p-7
-slice-write-p-7 c = simp length-set (omega arith)
-
-slice-write-p-8 : tie.Need-slice-write-p-8
-slice-write-p-8 c = simp length-set (omega arith)
-
-slice-write-p-9 : tie.Need-slice-write-p-9
-slice-write-p-9 c = simp length-set (omega arith)
-
-slice-write-p-10 : tie.Need-slice-write-p-10
-slice-write-p-10 c = simp length-set (omega arith)
-
-slice-write-p-11 : tie.Need-slice-write-p-11
-slice-write-p-11 c = simp length-set (omega arith)
-
-slice-write-p-12 : tie.Need-slice-write-p-12
-slice-write-p-12 c = simp length-set (omega arith)
-
-same-length : tie.Need-same-length
-same-length c = simp length-set
-
-returns : tie.Need-returns
-unfolding recordOf
-returns c = twelve-set (c .args .p .now) _ _ _ _ _ _ _ _ _ _ _ _ (c .pre)
 
 pub write-spec : {M : Type 1} → statement M
 write-spec =
@@ -49,16 +17,20 @@ write-spec =
     (λ c. search needs)
     (λ c. search needs)
     (λ c. search needs)
-    slice-write-p-5
+    (λ c. simp length-set (omega arith))
     (λ c. search needs)
-    slice-write-p-6
+    (λ c. simp length-set (omega arith))
     (λ c. search needs)
-    slice-write-p-7
+    (λ c. simp length-set (omega arith))
     (λ c. search needs)
-    slice-write-p-8
-    slice-write-p-9
-    slice-write-p-10
-    slice-write-p-11
-    slice-write-p-12
-    same-length
-    returns)
+    (λ c. simp length-set (omega arith))
+    (λ c. search needs)
+    (λ c. simp length-set (omega arith))
+    (λ c. search needs)
+    (λ c. simp length-set (omega arith))
+    (λ c. search needs)
+    (λ c. simp length-set (omega arith))
+    (λ c. search needs)
+    (λ c. simp length-set (omega arith))
+    (λ c. simp length-set)
+    (λ c. twelve-set (c .args .p .now) _ _ _ _ _ _ _ _ _ _ _ _ (c .pre)))

@@ -6,7 +6,7 @@ use Rattle.table.specs.Found.{eventCode, onEvent, onKind}
 use Rattle.entering.specs.Checks.{updateCheck}
 use Rattle.entering.specs.declared.update.UpdateCheck.the-variants as update
 use Rattle.table.proofs.Checks.{bib-known, bib-unknown}
-use Rattle.entering.proofs.Checks.{bib-in, has-room, is-full, log-in}
+use Rattle.entering.proofs.Checks.{bib-in, log-told, log-in}
 use Rattle.entering.proofs.update.check_lower.Statement.{statement}
 use Rattle.entering.proofs.update.check_lower.Tie as tie
 
@@ -31,7 +31,7 @@ returns-3 c =
     let p = b .before .before .before in
     let e = sym (p .before .before .before .check-place .ensures .0) ∙ p .before .found .given .1 in
     let f = bib-known _ (sym (b .before .before .check-bib .ensures) ∙ b .enum-told2 .given .1) in
-    (rw (e, f, sym (c .before .before .check .ensures) ∙ c .enum-told4 .given .1), tt)
+    (rw (e, f, sym (c .before .before .check-kind .ensures) ∙ c .enum-told4 .given .1), tt)
 
 check-turn-requires : tie.Need-check-turn-requires
 check-turn-requires c κs =
@@ -48,7 +48,7 @@ returns-4 c =
     let p = b .before .before .before in
     let e = sym (p .before .before .before .check-place .ensures .0) ∙ p .before .found .given .1 in
     let f = bib-known _ (sym (b .before .before .check-bib .ensures) ∙ b .enum-told2 .given .1) in
-    let g = sym (k .before .before .before .check .ensures) ∙ k .before .k .given .1 in
+    let g = sym (k .before .before .before .check-kind .ensures) ∙ k .before .k .given .1 in
     let h = c .before .enum-told5 .given .1 in
     (rw (e, f, g, sym (t .check-turn .ensures .0) ∙ h) (ap update.Refused (c .code2 .ensures ∙ ap eventCode h)), tt)
 
@@ -61,9 +61,9 @@ returns-5 c =
     let p = b .before .before .before in
     let e = sym (p .before .before .before .check-place .ensures .0) ∙ p .before .found .given .1 in
     let f = bib-known _ (sym (b .before .before .check-bib .ensures) ∙ b .enum-told2 .given .1) in
-    let g = sym (k .before .before .before .check .ensures) ∙ k .before .k .given .1 in
+    let g = sym (k .before .before .before .check-kind .ensures) ∙ k .before .k .given .1 in
     let h = sym (t .before .before .before .check-turn .ensures .0) ∙ t .before .next .given .1 in
-    (rw (e, f, g, h, is-full _ (sym (c .before .before .check-log .ensures) ∙ c .enum-told7 .given .1)), tt)
+    (rw (e, f, g, h, log-told _ .holds (sym (c .before .before .check-log .ensures) ∙ c .enum-told7 .given .1)), tt)
 
 returns-6 : tie.Need-returns-6
 unfolding updateCheck onEvent onKind
@@ -74,9 +74,9 @@ returns-6 c =
     let p = b .before .before .before in
     let e = sym (p .before .before .before .check-place .ensures .0) ∙ p .before .found .given .1 in
     let f = bib-known _ (sym (b .before .before .check-bib .ensures) ∙ b .enum-told2 .given .1) in
-    let g = sym (k .before .before .before .check .ensures) ∙ k .before .k .given .1 in
+    let g = sym (k .before .before .before .check-kind .ensures) ∙ k .before .k .given .1 in
     let h = sym (t .before .before .before .check-turn .ensures .0) ∙ t .before .next .given .1 in
-    let l = has-room _ (sym (c .before .before .check-log .ensures) ∙ c .enum-told6 .given .1) in
+    let l = log-told _ .fails (sym (c .before .before .check-log .ensures) ∙ c .enum-told6 .given .1) in
     let i = rw (t .before .next .given .1) at (t .before .before .before .check-turn .ensures .1) in
     (rw (e, f, g, h, l), (i .0, i .1, log-in _ l, bib-in _ f))
 

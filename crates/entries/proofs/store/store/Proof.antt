@@ -7,15 +7,6 @@ use Rattle.entries.proofs.Stored.{six-set}
 use Rattle.entries.proofs.store.store.Statement.{statement}
 use Rattle.entries.proofs.store.store.Tie as tie
 
-slice-write-p-5 : tie.Need-slice-write-p-5
-slice-write-p-5 c = simp length-set (omega arith)
-
-slice-write-p-6 : tie.Need-slice-write-p-6
-slice-write-p-6 c = simp length-set (omega arith)
-
-same-length : tie.Need-same-length
-same-length c = simp length-set
-
 returns : tie.Need-returns
 unfolding stored
 returns c = rw (c .two-bits .ensures .0) (six-set (c .before .before .args .p .now) _ _ _ _ _ _ (c .before .before .pre .0))
@@ -38,8 +29,8 @@ store-spec =
     (λ c. search needs)
     (λ c. search needs)
     (λ c. search needs)
-    slice-write-p-5
+    (λ c. simp length-set (omega arith))
     (λ c. search needs)
-    slice-write-p-6
-    same-length
+    (λ c. simp length-set (omega arith))
+    (λ c. simp length-set)
     returns)

@@ -5,15 +5,15 @@ use borrow.Author.Needs.{needs}
 use Rattle.table.specs.Found.{onEvent}
 use Rattle.reading.specs.Checks.{queryCheck}
 use Rattle.table.proofs.Checks.{bib-known, bib-unknown}
-use Rattle.reading.proofs.Calls.{event-ends}
 use Rattle.reading.proofs.query.check_lower.Statement.{statement}
 use Rattle.reading.proofs.query.check_lower.Tie as tie
 
 returns : tie.Need-returns
-unfolding queryCheck
+unfolding queryCheck onEvent
 returns c =
     let f = c .before .before .check-place .ensures in
-    (event-ends _ _ _ _ (f .0) (c .enum-told .given .1), f .1)
+    let h = c .enum-told .given .1 in
+    (h ∙ rw (sym (f .0) ∙ h), f .1)
 
 returns-2 : tie.Need-returns-2
 unfolding queryCheck onEvent

@@ -12,7 +12,7 @@ returns c = rw (bib-unknown _ (sym (c .before .before .check-bib .ensures) ∙ c
 
 returns-2 : tie.Need-returns-2
 unfolding entryCheck
-returns-2 c = rw (bib-known _ (sym (c .before .before .before .check-bib .ensures) ∙ c .before .enum-told .given .1)) (c .check .ensures)
+returns-2 c = rw (bib-known _ (sym (c .before .before .before .check-bib .ensures) ∙ c .before .enum-told .given .1)) (c .check-kind .ensures)
 
 pub check-entry-spec : {M : Type 1} → statement M
 check-entry-spec = tie.close (tie.spec

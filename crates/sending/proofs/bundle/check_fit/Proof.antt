@@ -1,9 +1,9 @@
 -- `sending::bundle::check_fit` meets its contract: 1, 5 and 9 in their order. Assumes nothing.
 use mathlib.Core.Path.{sym, _∙_}
-use borrow.Author.Tests.{lt-ltb, le-ltb}
 use borrow.Author.Needs.{needs}
 use Rattle.table.specs.Found.{onKind}
 use Rattle.sending.specs.Bundles.{fitCheck}
+use Rattle.sending.proofs.Fit.{room-told}
 use Rattle.sending.proofs.bundle.check_fit.Statement.{statement}
 use Rattle.sending.proofs.bundle.check_fit.Tie as tie
 
@@ -22,16 +22,20 @@ returns-2 c =
 returns-3 : tie.Need-returns-3
 unfolding fitCheck onKind
 returns-3 c =
-    let k = c .before in
+    let k = c .before .before .before in
     let o = k .before .before .before .before in
-    rw (sym (o .before .before .check-own .ensures) ∙ o .enum-told .given .1, sym (k .before .before .before .check-entry .ensures) ∙ k .before .k .given .1, lt-ltb _ _ (c .if1 .taken))
+    let e = sym (o .before .before .check-own .ensures) ∙ o .enum-told .given .1 in
+    let f = sym (k .before .before .before .check-entry .ensures) ∙ k .before .k .given .1 in
+    rw (e, f, room-told _ .fails (sym (c .before .before .check-room .ensures) ∙ c .enum-told5 .given .1))
 
 returns-4 : tie.Need-returns-4
 unfolding fitCheck onKind
 returns-4 c =
-    let k = c .before in
+    let k = c .before .before .before in
     let o = k .before .before .before .before in
-    rw (sym (o .before .before .check-own .ensures) ∙ o .enum-told .given .1, sym (k .before .before .before .check-entry .ensures) ∙ k .before .k .given .1, le-ltb _ _ (c .if1 .left))
+    let e = sym (o .before .before .check-own .ensures) ∙ o .enum-told .given .1 in
+    let f = sym (k .before .before .before .check-entry .ensures) ∙ k .before .k .given .1 in
+    rw (e, f, room-told _ .holds (sym (c .before .before .check-room .ensures) ∙ c .enum-told4 .given .1))
 
 pub check-fit-spec : {M : Type 1} → statement M
 check-fit-spec = tie.close (tie.spec
@@ -43,5 +47,8 @@ check-fit-spec = tie.close (tie.spec
     (λ c. search needs)
     (λ c. search needs)
     returns-2
+    (λ c κs. search needs)
+    (λ c. search needs)
+    (λ c. search needs)
     returns-3
     returns-4)

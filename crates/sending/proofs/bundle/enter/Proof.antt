@@ -10,7 +10,7 @@ use Rattle.sending.proofs.bundle.enter.Tie as tie
 
 returns : tie.Need-returns
 unfolding entered onKind
-returns c = rw (sym (c .before .before .check .ensures) ∙ c .enum-told .given .1)
+returns c = rw (sym (c .before .before .check-kind .ensures) ∙ c .enum-told .given .1)
 
 put-requires : tie.Need-put-requires
 put-requires c κs =
@@ -25,7 +25,7 @@ unfolding entered onKind
 returns-2 c =
     let at-put = c .before .before in
     let known = at-put .before .before in
-    rw (sym (known .before .before .before .check .ensures) ∙ known .before .k .given .1) (at-put .put .ensures .1)
+    rw (sym (known .before .before .before .check-kind .ensures) ∙ known .before .k .given .1) (at-put .put .ensures .1)
 
 pub enter-spec : {M : Type 1} → statement M
 enter-spec = tie.close (tie.spec

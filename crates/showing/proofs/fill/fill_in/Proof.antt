@@ -1,7 +1,7 @@
 -- `showing::fill::fill_in` meets its contract: the first check that applies decides. Assumes nothing.
 use mathlib.Core.Path.{sym, _∙_}
 use borrow.Author.Needs.{needs}
-use Rattle.table.proofs.Checks.{was-given, is-out, is-joined}
+use Rattle.table.proofs.Checks.{was-given, joined-told}
 use Rattle.showing.proofs.Calls.{fill-never, fill-joined, fill-told}
 use Rattle.showing.proofs.fill.fill_in.Statement.{statement}
 use Rattle.showing.proofs.fill.fill_in.Tie as tie
@@ -19,7 +19,7 @@ returns-2 c =
     let at-joined = c .before in
     let g = at-joined .before .before .before in
     c .refused2 .ensures
-    ∙ fill-joined _ _ _ (sym (g .before .before .before .check-given .ensures) ∙ g .before .r .given .1) (is-joined _ _ (sym (at-joined .before .before .check-joined .ensures) ∙ at-joined .enum-told3 .given .1))
+    ∙ fill-joined _ _ _ (sym (g .before .before .before .check-given .ensures) ∙ g .before .r .given .1) (joined-told _ _ .holds (sym (at-joined .before .before .check-joined .ensures) ∙ at-joined .enum-told3 .given .1))
 
 tell-requires : tie.Need-tell-requires
 tell-requires c κs =
@@ -31,7 +31,7 @@ returns-3 c =
     let at-out = c .before in
     let g = at-out .before .before .before in
     c .tell .ensures
-    ∙ fill-told _ _ _ (sym (g .before .before .before .check-given .ensures) ∙ g .before .r .given .1) (is-out _ _ (sym (at-out .before .before .check-joined .ensures) ∙ at-out .enum-told2 .given .1))
+    ∙ fill-told _ _ _ (sym (g .before .before .before .check-given .ensures) ∙ g .before .r .given .1) (joined-told _ _ .fails (sym (at-out .before .before .check-joined .ensures) ∙ at-out .enum-told2 .given .1))
 
 pub fill-in-spec : {M : Type 1} → statement M
 fill-in-spec = tie.close (tie.spec

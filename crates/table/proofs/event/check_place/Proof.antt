@@ -4,7 +4,7 @@ use mathlib.Core.Path.{sym, _∙_}
 use borrow.Author.Needs.{needs}
 use Rattle.table.specs.Found.{onClient, onGiven}
 use Rattle.table.specs.Checks.{placeCheck}
-use Rattle.table.proofs.Checks.{known, was-given, is-out, is-joined}
+use Rattle.table.proofs.Checks.{known, was-given, joined-told}
 use Rattle.table.proofs.event.check_place.Statement.{statement}
 use Rattle.table.proofs.event.check_place.Tie as tie
 
@@ -29,7 +29,7 @@ returns-3 c =
     let k = g .before .before .before .before in
     let e = sym (k .before .before .before .check-client .ensures) ∙ k .before .c .given .1 in
     let f = sym (g .before .before .before .check-given .ensures) ∙ g .before .r .given .1 in
-    (rw (e, f, is-joined _ _ (sym (c .before .before .check-joined .ensures) ∙ c .enum-told4 .given .1)), tt)
+    (rw (e, f, joined-told _ _ .holds (sym (c .before .before .check-joined .ensures) ∙ c .enum-told4 .given .1)), tt)
 
 returns-4 : tie.Need-returns-4
 unfolding placeCheck onClient onGiven
@@ -38,7 +38,7 @@ returns-4 c =
     let k = g .before .before .before .before in
     let e = sym (k .before .before .before .check-client .ensures) ∙ k .before .c .given .1 in
     let f = sym (g .before .before .before .check-given .ensures) ∙ g .before .r .given .1 in
-    (rw (e, f, is-out _ _ (sym (c .before .before .check-joined .ensures) ∙ c .enum-told3 .given .1)), (known _ _ e, was-given _ _ _ f))
+    (rw (e, f, joined-told _ _ .fails (sym (c .before .before .check-joined .ensures) ∙ c .enum-told3 .given .1)), (known _ _ e, was-given _ _ _ f))
 
 pub check-place-spec : {M : Type 1} → statement M
 check-place-spec = tie.close (tie.spec

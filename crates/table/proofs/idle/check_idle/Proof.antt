@@ -3,7 +3,7 @@ use mathlib.Core.Path.{sym, _∙_}
 use borrow.Author.Needs.{needs}
 use Rattle.table.specs.Found.{onGiven}
 use Rattle.table.specs.Checks.{idleCheck}
-use Rattle.table.proofs.Checks.{was-given, is-out, is-joined, free, in-use}
+use Rattle.table.proofs.Checks.{was-given, joined-told, use-told}
 use Rattle.table.proofs.idle.check_idle.Statement.{statement}
 use Rattle.table.proofs.idle.check_idle.Tie as tie
 
@@ -19,7 +19,7 @@ unfolding idleCheck onGiven
 returns-2 c =
     let g = c .before .before .before in
     let e = sym (g .before .before .before .check-given .ensures) ∙ g .before .r .given .1 in
-    rw (e, is-joined _ _ (sym (c .before .before .check-joined .ensures) ∙ c .enum-told3 .given .1))
+    rw (e, joined-told _ _ .holds (sym (c .before .before .check-joined .ensures) ∙ c .enum-told3 .given .1))
 
 returns-3 : tie.Need-returns-3
 unfolding idleCheck onGiven
@@ -27,8 +27,8 @@ returns-3 c =
     let o = c .before .before .before in
     let g = o .before .before .before in
     let e = sym (g .before .before .before .check-given .ensures) ∙ g .before .r .given .1 in
-    let f = is-out _ _ (sym (o .before .before .check-joined .ensures) ∙ o .enum-told2 .given .1) in
-    rw (e, f, in-use _ _ (sym (c .before .before .check-use .ensures) ∙ c .enum-told5 .given .1))
+    let f = joined-told _ _ .fails (sym (o .before .before .check-joined .ensures) ∙ o .enum-told2 .given .1) in
+    rw (e, f, use-told _ _ .holds (sym (c .before .before .check-use .ensures) ∙ c .enum-told5 .given .1))
 
 returns-4 : tie.Need-returns-4
 unfolding idleCheck onGiven
@@ -36,8 +36,8 @@ returns-4 c =
     let o = c .before .before .before in
     let g = o .before .before .before in
     let e = sym (g .before .before .before .check-given .ensures) ∙ g .before .r .given .1 in
-    let f = is-out _ _ (sym (o .before .before .check-joined .ensures) ∙ o .enum-told2 .given .1) in
-    rw (e, f, free _ _ (sym (c .before .before .check-use .ensures) ∙ c .enum-told4 .given .1))
+    let f = joined-told _ _ .fails (sym (o .before .before .check-joined .ensures) ∙ o .enum-told2 .given .1) in
+    rw (e, f, use-told _ _ .fails (sym (c .before .before .check-use .ensures) ∙ c .enum-told4 .given .1))
 
 pub check-idle-spec : {M : Type 1} → statement M
 check-idle-spec = tie.close (tie.spec

@@ -4,7 +4,7 @@ use mathlib.Core.Path.{sym, _∙_}
 use borrow.Author.Needs.{needs}
 use Rattle.table.specs.Found.{onGiven}
 use Rattle.table.specs.Checks.{bothCheck}
-use Rattle.table.proofs.Checks.{was-given, is-out, is-joined}
+use Rattle.table.proofs.Checks.{was-given, joined-told}
 use Rattle.table.proofs.join.check_both.Statement.{statement}
 use Rattle.table.proofs.join.check_both.Tie as tie
 
@@ -31,7 +31,7 @@ returns-3 c =
     let at-a = at-b .before .before .before .before in
     let e = sym (at-a .before .before .before .check-given .ensures) ∙ at-a .before .a .given .1 in
     let f = sym (at-b .before .before .before .check-given2 .ensures) ∙ at-b .before .b .given .1 in
-    (rw (e, f, is-joined _ _ (sym (c .before .before .check-joined .ensures) ∙ c .enum-told4 .given .1)), tt)
+    (rw (e, f, joined-told _ _ .holds (sym (c .before .before .check-joined .ensures) ∙ c .enum-told4 .given .1)), tt)
 
 check-joined-requires-2 : tie.Need-check-joined-requires-2
 check-joined-requires-2 c κs =
@@ -46,8 +46,8 @@ returns-4 c =
     let at-a = at-b .before .before .before .before in
     let e = sym (at-a .before .before .before .check-given .ensures) ∙ at-a .before .a .given .1 in
     let f = sym (at-b .before .before .before .check-given2 .ensures) ∙ at-b .before .b .given .1 in
-    let g = is-out _ _ (sym (o .before .before .check-joined .ensures) ∙ o .enum-told3 .given .1) in
-    (rw (e, f, g, is-joined _ _ (sym (c .before .before .check-joined2 .ensures) ∙ c .enum-told6 .given .1)), tt)
+    let g = joined-told _ _ .fails (sym (o .before .before .check-joined .ensures) ∙ o .enum-told3 .given .1) in
+    (rw (e, f, g, joined-told _ _ .holds (sym (c .before .before .check-joined2 .ensures) ∙ c .enum-told6 .given .1)), tt)
 
 returns-5 : tie.Need-returns-5
 unfolding bothCheck onGiven
@@ -57,8 +57,8 @@ returns-5 c =
     let at-a = at-b .before .before .before .before in
     let e = sym (at-a .before .before .before .check-given .ensures) ∙ at-a .before .a .given .1 in
     let f = sym (at-b .before .before .before .check-given2 .ensures) ∙ at-b .before .b .given .1 in
-    let g = is-out _ _ (sym (o .before .before .check-joined .ensures) ∙ o .enum-told3 .given .1) in
-    (rw (e, f, g, is-out _ _ (sym (c .before .before .check-joined2 .ensures) ∙ c .enum-told5 .given .1)), (was-given _ _ _ e, was-given _ _ _ f))
+    let g = joined-told _ _ .fails (sym (o .before .before .check-joined .ensures) ∙ o .enum-told3 .given .1) in
+    (rw (e, f, g, joined-told _ _ .fails (sym (c .before .before .check-joined2 .ensures) ∙ c .enum-told5 .given .1)), (was-given _ _ _ e, was-given _ _ _ f))
 
 pub check-both-spec : {M : Type 1} → statement M
 check-both-spec = tie.close (tie.spec

@@ -3,13 +3,7 @@ use Rattle.table.proofs.Buffer.{other-length, same-length}
 use Rattle.table.proofs.sound.check_length.Statement.{statement}
 use Rattle.table.proofs.sound.check_length.Tie as tie
 
-returns : tie.Need-returns
-returns c = same-length _ (c .if1 .taken)
-
-returns-2 : tie.Need-returns-2
-returns-2 c = other-length _ (c .if1 .left)
-
 pub check-length-spec : {M : Type 1} → statement M
 check-length-spec = tie.close (tie.spec
-    returns
-    returns-2)
+    (λ c. same-length _ (c .if1 .taken))
+    (λ c. other-length _ (c .if1 .left)))

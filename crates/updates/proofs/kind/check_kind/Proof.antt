@@ -1,8 +1,8 @@
--- `updates::kind::check` meets its contract: each arm's number decides the tests of `kindCheck`. Assumes nothing.
+-- `updates::kind::check_kind` meets its contract: each arm's number decides the tests of `kindCheck`. Assumes nothing.
 use borrow.Author.Tests.{ne-eqb}
 use Rattle.updates.specs.Kinds.{kindCheck}
-use Rattle.updates.proofs.kind.check.Statement.{statement}
-use Rattle.updates.proofs.kind.check.Tie as tie
+use Rattle.updates.proofs.kind.check_kind.Statement.{statement}
+use Rattle.updates.proofs.kind.check_kind.Tie as tie
 
 returns : tie.Need-returns
 unfolding kindCheck
@@ -27,5 +27,5 @@ returns-5 c =
     let not = c .match .rest in
     simp (ne-eqb byte 1 (not .0 .0 .0 .1), ne-eqb byte 2 (not .0 .0 .1), ne-eqb byte 3 (not .0 .1), ne-eqb byte 4 (not .1))
 
-pub check-spec : {M : Type 1} → statement M
-check-spec = tie.close (tie.spec returns returns-2 returns-3 returns-4 returns-5)
+pub check-kind-spec : {M : Type 1} → statement M
+check-kind-spec = tie.close (tie.spec returns returns-2 returns-3 returns-4 returns-5)
