@@ -4,7 +4,7 @@ use mathlib.Core.Bool.{true, false}
 use mathlib.Core.Path.{_≡_, refl}
 use mathlib.Core.List.{[], _∷_}
 use Rattle.lists.specs.Sums.{anyBelow}
-use Rattle.lists.specs.Lists.{insert, remove, behind}
+use Rattle.lists.specs.Lists.{insertBefore, remove, behind}
 use Rattle.cells.specs.Parts.{offset, size, rowsPart, lowPart, highPart, seenPart, caughtPart, statePart, usedPart, lastPart, firstPart, countPart}
 use Rattle.cells.specs.Parts.{basePart, layoutPart, queuePart, openedPart, countersPart, keptPart, signaturePart}
 use Rattle.cells.specs.Cells.{Cells, chain, outs, marked}
@@ -25,19 +25,19 @@ after = joinCells (joinCells before 1 2) 0 1
 
 -- a joinee's updates come after the joiner's, whatever the numbers
 main-order : order after 0 ≡ 0 ∷ 3 ∷ 1 ∷ 4 ∷ 2 ∷ []
-unfolding before after order chain insert remove behind
+unfolding before after order chain insertBefore remove behind
 main-order = refl
 
 other-order : order after 3 ≡ 0 ∷ 3 ∷ 5 ∷ []
-unfolding before after order chain insert remove behind
+unfolding before after order chain insertBefore remove behind
 other-order = refl
 
 forked-order : order before 2 ≡ 0 ∷ 1 ∷ 2 ∷ []
-unfolding before order chain insert remove behind
+unfolding before order chain insertBefore remove behind
 forked-order = refl
 
 left-out : outs after ≡ 3 ∷ 0 ∷ []
-unfolding before after insert remove
+unfolding before after insertBefore remove
 left-out = refl
 
 -- 01, E2: "join 0 with 2 gives 11, and so does join 2 with 1; after join 0 with 1, join 0 with 2 is taken"
@@ -92,7 +92,7 @@ marks-alone = refl
 
 -- a fork of a fork of a fork inherits by count, by mark and from the own list
 third-order : order (forkCells before 2 4) 4 ≡ 0 ∷ 1 ∷ 2 ∷ []
-unfolding before order chain insert remove behind
+unfolding before order chain insertBefore remove behind
 third-order = refl
 
 -- each entry once, in its order

@@ -8,14 +8,14 @@ use lib.Dec.{eqb}
 use lib.ListN.{length, take, length-append}
 use lib.Seq.{take-append-le, take-take}
 use borrow.Author.Tests.{eqb-false}
-use Rattle.lists.specs.Lists.{_∈_, insert, remove}
+use Rattle.lists.specs.Lists.{_∈_, insertBefore, remove}
 use Rattle.lists.proofs.Cases.{cases, either}
 use Rattle.cells.specs.Sizes.{revisions}
 use Rattle.cells.specs.Cells.{Cells, outs}
 use Rattle.cells.specs.CellSteps.{forkCells, joinCells}
 
-take-insert : (q c n : ℕ) (l : List ℕ) → q ∈ take n l → take (suc n) (insert q c l) ≡ insert q c (take n l)
-unfolding insert
+take-insert : (q c n : ℕ) (l : List ℕ) → q ∈ take n l → take (suc n) (insertBefore q c l) ≡ insertBefore q c (take n l)
+unfolding insertBefore
 take-insert q c zero l m = absurd (List·Memᴰ·not-nil m)
 take-insert q c (suc n) [] m = absurd (List·Memᴰ·not-nil m)
 take-insert q c (suc n) (x ∷ l) m =
@@ -35,8 +35,8 @@ take-remove b (suc n) (x ∷ l) h m =
     (λ e. rw e (take-append-le (suc n) l (0 ∷ []) (omega arith)))
     (λ e. rw e (ap (λ z. x ∷ z) (take-remove b n l (omega arith) (either (List·Memᴰ·cases-cons m) (λ q. absurd (eqb-false x b e (sym q))) (λ o. o)))))
 
-pub insert-length : (q c : ℕ) (l : List ℕ) → length l ≤ length (insert q c l)
-unfolding insert
+pub insert-length : (q c : ℕ) (l : List ℕ) → length l ≤ length (insertBefore q c l)
+unfolding insertBefore
 insert-length q c [] = omega arith
 insert-length q c (x ∷ l) = let h = insert-length q c l in cases (eqb x q) (λ e. rw e (omega arith)) (λ e. rw e (omega arith))
 
@@ -46,8 +46,8 @@ remove-length b [] = omega arith
 remove-length b (x ∷ l) = let h = remove-length b l in cases (eqb x b) (λ e. rw (e, length-append) (omega arith)) (λ e. rw e (omega arith))
 
 -- where the layout has room, the forked revision stands in front of the one it was forked from
-pub fork-outs : (k : Cells) (q c : ℕ) → k .out < revisions → q ∈ outs k → outs (forkCells k q c) ≡ insert q c (outs k)
-fork-outs k q c h m = take-take (suc (k .out)) revisions (insert q c (k .layout)) h ∙ take-insert q c (k .out) (k .layout) m
+pub fork-outs : (k : Cells) (q c : ℕ) → k .out < revisions → q ∈ outs k → outs (forkCells k q c) ≡ insertBefore q c (outs k)
+fork-outs k q c h m = take-take (suc (k .out)) revisions (insertBefore q c (k .layout)) h ∙ take-insert q c (k .out) (k .layout) m
 
 -- a joinee that is in the layout is out of it
 pub join-outs : (k : Cells) (a b : ℕ) → length (k .layout) ≡ revisions → k .out ≤ revisions → b ∈ outs k → outs (joinCells k a b) ≡ remove b (outs k)

@@ -7,7 +7,7 @@ use native.Mathlib.Omega.{arith}
 use lib.Dec.{eqb}
 use lib.ListN.{length, set, take, replicate, length-set, length-replicate}
 use lib.Seq.{length-take-le}
-use Rattle.lists.specs.Lists.{insert, remove}
+use Rattle.lists.specs.Lists.{insertBefore, remove}
 use Rattle.cells.specs.Sizes.{revisions, clients, main, closed, stateOut, stateJoined}
 use Rattle.cells.specs.Parts.{Parts, Sized, size, _⟨_≔_⟩, rowsPart, lowPart, highPart, seenPart, caughtPart, statePart, usedPart, lastPart, firstPart}
 use Rattle.cells.specs.Parts.{countPart, basePart, layoutPart, openedPart, countersPart, signaturePart}
@@ -85,7 +85,7 @@ pub fork-sized : {p : Parts} → Sized p → (q c : ℕ) → c < revisions → S
 fork-sized {p} h q c l =
     let k = decode p in
     let a = caught-sized (seen-sized (inherit-sized h q c l) (forkSeen (k .seen) q c)) (forkCaught (k .caught) q c) in
-    let b = layout-sized (byte-sized a statePart c stateOut) (insert q c (p layoutPart)) (insert-length q c (p layoutPart)) in
+    let b = layout-sized (byte-sized a statePart c stateOut) (insertBefore q c (p layoutPart)) (insert-length q c (p layoutPart)) in
     sized-with b countersPart (set (set (p countersPart) 2 (suc (k .out))) 3 (suc (k .given))) (simp length-set (h .of countersPart))
 
 pub splice-sized : {p : Parts} → Sized p → (a b : ℕ) → Sized (spliceParts p a b)

@@ -4,7 +4,7 @@ use mathlib.Core.Bool.{Bool, true, false, cond, _||_, _&&_}
 use mathlib.Core.List.{[], _∷_, _++_}
 use lib.Dec.{eqb, ltb}
 use lib.ListN.{take, replicate}
-use Rattle.lists.specs.Lists.{changed, member, insert, remove}
+use Rattle.lists.specs.Lists.{changed, member, insertBefore, remove}
 use Rattle.cells.specs.Sizes.{revisions, clients, updates, main, closed, stateOut, stateJoined}
 use Rattle.cells.specs.Cells.{Cells, own, marked}
 
@@ -117,7 +117,7 @@ forkCells k p c = record {
   link = k .link;
   seen = forkSeen (k .seen) p c;
   caught = forkCaught (k .caught) p c;
-  layout = take revisions (insert p c (k .layout));
+  layout = take revisions (insertBefore p c (k .layout));
   out = suc (k .out);
   opened = k .opened;
   updates = k .updates;

@@ -4,7 +4,7 @@ use mathlib.Core.Bool.{Bool, true, cond}
 use mathlib.Core.List.{List, [], _∷_, _++_}
 use lib.Dec.{eqb}
 use lib.ListN.{set, take, replicate}
-use Rattle.lists.specs.Lists.{insert, remove}
+use Rattle.lists.specs.Lists.{insertBefore, remove}
 use Rattle.cells.specs.Sizes.{revisions, clients, main, closed, stateOut, stateJoined}
 use Rattle.cells.specs.Parts.{Parts, split, glue, size, _⟨_≔_⟩, rowsPart, lowPart, highPart, seenPart, caughtPart, statePart, usedPart, lastPart, firstPart}
 use Rattle.cells.specs.Parts.{countPart, basePart, layoutPart, openedPart, countersPart, signaturePart}
@@ -76,7 +76,7 @@ forkParts p q c =
     ⟨ seenPart ≔ pack revisions (forkSeen (k .seen) q c) ⟩
     ⟨ caughtPart ≔ pack clients (forkCaught (k .caught) q c) ⟩
     ⟨ statePart ≔ set (p statePart) c stateOut ⟩
-    ⟨ layoutPart ≔ take revisions (insert q c (p layoutPart)) ⟩
+    ⟨ layoutPart ≔ take revisions (insertBefore q c (p layoutPart)) ⟩
     ⟨ countersPart ≔ set (set (p countersPart) 2 (suc (k .out))) 3 (suc (k .given)) ⟩
 
 -- b's own list goes to the end of a's, unless it is empty

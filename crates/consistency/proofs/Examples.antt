@@ -3,7 +3,7 @@ use mathlib.Core.Bool.{Bool, cond}
 use mathlib.Core.Path.{_≡_, refl}
 use mathlib.Core.List.{List, [], _∷_}
 use Rattle.lists.specs.Sums.{anyBelow}
-use Rattle.lists.specs.Lists.{behind, insert, remove}
+use Rattle.lists.specs.Lists.{behind, insertBefore, remove}
 use Rattle.diagram.specs.Steps.{Step}
 use Rattle.diagram.specs.Examples.{Example, e1, e1List, examples, expected}
 use Rattle.cells.specs.Cells.{Cells, chain}
@@ -29,9 +29,9 @@ computed [] = []
 computed (e ∷ es) = answers freshCells (e .steps) ∷ computed es
 
 examples-hold : computed examples ≡ expected examples
-unfolding passes stepCells chain insert remove anyBelow
+unfolding passes stepCells chain insertBefore remove anyBelow
 examples-hold = refl
 
 e1-list : order (triedAll freshCells e1) 0 ≡ e1List
-unfolding passes stepCells chain insert remove anyBelow behind order
+unfolding passes stepCells chain insertBefore remove anyBelow behind order
 e1-list = refl

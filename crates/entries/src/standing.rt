@@ -24,7 +24,7 @@ fn after(t: &[u8], n: u16, bib: u16, standing: Standing) -> Standing
 }
 
 // The standing after the entries of the first `count` numbers of `order`, from `start` on.
-pub fn standing_from(t: &[u8], order: &[u16], count: usize, bib: u16, start: Standing) -> Standing
+fn standing_from(t: &[u8], order: &[u16], count: usize, bib: u16, start: Standing) -> Standing
     requires { ⌜ (length (now t) ≡ bytes) × (count ≤ length (now order)) ⌝ }
     ensures { λ r. ⌜ r ≡ applied (ofBib (entryAt (now (t .entry))) bib (take count (now (order .entry)))) start ⌝ }
 {

@@ -8,7 +8,7 @@ use lib.Dec.{eqb}
 use lib.ListN.{length, set, getD, take, drop, length-append, length-drop, drop-of-length-le, List·getD-append}
 use lib.Seq.{take-suc, take-suc-set, drop-set-lt, drop-cons, drop-drop, getD-drop, getD-append-add, take-at, take-all, take-append-le, take-append-add, set-split, set-at, length-take-le, getD-take}
 use borrow.Author.Tests.{eq-eqb, ne-eqb}
-use Rattle.lists.specs.Lists.{insert, remove}
+use Rattle.lists.specs.Lists.{insertBefore, remove}
 use Rattle.lists.proofs.Cases.{cases}
 use Rattle.fields.specs.Place.{firstPlace}
 
@@ -45,16 +45,16 @@ remove-none r (x ∷ t) h =
     (λ e. let l : suc (length t) ≤ 0 = rw e at h in absurd (omega arith))
     (λ e. let l : suc (length t) ≤ suc (firstPlace r t) = rw e at h in rw e (ap (λ z. x ∷ z) (remove-none r t (omega arith))))
 
-pub insert-place : (r c : ℕ) (t : List ℕ) → firstPlace r t < length t → insert r c t ≡ take (firstPlace r t) t ++ (c ∷ drop (firstPlace r t) t)
-unfolding firstPlace insert
+pub insert-place : (r c : ℕ) (t : List ℕ) → firstPlace r t < length t → insertBefore r c t ≡ take (firstPlace r t) t ++ (c ∷ drop (firstPlace r t) t)
+unfolding firstPlace insertBefore
 insert-place r c [] h = absurd (omega arith)
 insert-place r c (x ∷ t) h =
     cases (eqb x r)
     (λ e. rw e)
     (λ e. let l : suc (firstPlace r t) < suc (length t) = rw e at h in rw e (ap (λ z. x ∷ z) (insert-place r c t (omega arith))))
 
-pub insert-none : (r c : ℕ) (t : List ℕ) → length t ≤ firstPlace r t → insert r c t ≡ t
-unfolding firstPlace insert
+pub insert-none : (r c : ℕ) (t : List ℕ) → length t ≤ firstPlace r t → insertBefore r c t ≡ t
+unfolding firstPlace insertBefore
 insert-none r c [] h = refl
 insert-none r c (x ∷ t) h =
     cases (eqb x r)
@@ -138,10 +138,10 @@ pub none-out : (b i : ℕ) (t : List ℕ) → length t ≡ 64 → i ≡ firstPla
 none-out b i t h e l =
     sym (ap (λ z. take 64 (z ++ (0 ∷ []))) (remove-none b t (omega arith)) ∙ take-append-le 64 t (0 ∷ []) (omega arith) ∙ take-all 64 t (omega arith))
 
-pub put-in : (p c i : ℕ) (t : List ℕ) → length t ≡ 64 → i ≡ firstPlace p t → i < 64 → take 64 (take i t ++ (c ∷ drop i t)) ≡ take 64 (insert p c t)
+pub put-in : (p c i : ℕ) (t : List ℕ) → length t ≡ 64 → i ≡ firstPlace p t → i < 64 → take 64 (take i t ++ (c ∷ drop i t)) ≡ take 64 (insertBefore p c t)
 put-in p c i t h e l =
-    let r : insert p c t ≡ take i t ++ (c ∷ drop i t) = insert-place p c t (omega arith) ∙ ap (λ j. take j t ++ (c ∷ drop j t)) (sym e) in
+    let r : insertBefore p c t ≡ take i t ++ (c ∷ drop i t) = insert-place p c t (omega arith) ∙ ap (λ j. take j t ++ (c ∷ drop j t)) (sym e) in
     ap (take 64) (sym r)
 
-pub none-in : (p c i : ℕ) (t : List ℕ) → length t ≡ 64 → i ≡ firstPlace p t → 64 ≤ i → t ≡ take 64 (insert p c t)
+pub none-in : (p c i : ℕ) (t : List ℕ) → length t ≡ 64 → i ≡ firstPlace p t → 64 ≤ i → t ≡ take 64 (insertBefore p c t)
 none-in p c i t h e l = sym (ap (take 64) (insert-none p c t (omega arith)) ∙ take-all 64 t (omega arith))

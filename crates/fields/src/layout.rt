@@ -3,7 +3,7 @@ ghost use mathlib.Core.Path.{_≡_};
 ghost use mathlib.Core.List.{[], _++_, _∷_};
 ghost use Prim.Native.Nat.{_+_, _<_};
 ghost use lib.ListN.{drop, length, take};
-ghost use Rattle.lists.specs.Lists.{insert, remove};
+ghost use Rattle.lists.specs.Lists.{insertBefore, remove};
 ghost use Rattle.fields.specs.Place.{firstPlace};
 use crate::table::Table;
 
@@ -65,7 +65,7 @@ pub fn take_out(t: &mut [u8], b: u8)
 // The child comes into the layout in front of the parent.
 pub fn put_in(t: &mut [u8], parent: u8, child: u8)
     requires { ⌜ length (now t) ≡ 64 ⌝ }
-    ensures { λ _. ⌜ now (t .exit) ≡ take 64 (insert parent child (now (t .entry))) ⌝ }
+    ensures { λ _. ⌜ now (t .exit) ≡ take 64 (insertBefore parent child (now (t .entry))) ⌝ }
 {
     let i = find(t, parent);
     if i < Table::REVISIONS {

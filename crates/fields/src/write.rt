@@ -4,7 +4,7 @@ ghost use mathlib.Core.List.{[], _++_, _∷_};
 ghost use Prim.Native.Nat.{_<_};
 ghost use lib.Dec.{eqb};
 ghost use lib.ListN.{length, set, take};
-ghost use Rattle.lists.specs.Lists.{insert, remove};
+ghost use Rattle.lists.specs.Lists.{insertBefore, remove};
 ghost use Rattle.cells.specs.Sizes.{bytes, clients, revisions, updates};
 ghost use Rattle.cells.specs.Parts.{split, wrote, lowPart, highPart, seenPart, caughtPart, statePart, usedPart, lastPart, firstPart};
 ghost use Rattle.cells.specs.Parts.{countPart, basePart, layoutPart, openedPart, countersPart, rowsPart};
@@ -165,7 +165,7 @@ pub fn join_caught(d: &mut [u8], a: Revision, b: Revision)
 // The child comes into the layout in front of the parent.
 pub fn enter(d: &mut [u8], parent: Revision, child: Revision)
     requires { ⌜ length (now d) ≡ bytes ⌝ }
-    ensures { λ _. ⌜ now (d .exit) ≡ wrote (now (d .entry)) layoutPart (take revisions (insert (parent .0) (child .0) (split (now (d .entry)) layoutPart))) ⌝ }
+    ensures { λ _. ⌜ now (d .exit) ≡ wrote (now (d .entry)) layoutPart (take revisions (insertBefore (parent .0) (child .0) (split (now (d .entry)) layoutPart))) ⌝ }
 {
     crate::layout::put_in(&mut d[LAYOUT..QUEUE], parent.0, child.0);
 }

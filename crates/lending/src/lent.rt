@@ -7,6 +7,8 @@ ghost use Rattle.table.specs.Answers.{left};
 ghost use Rattle.table.specs.Calls.{bundleOut, entriesOut};
 use bundles::entry::Entry;
 use bundles::pack::Packed;
+use bundles::sizes::Bundle;
+use bundles::sizes::Record;
 use sending::bundle::bundle;
 use table::answer::Answer;
 
@@ -14,7 +16,7 @@ use table::answer::Answer;
 fn among(count: usize) -> usize
     ensures { λ n. ⌜ n ≡ among count ⌝ }
 {
-    if 64 < count { 0 } else { count }
+    if Bundle::MOST < count { 0 } else { count }
 }
 
 // The call on entries that are put as records.
@@ -22,7 +24,7 @@ pub fn bundle_packed(t: &mut [u8], client: u8, revision: u8, p: Packed) -> Answe
     ensures { λ a. ⌜ left a (now (t .exit)) ≡ bundleOut (now (t .entry)) client revision (recordsIn p) ⌝ }
 {
     let bytes = p.bytes;
-    let end = 12 * among(p.count);
+    let end = Record::BYTES * among(p.count);
     let all = &bytes[..];
     bundle(t, client, revision, &all[..end])
 }
@@ -37,7 +39,13 @@ pub fn bundle_of(t: &mut [u8], client: u8, revision: u8, es: &[Entry]) -> Answer
 }
 
 // The first n entries of an array, lent. Its proof is a walk by hand too.
-fn bundle_first(t: &mut [u8], client: u8, revision: u8, entries: [Entry; 64], n: usize) -> Answer
+fn bundle_first(
+    t: &mut [u8],
+    client: u8,
+    revision: u8,
+    entries: [Entry; Bundle::MOST],
+    n: usize,
+) -> Answer
     requires { ⌜ n ≤ 64 ⌝ }
     ensures { λ a. ⌜ left a (now (t .exit)) ≡ entriesOut (now (t .entry)) client revision (take n entries) ⌝ }
 {
@@ -49,7 +57,7 @@ pub fn bundle_entries(
     t: &mut [u8],
     client: u8,
     revision: u8,
-    entries: [Entry; 64],
+    entries: [Entry; Bundle::MOST],
     count: usize,
 ) -> Answer
     ensures { λ a. ⌜ left a (now (t .exit)) ≡ entriesOut (now (t .entry)) client revision (take (among count) entries) ⌝ }

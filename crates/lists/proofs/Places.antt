@@ -12,7 +12,7 @@ use lib.ListN.{getD, length, replicate, take}
 use borrow.Author.Tests.{eq-eqb, eqb-false, eqb-true, ne-eqb}
 use Rattle.lists.proofs.Cases.{either, split}
 use Rattle.lists.proofs.Sublists.{parts, ∈-⊑, ⊑-⊆}
-use Rattle.lists.specs.Lists.{_∈_, _⊑_, behind, insert, remove}
+use Rattle.lists.specs.Lists.{_∈_, _⊑_, behind, insertBefore, remove}
 
 -- where an element stands
 pub record Place (b : ℕ) (l : List ℕ) : Type 0 where
@@ -54,8 +54,8 @@ places b a (x ∷ l) s = pick (Sublistᴰ·cases-cons-cons s) (places b a l)
     pick (inl t) k = let p = k t in record { above = x ∷ p .above; between = p .between; below = p .below; eq = ap (λ z. x ∷ z) (p .eq) }
     pick (inr t) k = let p = place a l (⊑-⊆ (t .1) a (List·Memᴰ·head refl)) in record { above = []; between = p .above; below = p .below; eq = λ i. sym (t .0) i ∷ p .eq i }
 
-pub insert-at : (p c : ℕ) (r l : List ℕ) → (p ∈ r → ⊥) → insert p c (r ++ (p ∷ l)) ≡ r ++ (c ∷ p ∷ l)
-unfolding insert
+pub insert-at : (p c : ℕ) (r l : List ℕ) → (p ∈ r → ⊥) → insertBefore p c (r ++ (p ∷ l)) ≡ r ++ (c ∷ p ∷ l)
+unfolding insertBefore
 insert-at p c [] l h = rw (eq-eqb p p refl)
 insert-at p c (x ∷ r) l h = rw (ne-eqb x p (λ e. h (List·Memᴰ·head (sym e))), insert-at p c r l (λ m. h (List·Memᴰ·tail m)))
 
@@ -65,32 +65,32 @@ remove-at b [] l h = rw (eq-eqb b b refl)
 remove-at b (x ∷ r) l h = rw (ne-eqb x b (λ e. h (List·Memᴰ·head (sym e))), remove-at b r l (λ m. h (List·Memᴰ·tail m)))
 
 -- c put in front of p, and b taken out: who is there
-pub insert-new : (p c : ℕ) (l : List ℕ) → p ∈ l → c ∈ insert p c l
-unfolding insert
+pub insert-new : (p c : ℕ) (l : List ℕ) → p ∈ l → c ∈ insertBefore p c l
+unfolding insertBefore
 insert-new p c (x ∷ l) i = pick (split (eqb x p)) (insert-new p c l)
   where
-    pick : (eqb x p ≡ true) ⊎ (eqb x p ≡ false) → (p ∈ l → c ∈ insert p c l) → c ∈ cond (eqb x p) (c ∷ x ∷ l) (x ∷ insert p c l)
+    pick : (eqb x p ≡ true) ⊎ (eqb x p ≡ false) → (p ∈ l → c ∈ insertBefore p c l) → c ∈ cond (eqb x p) (c ∷ x ∷ l) (x ∷ insertBefore p c l)
     pick (inl e) k = rw e (List·Memᴰ·head refl)
     pick (inr e) k = rw e (either (List·Memᴰ·cases-cons i) (λ q. absurd (eqb-false x p e (sym q))) (λ j. List·Memᴰ·tail (k j)))
 
-pub insert-old : (p c x : ℕ) (l : List ℕ) → x ∈ l → x ∈ insert p c l
-unfolding insert
+pub insert-old : (p c x : ℕ) (l : List ℕ) → x ∈ l → x ∈ insertBefore p c l
+unfolding insertBefore
 insert-old p c x (z ∷ l) i = pick (split (eqb z p)) (insert-old p c x l)
   where
-    pick : (eqb z p ≡ true) ⊎ (eqb z p ≡ false) → (x ∈ l → x ∈ insert p c l) → x ∈ cond (eqb z p) (c ∷ z ∷ l) (z ∷ insert p c l)
+    pick : (eqb z p ≡ true) ⊎ (eqb z p ≡ false) → (x ∈ l → x ∈ insertBefore p c l) → x ∈ cond (eqb z p) (c ∷ z ∷ l) (z ∷ insertBefore p c l)
     pick (inl e) k = rw e (List·Memᴰ·tail i)
     pick (inr e) k = rw e (either (List·Memᴰ·cases-cons i) (λ q. List·Memᴰ·head q) (λ j. List·Memᴰ·tail (k j)))
 
-pub insert-back : (p c x : ℕ) (l : List ℕ) → x ∈ insert p c l → (x ≡ c) ⊎ (x ∈ l)
-unfolding insert
+pub insert-back : (p c x : ℕ) (l : List ℕ) → x ∈ insertBefore p c l → (x ≡ c) ⊎ (x ∈ l)
+unfolding insertBefore
 insert-back p c x [] i = absurd (List·Memᴰ·not-nil i)
 insert-back p c x (z ∷ l) i = pick (split (eqb z p)) (insert-back p c x l)
   where
-    later : (x ≡ z) ⊎ (x ∈ insert p c l) → (x ∈ insert p c l → (x ≡ c) ⊎ (x ∈ l)) → (x ≡ c) ⊎ (x ∈ (z ∷ l))
+    later : (x ≡ z) ⊎ (x ∈ insertBefore p c l) → (x ∈ insertBefore p c l → (x ≡ c) ⊎ (x ∈ l)) → (x ≡ c) ⊎ (x ∈ (z ∷ l))
     later (inl e) k = inr (List·Memᴰ·head e)
     later (inr j) k = either (k j) (λ q. inl q) (λ h. inr (List·Memᴰ·tail h))
 
-    pick : (eqb z p ≡ true) ⊎ (eqb z p ≡ false) → (x ∈ insert p c l → (x ≡ c) ⊎ (x ∈ l)) → (x ≡ c) ⊎ (x ∈ (z ∷ l))
+    pick : (eqb z p ≡ true) ⊎ (eqb z p ≡ false) → (x ∈ insertBefore p c l → (x ≡ c) ⊎ (x ∈ l)) → (x ≡ c) ⊎ (x ∈ (z ∷ l))
     pick (inl e) k = List·Memᴰ·cases-cons (rw e at i)
     pick (inr e) k = later (List·Memᴰ·cases-cons (rw e at i)) k
 
@@ -120,29 +120,29 @@ remove-gone b (z ∷ l) d i = pick (split (eqb z b)) (remove-gone b l (nodup-con
     pick (inl e) k = let j : b ∈ l = rw e at i in nodup-cons .0 d .0 ∣ Memᴰ·cast (eqb-true z b e) j ∣₁
     pick (inr e) k = either (List·Memᴰ·cases-cons (rw e at i)) (λ q. eqb-false z b e (sym q)) (λ j. k j)
 
-pub insert-sub : (p c : ℕ) (l : List ℕ) → l ⊑ insert p c l
-unfolding insert
+pub insert-sub : (p c : ℕ) (l : List ℕ) → l ⊑ insertBefore p c l
+unfolding insertBefore
 insert-sub p c [] = Sublistᴰ·refl []
 insert-sub p c (x ∷ l) = pick (split (eqb x p)) (insert-sub p c l)
   where
-    pick : (eqb x p ≡ true) ⊎ (eqb x p ≡ false) → l ⊑ insert p c l → (x ∷ l) ⊑ cond (eqb x p) (c ∷ x ∷ l) (x ∷ insert p c l)
+    pick : (eqb x p ≡ true) ⊎ (eqb x p ≡ false) → l ⊑ insertBefore p c l → (x ∷ l) ⊑ cond (eqb x p) (c ∷ x ∷ l) (x ∷ insertBefore p c l)
     pick (inl e) k = rw e (Sublistᴰ·cons (Sublistᴰ·refl (x ∷ l)))
     pick (inr e) k = rw e (Sublistᴰ·cons-cons refl k)
 
-pub insert-self : (p c : ℕ) (l : List ℕ) → p ∈ l → (c ∷ p ∷ []) ⊑ insert p c l
-unfolding insert
+pub insert-self : (p c : ℕ) (l : List ℕ) → p ∈ l → (c ∷ p ∷ []) ⊑ insertBefore p c l
+unfolding insertBefore
 insert-self p c (x ∷ l) i = pick (split (eqb x p)) (insert-self p c l)
   where
-    pick : (eqb x p ≡ true) ⊎ (eqb x p ≡ false) → (p ∈ l → (c ∷ p ∷ []) ⊑ insert p c l) → (c ∷ p ∷ []) ⊑ cond (eqb x p) (c ∷ x ∷ l) (x ∷ insert p c l)
+    pick : (eqb x p ≡ true) ⊎ (eqb x p ≡ false) → (p ∈ l → (c ∷ p ∷ []) ⊑ insertBefore p c l) → (c ∷ p ∷ []) ⊑ cond (eqb x p) (c ∷ x ∷ l) (x ∷ insertBefore p c l)
     pick (inl e) k = rw e (Sublistᴰ·cons-cons refl (∈-⊑ p (x ∷ l) i))
     pick (inr e) k = rw e (either (List·Memᴰ·cases-cons i) (λ q. absurd (eqb-false x p e (sym q))) (λ j. Sublistᴰ·cons (k j)))
 
-pub insert-pair : (p c z : ℕ) (l : List ℕ) → (p ∷ z ∷ []) ⊑ l → (c ∷ z ∷ []) ⊑ insert p c l
-unfolding insert
+pub insert-pair : (p c z : ℕ) (l : List ℕ) → (p ∷ z ∷ []) ⊑ l → (c ∷ z ∷ []) ⊑ insertBefore p c l
+unfolding insertBefore
 insert-pair p c z [] s = absurd (List·Memᴰ·not-nil (⊑-⊆ s p (List·Memᴰ·head refl)))
 insert-pair p c z (x ∷ l) s = pick (split (eqb x p)) (insert-pair p c z l)
   where
-    pick : (eqb x p ≡ true) ⊎ (eqb x p ≡ false) → ((p ∷ z ∷ []) ⊑ l → (c ∷ z ∷ []) ⊑ insert p c l) → (c ∷ z ∷ []) ⊑ cond (eqb x p) (c ∷ x ∷ l) (x ∷ insert p c l)
+    pick : (eqb x p ≡ true) ⊎ (eqb x p ≡ false) → ((p ∷ z ∷ []) ⊑ l → (c ∷ z ∷ []) ⊑ insertBefore p c l) → (c ∷ z ∷ []) ⊑ cond (eqb x p) (c ∷ x ∷ l) (x ∷ insertBefore p c l)
     pick (inl e) k = rw e (Sublistᴰ·cons-cons refl (∈-⊑ z (x ∷ l) (⊑-⊆ s z (List·Memᴰ·tail (List·Memᴰ·head refl)))))
     pick (inr e) k = rw e (either (Sublistᴰ·cases-cons-cons s) (λ t. Sublistᴰ·cons (k t)) (λ t. absurd (eqb-false x p e (sym (t .0)))))
 

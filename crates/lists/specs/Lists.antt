@@ -30,9 +30,9 @@ keep p [] = []
 keep p (x ∷ l) = cond (p x) (x ∷ keep p l) (keep p l)
 
 -- c put in front of p, where p stands first
-unfoldable pub insert : ℕ → ℕ → List ℕ → List ℕ
-insert p c [] = []
-insert p c (x ∷ l) = cond (eqb x p) (c ∷ x ∷ l) (x ∷ insert p c l)
+unfoldable pub insertBefore : ℕ → ℕ → List ℕ → List ℕ
+insertBefore p c [] = []
+insertBefore p c (x ∷ l) = cond (eqb x p) (c ∷ x ∷ l) (x ∷ insertBefore p c l)
 
 -- b taken out, where it stands first
 unfoldable pub remove : ℕ → List ℕ → List ℕ

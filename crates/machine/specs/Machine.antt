@@ -6,7 +6,7 @@ use mathlib.Core.Path.{_≡_}
 use mathlib.Core.Option.{Option, none, some}
 use mathlib.Core.List.{List, [], _∷_, _++_}
 use lib.Dec.{eqb}
-use Rattle.lists.specs.Lists.{_∈_, changed, insert, remove, member, keep, flatBack, behind}
+use Rattle.lists.specs.Lists.{_∈_, changed, insertBefore, remove, member, keep, flatBack, behind}
 use Rattle.diagram.specs.Effects.{entry, own, view}
 use Rattle.diagram.specs.Day.{Transaction, Day, IsOut}
 use Rattle.diagram.specs.Checks.{stale, notJoinable}
@@ -80,7 +80,7 @@ forkOn k r = record {
   updates = k .updates;
   own = changed (k .own) (k .revisions) [];
   inherited = changed (k .inherited) (k .revisions) (k .inherited r ++ k .own r);
-  layout = insert r (k .revisions) (k .layout);
+  layout = insertBefore r (k .revisions) (k .layout);
 }
 
 -- 002, JOIN: "take the union of the sets J of joinable servers". The joinee's own list goes to the end of the joiner's.

@@ -9,16 +9,16 @@ use lib.ListN.{length, take, drop}
 use borrow.Author.Tests.{ltb-false, eqb-true, not-false, le-leb}
 use Rattle.lists.proofs.Cases.{or-false}
 use Rattle.lists.proofs.Told.{failed}
-use Rattle.records.specs.File.{count, offset, isBad, fileCheck}
+use Rattle.records.specs.File.{stepCount, offset, isBad, fileCheck}
 use Rattle.records.specs.Record.{stepAt, stepOf}
 use Rattle.records.specs.declared.file.FileCheck.the-variants.{Good, Bad}
 
 module _ (f : List ℕ) (n : ℕ) (h : fileCheck f ≡ Good n) where
-  good : (isBad f ≡ false) × (Good (count f) ≡ Good n)
+  good : (isBad f ≡ false) × (Good (stepCount f) ≡ Good n)
   unfolding fileCheck
-  good = failed (isBad f) Bad (Good (count f)) (Good n) (λ e. cc) h
+  good = failed (isBad f) Bad (Good (stepCount f)) (Good n) (λ e. cc) h
 
-  pub count-is : count f ≡ n
+  pub count-is : stepCount f ≡ n
   count-is = cc (good .1)
 
   pub header-fits : (8 ≤ offset f) × (offset f + 12 * n ≡ length f) × (length f ≤ 65536)
@@ -26,7 +26,7 @@ module _ (f : List ℕ) (n : ℕ) (h : fileCheck f ≡ Good n) where
       let a = or-false (ltb (length f) 8) _ (good .0) in
       let b = or-false (ltb 65536 (length f)) _ (a .1) in
       let c = or-false (ltb (offset f) 8) _ (b .1) in
-      let e = eqb-true (offset f + 12 * count f) (length f) (not-false (eqb (offset f + 12 * count f) (length f)) (c .1)) in
+      let e = eqb-true (offset f + 12 * stepCount f) (length f) (not-false (eqb (offset f + 12 * stepCount f) (length f)) (c .1)) in
       (ltb-false (offset f) 8 (c .0), ap (λ k. offset f + 12 * k) (sym count-is) ∙ e, ltb-false 65536 (length f) (b .0))
 
   -- 5,460 records at most

@@ -7,7 +7,7 @@ use native.Mathlib.Numerals.{add-one}
 use lib.Dec.{eqb}
 use lib.ListN.{length, set, take, replicate, length-replicate, length-set}
 use borrow.Author.Tests.{eq-eqb, ne-eqb}
-use Rattle.lists.specs.Lists.{insert, remove}
+use Rattle.lists.specs.Lists.{insertBefore, remove}
 use Rattle.lists.proofs.Cases.{cases}
 use Rattle.cells.specs.Sizes.{bytes, revisions, clients, closed}
 use Rattle.cells.specs.Parts.{Parts, Sized, size, split, glue, wrote, _⟨_≔_⟩, rowsPart, lowPart, highPart, seenPart, caughtPart, statePart, usedPart, lastPart, firstPart}
@@ -138,14 +138,14 @@ module _ (d : List ℕ) (l : length d ≡ bytes) where
 
   pub start-done : (d₁ d₂ d₃ d₄ d₅ d₆ : List ℕ) (q c n m : ℕ)
       → d₁ ≡ wrote d seenPart (pack revisions (forkSeen (decode (split d) .seen) q c)) → d₂ ≡ wrote d₁ caughtPart (pack clients (forkCaught (decode (split d₁) .caught) q c))
-      → d₃ ≡ wrote d₂ statePart (set (split d₂ statePart) c 1) → d₄ ≡ wrote d₃ layoutPart (take revisions (insert q c (split d₃ layoutPart)))
+      → d₃ ≡ wrote d₂ statePart (set (split d₂ statePart) c 1) → d₄ ≡ wrote d₃ layoutPart (take revisions (insertBefore q c (split d₃ layoutPart)))
       → d₅ ≡ wrote d₄ countersPart (set (split d₄ countersPart) 2 n) → d₆ ≡ wrote d₅ countersPart (set (split d₅ countersPart) 3 m) → d₆ ≡ glue (startParts (split d) q c n m)
   start-done d₁ d₂ d₃ d₄ d₅ d₆ q c n m e₁ e₂ e₃ e₄ e₅ e₆ =
       let h = holds-split d l in
       let h₁ = seen-wrote (λ f. forkSeen f q c) h e₁ in
       let h₂ = caught-wrote (λ f. forkCaught f q c) h₁ e₂ in
       let h₃ = byte-wrote statePart c 1 h₂ e₃ in
-      let h₄ = holds-step (λ p. p ⟨ layoutPart ≔ take revisions (insert q c (p layoutPart)) ⟩) h₃ e₄ (layout-sized (h₃ .sized) (insert q c (split d layoutPart)) (insert-length q c (split d layoutPart))) in
+      let h₄ = holds-step (λ p. p ⟨ layoutPart ≔ take revisions (insertBefore q c (p layoutPart)) ⟩) h₃ e₄ (layout-sized (h₃ .sized) (insertBefore q c (split d layoutPart)) (insert-length q c (split d layoutPart))) in
       let h₅ = byte-wrote countersPart 2 n h₄ e₅ in
       byte-wrote countersPart 3 m h₅ e₆ .eq ∙ ap glue (with-twice _ countersPart _ _)
 

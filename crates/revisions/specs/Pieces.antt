@@ -2,7 +2,7 @@
 use Prim.Native.Nat.{ℕ}
 use mathlib.Core.List.{[], _∷_, _++_}
 use lib.ListN.{set, take}
-use Rattle.lists.specs.Lists.{insert, remove}
+use Rattle.lists.specs.Lists.{insertBefore, remove}
 use Rattle.cells.specs.Sizes.{revisions, clients, stateOut, stateJoined}
 use Rattle.cells.specs.Parts.{Parts, _⟨_≔_⟩, seenPart, caughtPart, statePart, layoutPart, countersPart}
 use Rattle.cells.specs.Marks.{pack}
@@ -28,5 +28,5 @@ startParts p q c n m =
     ⟨ seenPart ≔ pack revisions (forkSeen (k .seen) q c) ⟩
     ⟨ caughtPart ≔ pack clients (forkCaught (k .caught) q c) ⟩
     ⟨ statePart ≔ set (p statePart) c stateOut ⟩
-    ⟨ layoutPart ≔ take revisions (insert q c (p layoutPart)) ⟩
+    ⟨ layoutPart ≔ take revisions (insertBefore q c (p layoutPart)) ⟩
     ⟨ countersPart ≔ set (set (p countersPart) 2 n) 3 m ⟩

@@ -5,7 +5,7 @@ use mathlib.Core.List.{List·Memᴰ·append-cases, List·Memᴰ·eq-of-singleton
 use native.Mathlib.Omega.{arith}
 use lib.Dec.{eqb}
 use borrow.Author.Tests.{eq-eqb}
-use Rattle.lists.specs.Lists.{_∈_, changed, insert, remove}
+use Rattle.lists.specs.Lists.{_∈_, changed, insertBefore, remove}
 use Rattle.lists.proofs.Cases.{cond-all, either}
 use Rattle.lists.proofs.Changed.{changed-at}
 use Rattle.lists.proofs.Places.{insert-back, remove-back, replicate-in, take-in}
@@ -58,7 +58,7 @@ module _ (k : Cells) (B : Bounded k) where
     first-low = B .first-low;
     count-few = changed-all (λ n. n ≤ updates) (k .count) c 0 (B .count-few) (omega arith);
     base-few = changed-all (λ n. n ≤ updates) (k .base) c _ (B .base-few) (cond-all (λ n. n ≤ updates) (eqb p main) (k .count main) (k .base p) (B .count-few main) (B .base-few p));
-    places-low = λ x i. either (insert-back p c x (k .layout) (take-in x revisions (insert p c (k .layout)) i)) (λ e. omega arith) (B .places-low x);
+    places-low = λ x i. either (insert-back p c x (k .layout) (take-in x revisions (insertBefore p c (k .layout)) i)) (λ e. omega arith) (B .places-low x);
   }
 
   -- of an update and a join, the cells after it stand for a machine whose lists have no more than the log

@@ -8,7 +8,7 @@ use lib.Dec.{eqb, ltb}
 use lib.ListN.{length, take}
 use lib.Seq.{length-take-le, take-all}
 use borrow.Author.Tests.{eq-eqb, eqb-false, eqb-true, le-ltb, lt-ltb, ltb-false, ltb-true, ne-eqb}
-use Rattle.lists.specs.Lists.{_∈_, insert, member}
+use Rattle.lists.specs.Lists.{_∈_, insertBefore, member}
 use Rattle.lists.proofs.Cases.{cases, either, or-cases, or-right}
 use Rattle.lists.proofs.Keep.{member-++, member-in}
 use Rattle.lists.proofs.Places.{insert-back, insert-old}
@@ -44,10 +44,10 @@ module _ (k : Cells) (m : Machine) (h : Represents k m) (L : Laid m) (p : ℕ) (
   main-own : m′ .own main ≡ m .own main
   main-own = rw (ne-eqb main c not-main)
 
-  fork-layout : take (suc (k .out)) (k′ .layout) ≡ insert p c (m .layout)
+  fork-layout : take (suc (k .out)) (k′ .layout) ≡ insertBefore p c (m .layout)
   fork-layout =
       let a = h .out-few in
-      fork-outs k p c (omega arith) (rw (h .layout-is) i) ∙ ap (insert p c) (h .layout-is)
+      fork-outs k p c (omega arith) (rw (h .layout-is) i) ∙ ap (insertBefore p c) (h .layout-is)
 
   fork-state : (r : ℕ) → k′ .state r ≡ stateCell m′ r
   fork-state r =
@@ -110,7 +110,7 @@ module _ (k : Cells) (m : Machine) (h : Represents k m) (L : Laid m) (p : ℕ) (
   forks-next : Represents k′ m′
   forks-next = record {
     layout-is = fork-layout;
-    places = let a = h .places in let b = insert-length p c (k .layout) in length-take-le revisions (insert p c (k .layout)) (omega arith);
+    places = let a = h .places in let b = insert-length p c (k .layout) in length-take-le revisions (insertBefore p c (k .layout)) (omega arith);
     out-few = let a = h .out-few in omega arith;
     given-is = ap suc (h .given-is);
     given-few = room;

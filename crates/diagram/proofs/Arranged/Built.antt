@@ -26,7 +26,7 @@ use Rattle.lists.proofs.Cases.{cases, either, or-left, or-right, split}
 use Rattle.lists.proofs.Changed.{changed-other, changed-same}
 use Rattle.lists.proofs.Places.{Place, Places, insert-at, place, places, remove-at}
 use Rattle.lists.proofs.Sublists.{nodup-apart, ⊑-⊆}
-use Rattle.lists.specs.Lists.{_∈_, _⊆_, _⊑_, changed, insert, remove}
+use Rattle.lists.specs.Lists.{_∈_, _⊆_, _⊑_, changed, insertBefore, remove}
 
 blocks-from : (s : Contents) (l : List ℕ) (n : ℕ) → n ∈ blocks s l → (x : ℕ) × (n ∈ s x .own)
 blocks-from s [] n i = absurd (List·Memᴰ·not-nil i)
@@ -138,16 +138,16 @@ module _ (d : Diagram) (layout : List ℕ) (terminal starts : ℕ → ℕ) (L : 
   FP : Place b layout
   FP = place b layout b-in
 
-  FL : insert b c layout ≡ FP .above ++ (c ∷ b ∷ FP .below)
-  FL = ap (insert b c) (FP .eq) ∙ insert-at b c (FP .above) (FP .below) (λ i. nodup-apart (FP .above) _ (rw (FP .eq) at (L .inv .distinct)) b i (List·Memᴰ·head refl))
+  FL : insertBefore b c layout ≡ FP .above ++ (c ∷ b ∷ FP .below)
+  FL = ap (insertBefore b c) (FP .eq) ∙ insert-at b c (FP .above) (FP .below) (λ i. nodup-apart (FP .above) _ (rw (FP .eq) at (L .inv .distinct)) b i (List·Memᴰ·head refl))
 
-  c-in : c ∈ insert b c layout
+  c-in : c ∈ insertBefore b c layout
   c-in = rw FL (Memᴰ·append-right (FP .above) (List·Memᴰ·head refl))
 
-  lay-in : (x : ℕ) → x ∈ layout → x ∈ insert b c layout
+  lay-in : (x : ℕ) → x ∈ layout → x ∈ insertBefore b c layout
   lay-in x i = rw FL (⊑-⊆ (Sublistᴰ·append (Sublistᴰ·refl (FP .above)) (Sublistᴰ·cons (Sublistᴰ·refl (b ∷ FP .below)))) x (rw (FP .eq) at i))
 
-  out-in : (x : ℕ) → x ∈ insert b c layout → (x ≡ c → ⊥) → x ∈ layout
+  out-in : (x : ℕ) → x ∈ insertBefore b c layout → (x ≡ c → ⊥) → x ∈ layout
   out-in x i n = rw (FP .eq) (pick (List·Memᴰ·append-cases (FP .above) (rw FL at i)))
     where
       late : (x ≡ c) ⊎ (x ∈ (b ∷ FP .below)) → x ∈ (FP .above ++ (b ∷ FP .below))
@@ -164,7 +164,7 @@ module _ (d : Diagram) (layout : List ℕ) (terminal starts : ℕ → ℕ) (L : 
   asked-may : (x y : ℕ) → (y ≡ c → ⊥) → May d terminal starts x y → asked x y ≡ true
   asked-may x y n h = rw (ne-eqb y c n) (true-may d terminal starts x y h)
 
-  fork-inv′ : Inv (insert b c layout) (forkContents (contents d terminal) b c) (forkJ asked b c)
+  fork-inv′ : Inv (insertBefore b c layout) (forkContents (contents d terminal) b c) (forkJ asked b c)
   fork-inv′ =
       let j : Inv layout (contents d terminal) asked = inv-same layout (contents d terminal) (contents d terminal) (may d terminal starts) asked (L .inv) (λ x i. refl) less in
       rw FL (fork-inv (FP .above) b (FP .below) (contents d terminal) asked c (rw (FP .eq) at j) (rw (FP .eq) at c-new) (λ x. rw (eq-eqb c c refl)))
@@ -172,7 +172,7 @@ module _ (d : Diagram) (layout : List ℕ) (terminal starts : ℕ → ℕ) (L : 
       less : (x y : ℕ) → x ∈ layout → y ∈ layout → asked x y ≡ true → may d terminal starts x y ≡ true
       less x y i k e = rw (ne-eqb y c (not-new y k)) at e
 
-  fork-may : (x y : ℕ) → x ∈ insert b c layout → y ∈ insert b c layout → May (sv ∷ d) t2 starts2 x y → forkJ asked b c x y ≡ true
+  fork-may : (x y : ℕ) → x ∈ insertBefore b c layout → y ∈ insertBefore b c layout → May (sv ∷ d) t2 starts2 x y → forkJ asked b c x y ≡ true
   fork-may x y i k h = at-y (split (eqb y c)) (split (eqb x c))
     where
       to-c : y ≡ c → (x ≡ c → ⊥) → (eqb x b ≡ true) ⊎ (eqb x b ≡ false) → forkJ asked b c x y ≡ true
@@ -215,7 +215,7 @@ module _ (d : Diagram) (layout : List ℕ) (terminal starts : ℕ → ℕ) (L : 
   unfolding tabulate
   start-small x n i = cases (eqb x (length d)) (λ e. absurd (List·Memᴰ·not-nil (rw e at i))) (λ e. omega (arith, L .small x n (rw e at i)))
 
-  start-past : (x : ℕ) → x < length (sv ∷ d) → Held (insert b c layout) (contents (sv ∷ d) t2) (viewEvents (sv ∷ d) x)
+  start-past : (x : ℕ) → x < length (sv ∷ d) → Held (insertBefore b c layout) (contents (sv ∷ d) t2) (viewEvents (sv ∷ d) x)
   start-past x h =
       cases (eqb x (length d))
       (λ e.
@@ -229,13 +229,13 @@ module _ (d : Diagram) (layout : List ℕ) (terminal starts : ℕ → ℕ) (L : 
       let u : contents (sv ∷ d) t2 (w .0) ≡ contents d terminal (w .0) = fork-content (w .0) ∙ changed-other (contents d terminal) c _ (w .0) (not-new (w .0) (w .1)) in
       (w .0, lay-in (w .0) (w .1), rw (tabulate-older viewEventStep [] sv d x l) (subst (λ z. viewEvents d x ⊑ seen z) (sym u) (w .2))))
 
-  pub linked-start : Linked (start f ∷ d) (insert b c layout) (changed terminal c (length d)) (changed starts c (length d))
+  pub linked-start : Linked (start f ∷ d) (insertBefore b c layout) (changed terminal c (length d)) (changed starts c (length d))
   linked-start = record {
     ordered = one-more {v = sv} start-older (L .ordered);
     joins-ok = (tt, L .joins-ok);
     bound = on-bound d sv terminal (L .bound) c;
     small = start-small;
-    inv = inv-same (insert b c layout) (forkContents (contents d terminal) b c) (contents (sv ∷ d) t2) (forkJ asked b c) (may (sv ∷ d) t2 starts2) fork-inv′ (λ x i. fork-content x) (λ x y i k e. fork-may x y i k (may-true (sv ∷ d) t2 starts2 x y e));
+    inv = inv-same (insertBefore b c layout) (forkContents (contents d terminal) b c) (contents (sv ∷ d) t2) (forkJ asked b c) (may (sv ∷ d) t2 starts2) fork-inv′ (λ x i. fork-content x) (λ x y i k e. fork-may x y i k (may-true (sv ∷ d) t2 starts2 x y e));
     past = start-past;
   }
 

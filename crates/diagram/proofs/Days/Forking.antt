@@ -23,7 +23,7 @@ use Rattle.diagram.specs.Steps.{forkAt}
 use Rattle.lists.proofs.Cases.{cases, either, split}
 use Rattle.lists.proofs.Changed.{changed-other}
 use Rattle.lists.proofs.Places.{insert-back, insert-old}
-use Rattle.lists.specs.Lists.{_∈_, changed, flat, insert}
+use Rattle.lists.specs.Lists.{_∈_, changed, flat, insertBefore}
 
 module _ (y : Day) (layout : List ℕ) (hold : ℕ → List ℕ) (S : Sound y layout hold) (r : ℕ) (N : CanFork y r) where
   abbrev d : Diagram
@@ -57,10 +57,10 @@ module _ (y : Day) (layout : List ℕ) (hold : ℕ → List ℕ) (S : Sound y la
   older : (s : ℕ) → s ∈ layout → s ≡ n → ⊥
   older s i e = omega (arith, S .real .back s i .0)
 
-  stays : (s : ℕ) → s ∈ insert r n layout → eqb s n ≡ false → s ∈ layout
+  stays : (s : ℕ) → s ∈ insertBefore r n layout → eqb s n ≡ false → s ∈ layout
   stays s i e = either (insert-back r n s layout i) (λ q. absurd (eqb-false s n e q)) (λ j. j)
 
-  filed′ : Filed (forkAt y r) (insert r n layout) hold′
+  filed′ : Filed (forkAt y r) (insertBefore r n layout) hold′
   filed′ = record {
     blocks-ok = λ s i. cases (eqb s n) (λ e. rw e (tabulate-newest ownEventStep [] sv (fv ∷ d))) (λ e. rw e (own-old s (stays s i e)));
     all = λ t h. let p = S .filed .all t h in (p .0, insert-old r n (p .0) layout (p .1), rw (changed-other hold n [] (p .0) (older (p .0) (p .1))) (p .2));
@@ -95,7 +95,7 @@ module _ (y : Day) (layout : List ℕ) (hold : ℕ → List ℕ) (S : Sound y la
       let old = older _ (S .real .out _ o) in
       ((omega (arith, o .0), changed-other (y .joined) n false _ old ∙ o .1), terminal-old _ (o .0) (idle-far y layout hold S r c s (N .idle) p), changed-other hold n [] _ old)
 
-  pub sound-fork : Sound (forkAt y r) (insert r (y .revisions) layout) (changed hold (y .revisions) [])
+  pub sound-fork : Sound (forkAt y r) (insertBefore r (y .revisions) layout) (changed hold (y .revisions) [])
   sound-fork = record {
     real = real-fork y layout (S .real) r N;
     filed = filed′;

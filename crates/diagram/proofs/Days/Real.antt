@@ -8,7 +8,7 @@ use native.Mathlib.Omega.{arith}
 use lib.ListN.{length}
 use lib.Dec.{eqb}
 use borrow.Author.Tests.{eqb-true}
-use Rattle.lists.specs.Lists.{_∈_, changed, insert, remove}
+use Rattle.lists.specs.Lists.{_∈_, changed, insertBefore, remove}
 use Rattle.lists.proofs.Cases.{cases, either}
 use Rattle.lists.proofs.Changed.{changed-other, changed-same}
 use Rattle.lists.proofs.Places.{insert-back, insert-new, insert-old, remove-back, remove-gone, remove-keep}
@@ -73,7 +73,7 @@ module _ (y : Day) (layout : List ℕ) (R : Real y layout) where
   pub real-close : (c t : ℕ) → Real (close y c t) layout
   real-close c t = record { linked = R .linked; out = R .out; back = R .back; forks = R .forks; main = R .main; starts-low = R .starts-low; forks-low = R .forks-low }
 
-  pub real-fork : (r : ℕ) → CanFork y r → Real (forkAt y r) (insert r (y .revisions) layout)
+  pub real-fork : (r : ℕ) → CanFork y r → Real (forkAt y r) (insertBefore r (y .revisions) layout)
   real-fork r N = record {
     linked = linked-start (fv ∷ d) layout (changed (y .terminal) r (length d)) (y .startOf) (linked-fork d layout (y .terminal) (y .startOf) (R .linked) r r-in) r r-in n n-new (length d) (changed-same (y .terminal) r (length d)) refl (lone d layout (y .terminal) (y .startOf) (R .linked) r);
     out = λ s o. cases (eqb s n) (λ e. Memᴰ·cast (eqb-true s n e) (insert-new r n layout r-in)) (λ e. insert-old r n s layout (R .out s (forked-out y r s o e)));

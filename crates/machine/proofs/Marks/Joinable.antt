@@ -24,7 +24,7 @@ use Rattle.diagram.specs.Steps.{close, enter, forkAt, joinInto, yield}
 use Rattle.lists.proofs.Cases.{cases, either, or-cases, or-false, or-left, or-right, same-truth, split}
 use Rattle.lists.proofs.Places.{insert-pair, insert-self, insert-sub, remove-sub}
 use Rattle.lists.proofs.Sublists.{pair-self, pair-trans}
-use Rattle.lists.specs.Lists.{_⊑_, insert, remove}
+use Rattle.lists.specs.Lists.{_⊑_, insertBefore, remove}
 
 -- what code 11 lets through
 abbrev pub J : Day → ℕ → ℕ → Bool
@@ -126,14 +126,14 @@ module _ (y : Day) (F : Fine y) where
       which : (s : ℕ) → IsOut ys s → Which s
       which s o = cases (eqb s m) (λ e. is-new (eqb-true s m e)) (λ e. let k = eqb-false s m e in is-old k (omega (arith, o .0), rw e at (o .1)))
 
-      fork-left : (x z : ℕ) → IsOut ys x → IsOut ys z → startSeen ys z x ≡ true → (x ≡ z) ⊎ ((x ∷ z ∷ []) ⊑ insert r m (F .layout))
+      fork-left : (x z : ℕ) → IsOut ys x → IsOut ys z → startSeen ys z x ≡ true → (x ≡ z) ⊎ ((x ∷ z ∷ []) ⊑ insertBefore r m (F .layout))
       fork-left x z ox oz e = pick (which x ox) (which z oz)
         where
-          from-r : (r ≡ z) ⊎ ((r ∷ z ∷ []) ⊑ F .layout) → (m ∷ z ∷ []) ⊑ insert r m (F .layout)
-          from-r (inl q) = subst (λ k. (m ∷ k ∷ []) ⊑ insert r m (F .layout)) q (insert-self r m (F .layout) (R .out r (N .out)))
+          from-r : (r ≡ z) ⊎ ((r ∷ z ∷ []) ⊑ F .layout) → (m ∷ z ∷ []) ⊑ insertBefore r m (F .layout)
+          from-r (inl q) = subst (λ k. (m ∷ k ∷ []) ⊑ insertBefore r m (F .layout)) q (insert-self r m (F .layout) (R .out r (N .out)))
           from-r (inr q) = insert-pair r m z (F .layout) q
 
-          pick : Which x → Which z → (x ≡ z) ⊎ ((x ∷ z ∷ []) ⊑ insert r m (F .layout))
+          pick : Which x → Which z → (x ≡ z) ⊎ ((x ∷ z ∷ []) ⊑ insertBefore r m (F .layout))
           pick (is-new a) (is-new b) = inl (a ∙ sym b)
           pick (is-new a) (is-old k b) = inr (rw a (from-r (K .left r z (N .out) b (sym (fork-start-new y F r z k) ∙ subst (λ w. startSeen ys z w ≡ true) a e))))
           pick (is-old k a) (is-new b) = absurd (false≢true (sym (start-none y F r x k) ∙ subst (λ w. startSeen ys w x ≡ true) b e))
@@ -155,7 +155,7 @@ module _ (y : Day) (F : Fine y) where
           by (is-old j q) (is-old l g) (is-old i w) =
               fork-start y F r z a j i ∙ K .through a b z w g q (sym (J-fork-old r a b i l) ∙ h) (sym (fork-start y F r z b j l) ∙ e) k
 
-      pub marks-fork : Marks (forkAt y r) (insert r (y .revisions) (F .layout))
+      pub marks-fork : Marks (forkAt y r) (insertBefore r (y .revisions) (F .layout))
       marks-fork = record {
         own-start = λ s h. cases (eqb s m) (λ e. subst (λ z. startSeen ys z z ≡ true) (sym (eqb-true s m e)) (start-own y F r)) (λ e. let k = eqb-false s m e in fork-start y F r s s k k ∙ K .own-start s (omega arith));
         left = fork-left;

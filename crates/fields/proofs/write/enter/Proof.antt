@@ -2,7 +2,7 @@
 use native.Mathlib.Omega.{arith}
 use lib.ListN.{take}
 use borrow.Author.Needs.{needs}
-use Rattle.lists.specs.Lists.{insert}
+use Rattle.lists.specs.Lists.{insertBefore}
 use Rattle.cells.specs.Parts.{layoutPart, offset, size}
 use Rattle.cells.specs.Sizes.{revisions}
 use Rattle.cells.proofs.Parts.{part-lent}
@@ -11,7 +11,7 @@ use Rattle.fields.proofs.write.enter.Tie as tie
 
 returns : tie.Need-returns
 unfolding offset size
-returns c = let s = c .before .before .before .before .before .args in part-lent (s .d .now) layoutPart (λ t. take revisions (insert (s .parent .0) (s .child .0) t)) (omega arith) (omega arith) (c .before .before .put-in .ensures)
+returns c = let s = c .before .before .before .before .before .args in part-lent (s .d .now) layoutPart (λ t. take revisions (insertBefore (s .parent .0) (s .child .0) t)) (omega arith) (omega arith) (c .before .before .put-in .ensures)
 
 pub enter-spec : {M : Type 1} → statement M
 enter-spec = tie.close (tie.spec
