@@ -90,11 +90,11 @@ unfolding tabulate
 applied-twice = refl
 
 -- 002, section 4.3: box 0 sends 1, and 1 sends 2: 0 may join 1 alone, 1 may join 2, and 2 nobody; once 0 has joined 1 it may join 2. A box that is
--- sent later may join whom its sender may
+-- sent later may join whom its sender may, and nobody may join box 0
 pools :
     (pool (Fork 0 ∷ Fork 1 ∷ []) 0 1 ∷ pool (Fork 0 ∷ Fork 1 ∷ []) 0 2 ∷ pool (Fork 0 ∷ Fork 1 ∷ []) 1 2 ∷ pool (Fork 0 ∷ Fork 1 ∷ []) 2 1 ∷ pool (Fork 0 ∷ Fork 1 ∷ Join 0 1 ∷ []) 0 2
-    ∷ pool (Fork 0 ∷ Fork 0 ∷ []) 2 1 ∷ pool (Fork 0 ∷ Fork 0 ∷ []) 1 2 ∷ [])
-    ≡ true ∷ false ∷ true ∷ false ∷ true ∷ true ∷ false ∷ []
+    ∷ pool (Fork 0 ∷ Fork 0 ∷ []) 2 1 ∷ pool (Fork 0 ∷ Fork 0 ∷ []) 1 2 ∷ pool (Fork 0 ∷ []) 1 0 ∷ [])
+    ≡ true ∷ false ∷ true ∷ false ∷ true ∷ true ∷ false ∷ false ∷ []
 unfolding pool poolFrom after
 pools = refl
 
