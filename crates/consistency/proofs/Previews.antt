@@ -1,41 +1,29 @@
 -- A preview of a table is a join on a copy, read there, whatever the buffer is (02, U6).
-use Prim.Native.Nat.{ℕ, suc}
-use mathlib.Core.Bool.{Bool, true, false, not}
+use Prim.Native.Nat.{ℕ}
 use mathlib.Core.Path.{_≡_, refl, sym, _∙_, ap}
 use mathlib.Core.List.{List}
 use native.Mathlib.Omega.{arith}
-use lib.Dec.{eqb}
-use borrow.Author.Tests.{eqb-false, eqb-true}
-use Rattle.lists.proofs.Cases.{cases}
+use lib.Dec.{eqb, ltb}
+use borrow.Author.Tests.{eqb-false, eqb-true, ltb-true}
+use Rattle.lists.proofs.Cases.{and-true, cases}
 use Rattle.updates.specs.declared.standing.Standing.{Standing}
 use Rattle.updates.specs.Effect.{stateOf, valueIn}
 use Rattle.updates.specs.Kinds.{badBib}
-use Rattle.cells.specs.Checks.{busyByOther, givenOut, isClient, joined, openElsewhere, stale}
-use Rattle.table.specs.Halves.{cellsOf, isTable}
-use Rattle.table.specs.Answers.{Out, check}
+use Rattle.table.specs.Halves.{isTable}
+use Rattle.table.specs.Answers.{Out}
 use Rattle.table.specs.Calls.{foreseen, joinOut, previewOut, queryOut, readOn, standingAt}
 use Rattle.consistency.specs.Previews.{FollowsJoin, PreviewsFollowJoins}
+use Rattle.consistency.proofs.Refusals.{query-checks}
 
 -- a query that is taken tells the standing
 record Tells (s : Standing) (o : Out) : Type 0 where
   says : o .code ≡ 0 → (o .state ≡ stateOf s) × (o .value ≡ valueIn s)
 
-by-check : {s : Standing} (b : Bool) (k : ℕ) (t : List ℕ) {rest : Out} → Tells s rest → Tells s (check b (suc k) t rest)
-by-check true k t h = record { says = λ e. absurd (omega (arith, e)) }
-by-check false k t h = h
-
 query-tells : (t : List ℕ) (c n bib : ℕ) → Tells (standingAt t n bib) (queryOut t c n bib)
-unfolding queryOut
 query-tells t c n bib =
-    by-check (not (isTable t)) 0 t (
-    by-check (not (isClient c)) 1 t (
-    by-check (not (givenOut (cellsOf t) n)) 2 t (
-    by-check (joined (cellsOf t) n) 3 t (
-    by-check (badBib bib) 4 t (
-    by-check (openElsewhere (cellsOf t) c n) 5 t (
-    by-check (busyByOther (cellsOf t) c n) 6 t (
-    by-check (stale (cellsOf t) c n) 7 t (
-    record { says = λ e. (refl, refl) }))))))))
+    query-checks t (Tells (standingAt t n bib)) c n bib
+    (λ k h. record { says = λ e. let p = ltb-true 0 k (and-true (ltb 0 k) (ltb k 15) h .0) in absurd (omega arith) })
+    (record { says = λ e. (refl, refl) })
 
 -- a preview that is taken: the join's code is 0, and it is what is read on the copy
 record Read (t : List ℕ) (n m bib : ℕ) : Type 0 where
