@@ -15,7 +15,8 @@
  * Nothing is allocated. A call needs up to 96 KiB of stack.
  *
  * A box is a revision of the table, a tablet is a client. Boxes are 0 to 63, tablets 0 to 15,
- * bibs 0 to 999, and a day takes 4,096 updates.
+ * bibs 0 to 999, and a day takes 4,096 updates. 64 boxes may be out at a time, and any number of
+ * them be sent off and handed in: a box number means the latest box that bore it.
  */
 #ifndef SILTTONGS_H
 #define SILTTONGS_H
@@ -44,13 +45,13 @@ enum {
     SILTTONGS_NO_TABLE = 1,       /* wrong length, or a cell is out of its range */
     SILTTONGS_STRANGE_TABLET = 2, /* tablet above 15 */
     SILTTONGS_NEVER_SENT = 3,     /* box number not yet given out */
-    SILTTONGS_HANDED_IN = 4,      /* box already a joinee */
+    SILTTONGS_HANDED_IN = 4,      /* the latest box of that number was handed in */
     SILTTONGS_BAD_ENTRY = 5,      /* bib above 999, or update kind not 1 to 4 */
     SILTTONGS_OTHER_BOX_OPEN = 6, /* the tablet's open transaction is on another box */
     SILTTONGS_IN_USE = 7,         /* another tablet, or for fork, join, list any, is at work there */
     SILTTONGS_NOT_CAUGHT_UP = 8,  /* the box has not seen the tablet's last event */
     SILTTONGS_LOG_FULL = 9,       /* 4,096 updates taken */
-    SILTTONGS_NO_BOX_LEFT = 10,   /* 64 boxes started */
+    SILTTONGS_NO_BOX_LEFT = 10,   /* 64 boxes are out */
     SILTTONGS_NOT_JOINABLE = 11,  /* box 0, the joiner itself, its fork unseen, or its start seen */
     SILTTONGS_SHEET_SHORT = 12,   /* the listing needs more bytes */
     SILTTONGS_WRONG_BUNDLE = 14   /* no record, more than 64, or bytes not a multiple of 12 */
@@ -105,7 +106,8 @@ uint64_t silttongs_query(uint8_t *table, size_t length, uint8_t tablet, uint8_t 
 /* Closes the tablet's transaction, if it has one. Codes 1, 2. Value: 0. */
 uint64_t silttongs_yield(uint8_t *table, size_t length, uint8_t tablet);
 
-/* Sends a new box off from a box. Codes 1, 3, 4, 7, 10. Value: the new box's number. */
+/* Sends a new box off from a box. Codes 1, 3, 4, 7, 10. Value: the new box's number, the next that was
+ * never used; once all were, the number handed in longest ago. */
 uint64_t silttongs_fork(uint8_t *table, size_t length, uint8_t box);
 
 /* Hands a box in: the joiner takes over the joinee's updates, behind its own. Codes 1, 3, 4, 7,

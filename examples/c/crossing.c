@@ -1,5 +1,5 @@
-/* The example day of examples/crossing.txt, with a look at the join before it, and then a strike and a
- * bundle, called from C. From the repository's folder:
+/* The example day of examples/crossing.txt, with a look at the join before it, and then a strike, a
+ * bundle and more boxes than there are numbers, called from C. From the repository's folder:
  *
  *     rt staticlib exports
  *     cc -Iinclude examples/c/crossing.c target/staticlib/libexports.a -o target/crossing
@@ -111,5 +111,13 @@ int main(void) {
     show_query("query 0/0", silttongs_query(table, n, 0, 0, 7));
     show("bundle 1/0, a byte short",
          silttongs_bundle(table, n, 1, 0, records, sizeof records - 1));
+
+    /* Boxes 2 to 63 are sent off; then the number that was handed in longest ago is used again. */
+    show("yield 0", silttongs_yield(table, n, 0));
+    for (int box = 2; box < 64; box++) silttongs_fork(table, n, 0);
+    show("fork box 0, the 64th time", silttongs_fork(table, n, 0));
+    show("fork box 0, 64 are out", silttongs_fork(table, n, 0));
+    show("join 0 with 40", silttongs_join(table, n, 0, 40));
+    show("fork box 0", silttongs_fork(table, n, 0));
     return 0;
 }

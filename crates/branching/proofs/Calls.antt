@@ -1,9 +1,9 @@
 -- A fork from what its checks find.
-use Prim.Native.Nat.{ℕ, _<_}
+use Prim.Native.Nat.{ℕ}
 use mathlib.Core.Bool.{true, false, cond}
 use mathlib.Core.Path.{_≡_}
 use mathlib.Core.List.{List, _++_}
-use native.Mathlib.Omega.{arith}
+use Rattle.cells.specs.Cells.{nextNumber}
 use Rattle.cells.specs.Decode.{cells}
 use Rattle.cells.specs.Steps.{forkBytes}
 use Rattle.cells.specs.Checks.{noneLeft}
@@ -20,7 +20,7 @@ use Rattle.branching.specs.Checks.{forkCheck}
 
 -- the check's answer taken apart is a test
 next-is : {A : Type 0} (d : List ℕ) (end : A) (rest : Revision → A)
-    → onNext (nextCheck d) end rest ≡ cond (noneLeft (cells d)) end (rest (record { 0 = cells d .given }))
+    → onNext (nextCheck d) end rest ≡ cond (noneLeft (cells d)) end (rest (record { 0 = nextNumber (cells d) }))
 unfolding nextCheck onNext
 next-is d end rest = over (λ z. onNext z end rest) (noneLeft (cells d)) _ _
 
@@ -37,6 +37,3 @@ fork-by t h n z e = rw (← e) (simp (given-is, next-is, idle-cond, pair-cond, h
 
 pub same-taken : (a b : List ℕ) (v w : ℕ) → a ≡ b → v ≡ w → taken a v ≡ taken b w
 same-taken a b v w e f = rw (e, f)
-
-pub above : (c g : ℕ) → c ≡ g → 0 < g → 0 < c
-above c g e h = omega arith

@@ -2,9 +2,7 @@
 use Prim.{Unit}
 use Prim.Native.Nat.{ℕ, _<_}
 use mathlib.Core.List.{List}
-use mathlib.Core.Path.{_≡_}
 use Rattle.cells.specs.Sizes.{revisions}
-use Rattle.cells.specs.Decode.{cells}
 use Rattle.checks.specs.Answers.{nextCheck}
 use Rattle.table.specs.Found.{onNext, onIdle}
 use Rattle.table.specs.Checks.{idleCheck}
@@ -18,7 +16,7 @@ forkCheck d n =
     onNext (nextCheck d) (pair.Refused 10) (λ c.
     pair.Allowed p c))
 
--- what is found is in range
-abbrev pub forkIn : List ℕ → PairCheck → Type 0
-forkIn d (pair.Refused k) = Unit {0}
-forkIn d (pair.Allowed p c) = (p .0 < revisions) × (c .0 ≡ cells d .given) × (c .0 < revisions)
+-- what is found is in range, and the new number is not the main revision's
+abbrev pub forkIn : PairCheck → Type 0
+forkIn (pair.Refused k) = Unit {0}
+forkIn (pair.Allowed p c) = (p .0 < revisions) × (0 < c .0) × (c .0 < revisions)

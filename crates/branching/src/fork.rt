@@ -33,8 +33,8 @@ fn start(t: &mut [u8], p: Revision, c: Revision)
 
 // Checks 3, 4, 7, 10: the revision, and the number of the new one.
 fn check_fork(d: &[u8], revision: u8) -> PairCheck
-    requires { ⌜ length (now d) ≡ Lower.bytes ⌝ }
-    ensures { λ a. ⌜ (a ≡ forkCheck (now (d .entry)) revision) × forkIn (now (d .entry)) a ⌝ }
+    requires { ⌜ (length (now d) ≡ Lower.bytes) × (inRange (now d) ≡ true) ⌝ }
+    ensures { λ a. ⌜ (a ≡ forkCheck (now (d .entry)) revision) × forkIn a ⌝ }
 {
     let found = idle::check_idle(d, revision);
     let IdleCheck::Idle(p) = found else {

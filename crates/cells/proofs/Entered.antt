@@ -68,6 +68,8 @@ module _ (d : List ℕ) (l : length d ≡ bytes) (i : inRange d ≡ true) (c r :
           subst (λ n. 0 < n) (sym (ap (λ k. k .given) follows)) (was .counters .3),
           subst (λ n. n < 65) (sym (ap (λ k. k .given) follows)) (was .counters .4),
         );
+        single = was .single;
+        closed = was .closed;
         signature = was .signature;
       }
 

@@ -6,8 +6,8 @@ use mathlib.Core.List.{[], _∷_}
 use Rattle.lists.specs.Sums.{anyBelow}
 use Rattle.lists.specs.Lists.{insertBefore, remove, behind}
 use Rattle.cells.specs.Parts.{offset, size, rowsPart, lowPart, highPart, seenPart, caughtPart, statePart, usedPart, lastPart, firstPart, countPart}
-use Rattle.cells.specs.Parts.{basePart, layoutPart, queuePart, openedPart, countersPart, keptPart, signaturePart}
-use Rattle.cells.specs.Cells.{Cells, chain, outs, marked}
+use Rattle.cells.specs.Parts.{basePart, layoutPart, queuePart, openedPart, countersPart, namesPart, singlePart, closedPart, startedPart, keptPart, signaturePart}
+use Rattle.cells.specs.Cells.{Cells, chain, freed, outs, marked, nextNumber}
 use Rattle.cells.specs.Order.{order, picks}
 use Rattle.cells.specs.Checks.{isClient, givenOut, joined, openElsewhere, busy, busyByOther, stale, logFull, noneLeft, joinable}
 use Rattle.cells.specs.CellSteps.{freshCells, updateCells, closeCells, forkRow, forkCells, joinCells}
@@ -75,15 +75,25 @@ made updates out given = record {
   caught = λ c r. true;
   layout = [];
   out = out;
+  queue = 7 ∷ 5 ∷ [];
   opened = λ c. 64;
   updates = updates;
   given = given;
 }
 
--- 01: "Update 4,096 is taken, the next gives 9"; "The 63rd fork gives box 63, the next gives 10", whoever is out
-last-ones : logFull (made 4095 1 1) ∷ logFull (made 4096 1 1) ∷ noneLeft (made 0 64 63) ∷ noneLeft (made 0 1 64) ∷ [] ≡ false ∷ true ∷ false ∷ true ∷ []
+-- 01: "Update 4,096 is taken, the next gives 9"; 02, U7: "Code 10 is given exactly if 64 boxes are out", whatever was given
+last-ones : logFull (made 4095 1 1) ∷ logFull (made 4096 1 1) ∷ noneLeft (made 0 63 64) ∷ noneLeft (made 0 64 1) ∷ [] ≡ false ∷ true ∷ false ∷ true ∷ []
 unfolding made
 last-ones = refl
+
+-- 02, U7: "a never-used number while there is one, else the number handed in longest ago"
+next-ones : nextNumber (made 0 61 63) ∷ nextNumber (made 0 62 64) ∷ [] ≡ 63 ∷ 7 ∷ []
+unfolding made
+next-ones = refl
+
+freed-ones : freed (made 0 62 64) ∷ freed (forkCells (made 0 62 64) 0 7) ∷ freed (joinCells after 0 3) ∷ [] ≡ (7 ∷ 5 ∷ []) ∷ (5 ∷ []) ∷ (2 ∷ 1 ∷ 3 ∷ []) ∷ []
+unfolding made before after
+freed-ones = refl
 
 -- neither the main revision nor the joiner is a joinee, whatever the marks; a row that is not in use counts for nothing
 marks-alone : joinable (made 0 1 1) 1 1 ∷ joinable (made 0 1 1) 1 0 ∷ joinable (made 0 1 1) 0 1 ∷ marked (made 0 1 1) 1 0 ∷ forkRow (made 0 1 1) 1 0 ∷ [] ≡ false ∷ false ∷ true ∷ false ∷ false ∷ []
@@ -103,7 +113,7 @@ picked = refl
 offsets :
     offset rowsPart ∷ offset lowPart ∷ offset highPart ∷ offset seenPart ∷ offset caughtPart ∷ offset statePart ∷ offset usedPart ∷ offset lastPart
     ∷ offset firstPart ∷ offset countPart ∷ offset basePart ∷ offset layoutPart ∷ offset queuePart ∷ offset openedPart ∷ offset countersPart
-    ∷ offset keptPart ∷ offset signaturePart ∷ []
-    ≡ 0 ∷ 32256 ∷ 36352 ∷ 38400 ∷ 38912 ∷ 39040 ∷ 39104 ∷ 39168 ∷ 39296 ∷ 39424 ∷ 39552 ∷ 39680 ∷ 39744 ∷ 39808 ∷ 39824 ∷ 39828 ∷ 40952 ∷ []
+    ∷ offset namesPart ∷ offset singlePart ∷ offset closedPart ∷ offset startedPart ∷ offset keptPart ∷ offset signaturePart ∷ []
+    ≡ 0 ∷ 32256 ∷ 36352 ∷ 38400 ∷ 38912 ∷ 39040 ∷ 39104 ∷ 39168 ∷ 39296 ∷ 39424 ∷ 39552 ∷ 39680 ∷ 39744 ∷ 39808 ∷ 39824 ∷ 39828 ∷ 40084 ∷ 40085 ∷ 40087 ∷ 40089 ∷ 40952 ∷ []
 unfolding offset size
 offsets = refl

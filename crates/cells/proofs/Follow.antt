@@ -51,6 +51,7 @@ module _ (p : Parts) (h : Sized p) (c r : ℕ) (cl : c < clients) (rl : r < revi
     caught = fun-ext (λ x. fun-ext (caught-only x)) i;
     layout = decode p .layout;
     out = decode p .out;
+    queue = decode p .queue;
     opened = fun-ext (opened-changed r) i;
     updates = decode p .updates;
     given = decode p .given;
@@ -70,6 +71,7 @@ module _ (p : Parts) (h : Sized p) (c r : ℕ) (cl : c < clients) (rl : r < revi
     caught = decode p .caught;
     layout = decode p .layout;
     out = decode p .out;
+    queue = decode p .queue;
     opened = fun-ext (opened-changed closed) i;
     updates = decode p .updates;
     given = decode p .given;
@@ -101,6 +103,7 @@ module _ (p : Parts) (h : Sized p) (c r : ℕ) (cl : c < clients) (rl : r < revi
           caught = fun-ext (λ x. fun-ext (caught-only x)) i;
           layout = decode p .layout;
           out = byte-put-other (p countersPart) 0 (suc u) 2 (omega arith) (omega arith) i;
+          queue = decode p .queue;
           opened = fun-ext (opened-changed r) i;
           updates = word-put (p countersPart) 0 (suc u) 0 (omega arith) i;
           given = byte-put-other (p countersPart) 0 (suc u) 3 (omega arith) (omega arith) i;
@@ -176,6 +179,7 @@ module _ (p : Parts) (h : Sized p) (a b : ℕ) (al : a < revisions) (bl : b < re
         caught = fun-ext (λ x. fun-ext (join-caught x)) i;
         layout = decode (joinParts p a b) .layout;
         out = getD-set-same (p countersPart) 2 (k .out - 1) 0 (omega arith) i;
+        queue = decode (joinParts p a b) .queue;
         opened = decode p .opened;
         updates = word-set-other (p countersPart) 0 (k .out - 1) 2 (omega arith) (omega arith) i;
         given = getD-set-other (p countersPart) 2 3 (k .out - 1) 0 (omega arith) i;

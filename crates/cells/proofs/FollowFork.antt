@@ -14,7 +14,7 @@ use Rattle.cells.specs.Sizes.{revisions, clients, updates, main, stateOu
 use Rattle.cells.specs.Parts.{Parts, Sized, size, rowsPart, seenPart, caughtPart, statePart, usedPart, countPart, basePart, countersPart}
 use Rattle.cells.specs.Cells.{Cells}
 use Rattle.cells.specs.Decode.{decode, rowOf}
-use Rattle.cells.specs.CellSteps.{forkSeen, forkCaught, forkRow, forkCells}
+use Rattle.cells.specs.CellSteps.{forkSeen, forkCaught, forkRow, forkGiven, forkQueue, forkCells}
 use Rattle.cells.specs.Steps.{putRowOf, forkParts}
 use Rattle.cells.proofs.Tables.{getD-changed}
 use Rattle.cells.proofs.Words.{word-put, word-set-other}
@@ -89,8 +89,9 @@ module _ (p : Parts) (h : Sized p) (q c : ℕ) (ql : q < revisions) (cl : c < re
         seen = fun-ext (λ x. fun-ext (mark-pack revisions (forkSeen (k .seen) q c) seen-within x)) i;
         caught = fun-ext (λ x. fun-ext (mark-pack clients (forkCaught (k .caught) q c) caught-within x)) i;
         layout = forkCells k q c .layout;
-        out = (getD-set-other two 3 2 (suc (k .given)) 0 (omega arith) ∙ getD-set-same (p countersPart) 2 (suc (k .out)) 0 (omega arith)) i;
+        out = (getD-set-other two 3 2 (forkGiven k) 0 (omega arith) ∙ getD-set-same (p countersPart) 2 (suc (k .out)) 0 (omega arith)) i;
+        queue = forkQueue k;
         opened = k .opened;
-        updates = (word-set-other two 0 (suc (k .given)) 3 (omega arith) (omega arith) ∙ word-set-other (p countersPart) 0 (suc (k .out)) 2 (omega arith) (omega arith)) i;
-        given = getD-set-same two 3 (suc (k .given)) 0 (rw length-set (omega arith)) i;
+        updates = (word-set-other two 0 (forkGiven k) 3 (omega arith) (omega arith) ∙ word-set-other (p countersPart) 0 (suc (k .out)) 2 (omega arith) (omega arith)) i;
+        given = getD-set-same two 3 (forkGiven k) 0 (rw length-set (omega arith)) i;
       }

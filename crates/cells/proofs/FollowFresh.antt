@@ -69,6 +69,7 @@ fresh-follows = λ i. record {
   caught = fun-ext (λ x. fun-ext (fresh-caught x)) i;
   layout = freshCells .layout;
   out = 1;
+  queue = freshCells .queue;
   opened = fun-ext fresh-opened i;
   updates = 0;
   given = 1;

@@ -12,3 +12,4 @@ pub mod FollowFresh
 pub mod Range
 pub mod Example
 pub mod Entered
+pub mod Clean

@@ -12,7 +12,7 @@ use borrow.Author.Tests.{eqb-true, eq-eqb, ne-eqb, ltb-true, ltb-false}
 use borrow.Rule.Slice.PartMut.{midOf, putMid}
 use Rattle.lists.proofs.Cases.{cases}
 use Rattle.cells.specs.Sizes.{bytes}
-use Rattle.cells.specs.Parts.{Parts, Sized, parts, size, offset, inRow, glue, split, wrote, _⟨_≔_⟩}
+use Rattle.cells.specs.Parts.{Parts, Sized, parts, sizes, size, offset, inRow, glue, split, wrote, _⟨_≔_⟩}
 
 pub row-length : (p : Parts) → Sized p → (n : ℕ) → length (inRow p n) ≡ offset n
 unfolding inRow offset
@@ -29,9 +29,9 @@ unfolding inRow after
 row-at p i zero = rw (add-zero, append-nil)
 row-at p i (suc m) = rw (add-suc, row-at p i m) (simp append-assoc)
 
-glue-at : (p : Parts) (i : ℕ) → i < parts → glue p ≡ inRow p i ++ (p i ++ after p i (16 - i))
+glue-at : (p : Parts) (i : ℕ) → i < parts → glue p ≡ inRow p i ++ (p i ++ after p i (parts - suc i))
 unfolding glue
-glue-at p i h = ap (inRow p) (omega arith) ∙ row-at p i (16 - i)
+glue-at p i h = ap (inRow p) (omega arith) ∙ row-at p i (parts - suc i)
 
 row-same : (p q : Parts) (n : ℕ) → ((j : ℕ) → j < n → p j ≡ q j) → inRow p n ≡ inRow q n
 unfolding inRow
@@ -46,8 +46,8 @@ after-same p q i (suc m) h = rw (after-same p q i m h, h (suc i + m) (omega arit
 -- what stands at part i's place, and that place filled with another part
 pub glue-read : (p : Parts) → Sized p → (i : ℕ) → i < parts → midOf (offset i) (size i) (glue p) ≡ p i
 glue-read p h i l =
-    rw (glue-at p i l, drop-at (inRow p i) (p i ++ after p i (16 - i)) (offset i) (row-length p h i))
-    (take-at (p i) (after p i (16 - i)) (size i) (h .of i))
+    rw (glue-at p i l, drop-at (inRow p i) (p i ++ after p i (parts - suc i)) (offset i) (row-length p h i))
+    (take-at (p i) (after p i (parts - suc i)) (size i) (h .of i))
 
 pub glue-write : (p : Parts) → Sized p → (i : ℕ) (q : List ℕ) → i < parts → putMid (offset i) (size i) (glue p) q ≡ glue (p ⟨ i ≔ q ⟩)
 glue-write p h i q l =
@@ -55,17 +55,17 @@ glue-write p h i q l =
     let other : (j : ℕ) → (j ≡ i → ⊥) → p j ≡ p′ j = λ j n. sym (ap (λ b. cond b q (p j)) (ne-eqb j i n)) in
     rw (
       glue-at p i l,
-      take-at (inRow p i) (p i ++ after p i (16 - i)) (offset i) (row-length p h i),
-      drop-at (inRow p i) (p i ++ after p i (16 - i)) (offset i) (row-length p h i),
-      drop-at (p i) (after p i (16 - i)) (size i) (h .of i),
+      take-at (inRow p i) (p i ++ after p i (parts - suc i)) (offset i) (row-length p h i),
+      drop-at (inRow p i) (p i ++ after p i (parts - suc i)) (offset i) (row-length p h i),
+      drop-at (p i) (after p i (parts - suc i)) (size i) (h .of i),
       row-same p p′ i (λ j m. other j (omega arith)),
-      after-same p p′ i (16 - i) (λ j m. other j (omega arith)),
+      after-same p p′ i (parts - suc i) (λ j m. other j (omega arith)),
     )
-    (ap (λ z. inRow p′ i ++ (z ++ after p′ i (16 - i))) (sym (ap (λ b. cond b q (p i)) (eq-eqb i i refl))) ∙ sym (glue-at p′ i l))
+    (ap (λ z. inRow p′ i ++ (z ++ after p′ i (parts - suc i))) (sym (ap (λ b. cond b q (p i)) (eq-eqb i i refl))) ∙ sym (glue-at p′ i l))
 
 no-bytes : (i : ℕ) → parts ≤ i → size i ≡ 0
 unfolding size
-no-bytes i h = List·getD-eq-default (32256 ∷ 4096 ∷ 2048 ∷ 512 ∷ 128 ∷ 64 ∷ 64 ∷ 128 ∷ 128 ∷ 128 ∷ 128 ∷ 64 ∷ 64 ∷ 16 ∷ 4 ∷ 1124 ∷ 8 ∷ []) 0 {n = i} h
+no-bytes i h = List·getD-eq-default sizes 0 {n = i} h
 
 nothing : (l : List ℕ) → length l ≡ 0 → l ≡ []
 nothing [] h = refl
@@ -99,9 +99,9 @@ offset-grows i (suc m) = let h = offset-grows i m in rw add-suc (omega arith)
 within : (i : ℕ) → i < parts → offset i + size i ≤ bytes
 unfolding offset
 within i h =
-    let g = offset-grows (suc i) (16 - i) in
-    let whole : suc i + (16 - i) ≡ parts = omega arith in
-    let e : offset (suc i + (16 - i)) ≡ bytes = ap offset whole ∙ all-bytes in
+    let g = offset-grows (suc i) (parts - suc i) in
+    let whole : suc i + (parts - suc i) ≡ parts = omega arith in
+    let e : offset (suc i + (parts - suc i)) ≡ bytes = ap offset whole ∙ all-bytes in
     omega arith
 
 pub split-sized : (d : List ℕ) → length d ≡ bytes → Sized (split d)

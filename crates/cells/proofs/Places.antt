@@ -1,17 +1,17 @@
--- The layout's first places after a fork and a join: what the revisions out are then.
+-- The layout's and the queue's first places after a fork and a join: what the revisions out and the numbers handed in are then.
 use Prim.Native.Nat.{ℕ, zero, suc, _-_, _<_, _≤_}
-use mathlib.Core.Path.{_≡_, sym, _∙_, ap}
+use mathlib.Core.Path.{_≡_, refl, sym, _∙_, ap}
 use mathlib.Core.List.{List, [], _∷_, _++_, List·Memᴰ·cases-cons, List·Memᴰ·not-nil}
-use native.Mathlib.Numerals.{sub-one}
+use native.Mathlib.Numerals.{add-one, sub-one}
 use native.Mathlib.Omega.{arith}
 use lib.Dec.{eqb}
 use lib.ListN.{length, take, length-append}
-use lib.Seq.{take-append-le, take-take}
-use borrow.Author.Tests.{eqb-false}
-use Rattle.lists.specs.Lists.{_∈_, insertBefore, remove}
+use lib.Seq.{take-append-le, take-suc-set, take-take}
+use borrow.Author.Tests.{eqb-false, le-ltb, lt-ltb}
+use Rattle.lists.specs.Lists.{_∈_, firstOf, insertBefore, remove, restOf}
 use Rattle.lists.proofs.Cases.{cases, either}
 use Rattle.cells.specs.Sizes.{revisions}
-use Rattle.cells.specs.Cells.{Cells, outs}
+use Rattle.cells.specs.Cells.{Cells, freed, outs}
 use Rattle.cells.specs.CellSteps.{forkCells, joinCells}
 
 take-insert : (q c n : ℕ) (l : List ℕ) → q ∈ take n l → take (suc n) (insertBefore q c l) ≡ insertBefore q c (take n l)
@@ -45,6 +45,15 @@ unfolding remove
 remove-length b [] = omega arith
 remove-length b (x ∷ l) = let h = remove-length b l in cases (eqb x b) (λ e. rw (e, length-append) (omega arith)) (λ e. rw e (omega arith))
 
+-- the first place of the queue left
+pub shift-length : (l : List ℕ) → 0 < length l → length (restOf l ++ (1 ∷ [])) ≡ length l
+shift-length [] h = absurd (omega arith)
+shift-length (x ∷ l) h = length-append l (1 ∷ []) ∙ add-one (length l)
+
+take-shift : (n : ℕ) (l : List ℕ) → suc n ≤ length l → take n (restOf l ++ (1 ∷ [])) ≡ restOf (take (suc n) l)
+take-shift n [] h = absurd (omega arith)
+take-shift n (x ∷ l) h = take-append-le n l (1 ∷ []) (omega arith)
+
 -- where the layout has room, the forked revision stands in front of the one it was forked from
 pub fork-outs : (k : Cells) (q c : ℕ) → k .out < revisions → q ∈ outs k → outs (forkCells k q c) ≡ insertBefore q c (outs k)
 fork-outs k q c h m = take-take (suc (k .out)) revisions (insertBefore q c (k .layout)) h ∙ take-insert q c (k .out) (k .layout) m
@@ -56,3 +65,26 @@ join-outs k a b l h m = go (k .out) h m
     go : (n : ℕ) → n ≤ revisions → b ∈ take n (k .layout) → take (n - 1) (take revisions (remove b (k .layout) ++ (0 ∷ []))) ≡ remove b (take n (k .layout))
     go zero g i = absurd (List·Memᴰ·not-nil i)
     go (suc n) g i = rw sub-one (take-take n revisions (remove b (k .layout) ++ (0 ∷ [])) (omega arith) ∙ take-remove b n (k .layout) (omega arith) i)
+
+-- the queue after a fork: as it was while a number was never used, else without its first place, whose number is given
+module _ (k : Cells) (q c : ℕ) where
+  pub fork-freed : k .given < revisions → freed (forkCells k q c) ≡ freed k
+  fork-freed g = let z : suc (k .given) - suc (k .out) ≡ k .given - k .out = omega arith in rw (lt-ltb (k .given) revisions g, z)
+
+  pub fork-freed-first : length (k .queue) ≡ revisions → revisions ≤ k .given → k .out < k .given → k .given ≤ revisions → freed (forkCells k q c) ≡ restOf (freed k)
+  fork-freed-first l g o m =
+      let z : k .given - k .out ≡ suc (k .given - suc (k .out)) = omega arith in
+      rw (le-ltb (k .given) revisions g, z) (take-shift (k .given - suc (k .out)) (k .queue) (omega arith))
+
+pub first-freed : (k : Cells) → k .out < k .given → firstOf (freed k) ≡ firstOf (k .queue)
+first-freed k o = let z : k .given - k .out ≡ suc (k .given - suc (k .out)) = omega arith in rw z (first (k .given - suc (k .out)) (k .queue))
+  where
+    first : (n : ℕ) (l : List ℕ) → firstOf (take (suc n) l) ≡ firstOf l
+    first n [] = refl
+    first n (x ∷ l) = refl
+
+-- after a join the joinee's number is last
+pub join-freed : (k : Cells) (a b : ℕ) → length (k .queue) ≡ revisions → 0 < k .out → k .out ≤ k .given → k .given ≤ revisions → freed (joinCells k a b) ≡ freed k ++ (b ∷ [])
+join-freed k a b l p o m =
+    let z : k .given - (k .out - 1) ≡ suc (k .given - k .out) = omega arith in
+    rw z (take-suc-set (k .queue) (k .given - k .out) b (omega arith))

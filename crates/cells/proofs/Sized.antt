@@ -4,23 +4,23 @@ use mathlib.Core.Bool.{Bool, true, false, cond}
 use mathlib.Core.Path.{_≡_, refl, _∙_}
 use mathlib.Core.List.{List, [], _∷_, _++_}
 use native.Mathlib.Omega.{arith}
-use lib.Dec.{eqb}
+use lib.Dec.{eqb, ltb}
 use lib.ListN.{length, set, take, replicate, length-set, length-replicate}
 use lib.Seq.{length-take-le}
-use Rattle.lists.specs.Lists.{insertBefore, remove}
+use Rattle.lists.specs.Lists.{insertBefore, remove, restOf}
 use Rattle.cells.specs.Sizes.{revisions, clients, main, closed, stateOut, stateJoined}
 use Rattle.cells.specs.Parts.{Parts, Sized, size, _⟨_≔_⟩, rowsPart, lowPart, highPart, seenPart, caughtPart, statePart, usedPart, lastPart, firstPart}
-use Rattle.cells.specs.Parts.{countPart, basePart, layoutPart, openedPart, countersPart, signaturePart}
+use Rattle.cells.specs.Parts.{countPart, basePart, layoutPart, queuePart, openedPart, countersPart, signaturePart}
 use Rattle.cells.specs.Words.{putWord, putHalf}
 use Rattle.cells.specs.Marks.{pack, putRow}
 use Rattle.cells.specs.Decode.{decode}
 use Rattle.cells.specs.Range.{signature}
-use Rattle.cells.specs.CellSteps.{forkRow, forkSeen, forkCaught, spliced, joinSeen, joinCaught}
+use Rattle.cells.specs.CellSteps.{forkRow, forkSeen, forkCaught, forkGiven, forkQueue, spliced, joinSeen, joinCaught, joinQueue}
 use Rattle.cells.specs.Steps.{freshParts, queryParts, linkParts, appendParts, updateParts, closeParts, putRowOf, inheritParts, forkParts, spliceParts, joinParts}
 use Rattle.cells.proofs.Parts.{sized-with}
 use Rattle.cells.proofs.Words.{putWord-length, putHalf-length}
 use Rattle.cells.proofs.Marks.{putRow-length, pack-length}
-use Rattle.cells.proofs.Places.{insert-length, remove-length}
+use Rattle.cells.proofs.Places.{insert-length, remove-length, shift-length}
 
 pub putRowOf-length : (t : List ℕ) (r : ℕ) (f : ℕ → Bool) → length t ≡ 32256 → r < revisions → length (putRowOf t r f) ≡ length t
 putRowOf-length t zero f l h = refl
@@ -82,11 +82,17 @@ inherit-sized {p} h q c l =
     word-sized (word-sized a basePart c (cond (eqb q main) (k .count main) (k .base q))) countPart c 0
 
 pub fork-sized : {p : Parts} → Sized p → (q c : ℕ) → c < revisions → Sized (forkParts p q c)
+unfolding size
 fork-sized {p} h q c l =
     let k = decode p in
     let a = caught-sized (seen-sized (inherit-sized h q c l) (forkSeen (k .seen) q c)) (forkCaught (k .caught) q c) in
     let b = layout-sized (byte-sized a statePart c stateOut) (insertBefore q c (p layoutPart)) (insert-length q c (p layoutPart)) in
-    sized-with b countersPart (set (set (p countersPart) 2 (suc (k .out))) 3 (suc (k .given))) (simp length-set (h .of countersPart))
+    let q = sized-with b queuePart (forkQueue k) (shifted (ltb (k .given) revisions)) in
+    sized-with q countersPart (set (set (p countersPart) 2 (suc (k .out))) 3 (forkGiven k)) (simp length-set (h .of countersPart))
+  where
+    shifted : (t : Bool) → length (cond t (p queuePart) (restOf (p queuePart) ++ (1 ∷ []))) ≡ size queuePart
+    shifted true = h .of queuePart
+    shifted false = let s = h .of queuePart in shift-length (p queuePart) (omega arith) ∙ s
 
 pub splice-sized : {p : Parts} → Sized p → (a b : ℕ) → Sized (spliceParts p a b)
 splice-sized {p} h a b =
@@ -108,7 +114,8 @@ join-sized {p} h a b =
     let m = caught-sized (seen-sized s (joinSeen (k .seen) a b)) (joinCaught (k .caught) a b) in
     let t = sized-with m statePart (set (p statePart) b stateJoined) (length-set (p statePart) b _ ∙ h .of statePart) in
     let l = sized-with t layoutPart (take revisions (remove b (p layoutPart) ++ (0 ∷ []))) (whole (remove b (p layoutPart) ++ (0 ∷ [])) (remove-length b (p layoutPart))) in
-    sized-with l countersPart (set (p countersPart) 2 (k .out - 1)) (length-set (p countersPart) 2 _ ∙ h .of countersPart)
+    let q = sized-with l queuePart (joinQueue k b) (length-set (p queuePart) (k .given - k .out) b ∙ h .of queuePart) in
+    sized-with q countersPart (set (p countersPart) 2 (k .out - 1)) (length-set (p countersPart) 2 _ ∙ h .of countersPart)
   where
     whole : (l : List ℕ) → length (p layoutPart) ≤ length l → length (take revisions l) ≡ size layoutPart
     whole l m = let s = h .of layoutPart in length-take-le revisions l (omega arith)
@@ -118,5 +125,5 @@ unfolding size signature
 fresh-sized =
     let z : Sized (λ i. replicate (size i) 0) = record { of = λ i. length-replicate (size i) 0 } in
     let a = sized-with (caught-sized z (λ c r. true)) statePart (set (replicate 64 0) main stateOut) refl in
-    let b = sized-with (sized-with a openedPart (replicate 16 closed) refl) countersPart (0 ∷ 0 ∷ 1 ∷ 1 ∷ []) refl in
+    let b = sized-with (sized-with (sized-with a queuePart (replicate 64 1) refl) openedPart (replicate 16 closed) refl) countersPart (0 ∷ 0 ∷ 1 ∷ 1 ∷ []) refl in
     sized-with b signaturePart signature refl

@@ -1,10 +1,10 @@
 -- What each accepted step does to the cells: docs/CELLS.md, "What each step writes".
 use Prim.Native.Nat.{ℕ, suc, _+_, _-_}
 use mathlib.Core.Bool.{Bool, true, false, cond, _||_, _&&_}
-use mathlib.Core.List.{[], _∷_, _++_}
+use mathlib.Core.List.{List, [], _∷_, _++_}
 use lib.Dec.{eqb, ltb}
-use lib.ListN.{take, replicate}
-use Rattle.lists.specs.Lists.{changed, member, insertBefore, remove}
+use lib.ListN.{set, take, replicate}
+use Rattle.lists.specs.Lists.{changed, member, insertBefore, remove, restOf}
 use Rattle.cells.specs.Sizes.{revisions, clients, updates, main, closed, stateOut, stateJoined}
 use Rattle.cells.specs.Cells.{Cells, own, marked}
 
@@ -23,6 +23,7 @@ freshCells = record {
   caught = λ c r. ltb c clients && ltb r revisions;
   layout = replicate revisions 0;
   out = 1;
+  queue = replicate revisions 1;
   opened = λ c. cond (ltb c clients) closed 0;
   updates = 0;
   given = 1;
@@ -47,6 +48,7 @@ queryCells k c r = record {
   caught = onlyCaught (k .caught) c r;
   layout = k .layout;
   out = k .out;
+  queue = k .queue;
   opened = changed (k .opened) c r;
   updates = k .updates;
   given = k .given;
@@ -67,6 +69,7 @@ updateCells k c r = record {
   caught = onlyCaught (k .caught) c r;
   layout = k .layout;
   out = k .out;
+  queue = k .queue;
   opened = changed (k .opened) c r;
   updates = suc (k .updates);
   given = k .given;
@@ -87,6 +90,7 @@ closeCells k c = record {
   caught = k .caught;
   layout = k .layout;
   out = k .out;
+  queue = k .queue;
   opened = changed (k .opened) c closed;
   updates = k .updates;
   given = k .given;
@@ -104,6 +108,13 @@ forkCaught caught p c x = changed (caught x) c (caught x p)
 abbrev pub forkRow : Cells → ℕ → ℕ → Bool
 forkRow k p u = ltb u updates && (marked k p u || member u (own k p))
 
+-- a never-used number is one more used; else the number handed in longest ago leaves the queue
+abbrev pub forkGiven : Cells → ℕ
+forkGiven k = cond (ltb (k .given) revisions) (suc (k .given)) (k .given)
+
+abbrev pub forkQueue : Cells → List ℕ
+forkQueue k = cond (ltb (k .given) revisions) (k .queue) (restOf (k .queue) ++ (1 ∷ []))
+
 -- p forks c. From the main revision c inherits by count alone; else p's count, p's row and p's own list
 abbrev pub forkCells : Cells → ℕ → ℕ → Cells
 forkCells k p c = record {
@@ -119,9 +130,10 @@ forkCells k p c = record {
   caught = forkCaught (k .caught) p c;
   layout = take revisions (insertBefore p c (k .layout));
   out = suc (k .out);
+  queue = forkQueue k;
   opened = k .opened;
   updates = k .updates;
-  given = suc (k .given);
+  given = forkGiven k;
 }
 
 -- where b has updates of its own they go to the end of a's list
@@ -133,6 +145,10 @@ joinSeen seen a b = changed seen a (λ y. seen a y || seen b y)
 
 abbrev pub joinCaught : (ℕ → ℕ → Bool) → ℕ → ℕ → ℕ → ℕ → Bool
 joinCaught caught a b x = changed (caught x) a (caught x a || caught x b)
+
+-- b's number goes to the end of the queue
+abbrev pub joinQueue : Cells → ℕ → List ℕ
+joinQueue k b = set (k .queue) (k .given - k .out) b
 
 -- a joins b: a gets b's own list, what b has seen, and who has caught up with b; b is out of the layout
 abbrev pub joinCells : Cells → ℕ → ℕ → Cells
@@ -149,6 +165,7 @@ joinCells k a b = record {
   caught = joinCaught (k .caught) a b;
   layout = take revisions (remove b (k .layout) ++ (0 ∷ []));
   out = k .out - 1;
+  queue = joinQueue k b;
   opened = k .opened;
   updates = k .updates;
   given = k .given;

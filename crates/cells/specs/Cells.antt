@@ -1,8 +1,11 @@
 -- The cells as functions of a revision, a client or an update: docs/CELLS.md, "What the cells mean".
-use Prim.Native.Nat.{ℕ, zero, suc}
-use mathlib.Core.Bool.{Bool, _&&_}
+use Prim.Native.Nat.{ℕ, zero, suc, _-_}
+use mathlib.Core.Bool.{Bool, cond, _&&_}
 use mathlib.Core.List.{List, [], _∷_, _++_}
+use lib.Dec.{ltb}
 use lib.ListN.{take}
+use Rattle.lists.specs.Lists.{firstOf}
+use Rattle.cells.specs.Sizes.{revisions}
 
 pub record Cells : Type 0 where
   -- 0 never given out, 1 out, 2 joined
@@ -25,6 +28,9 @@ pub record Cells : Type 0 where
   -- the revisions out, right to left, in the first `out` of 64 places
   pub layout : List ℕ
   pub out : ℕ
+  -- the numbers handed in and not used again, longest ago first, in the first `given - out` of 64 places; the others
+  -- hold any number but the main revision's, which is never handed in
+  pub queue : List ℕ
   -- the revision of a client's open transaction, or 64
   pub opened : ℕ → ℕ
   -- updates taken, and revision numbers given out
@@ -43,6 +49,14 @@ own k r = chain (k .link) (k .last r) (k .count r)
 -- the revisions that are out, right to left
 abbrev pub outs : Cells → List ℕ
 outs k = take (k .out) (k .layout)
+
+-- the numbers that may be used again
+abbrev pub freed : Cells → List ℕ
+freed k = take (k .given - k .out) (k .queue)
+
+-- 02, U7: "A fork now takes a never-used number while there is one, else the number handed in longest ago."
+abbrev pub nextNumber : Cells → ℕ
+nextNumber k = cond (ltb (k .given) revisions) (k .given) (firstOf (k .queue))
 
 abbrev pub marked : Cells → ℕ → ℕ → Bool
 marked k r u = k .used r && k .row r u

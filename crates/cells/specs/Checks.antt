@@ -38,9 +38,9 @@ stale k c r = not (k .caught c r)
 abbrev pub logFull : Cells → Bool
 logFull k = not (ltb (k .updates) updates)
 
--- 10 "64 boxes started"
+-- 10, 02, U7: "exactly if 64 boxes are out"
 abbrev pub noneLeft : Cells → Bool
-noneLeft k = not (ltb (k .given) revisions)
+noneLeft k = not (ltb (k .out) revisions)
 
 -- may be joined; else 11 applies, "joinee is box 0, is the joiner, its fork isn't seen, or its start is"
 abbrev pub joinable : Cells → ℕ → ℕ → Bool

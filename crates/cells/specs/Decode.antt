@@ -5,7 +5,7 @@ use mathlib.Core.List.{List}
 use lib.Dec.{eqb}
 use Rattle.cells.specs.Sizes.{revisions, clients}
 use Rattle.cells.specs.Parts.{Parts, split, rowsPart, lowPart, highPart, seenPart, caughtPart, statePart, usedPart, lastPart, firstPart}
-use Rattle.cells.specs.Parts.{countPart, basePart, layoutPart, openedPart, countersPart}
+use Rattle.cells.specs.Parts.{countPart, basePart, layoutPart, queuePart, openedPart, countersPart}
 use Rattle.cells.specs.Words.{byte, word, linkIn}
 use Rattle.cells.specs.Marks.{markIn}
 use Rattle.cells.specs.Cells.{Cells}
@@ -29,6 +29,7 @@ decode p = record {
   caught = markIn 8 clients (p caughtPart);
   layout = p layoutPart;
   out = byte (p countersPart) 2;
+  queue = p queuePart;
   opened = byte (p openedPart);
   updates = word (p countersPart) 0;
   given = byte (p countersPart) 3;

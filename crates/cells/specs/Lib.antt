@@ -12,3 +12,4 @@ pub mod Range
 pub mod Checks
 pub mod CellSteps
 pub mod Steps
+pub mod Clean

@@ -54,18 +54,34 @@ openedPart = 13
 abbrev pub countersPart : ℕ
 countersPart = 14
 
+-- the next four are 0 until a request uses them
+abbrev pub namesPart : ℕ
+namesPart = 15
+
+abbrev pub singlePart : ℕ
+singlePart = 16
+
+abbrev pub closedPart : ℕ
+closedPart = 17
+
+abbrev pub startedPart : ℕ
+startedPart = 18
+
 abbrev pub keptPart : ℕ
-keptPart = 15
+keptPart = 19
 
 abbrev pub signaturePart : ℕ
-signaturePart = 16
+signaturePart = 20
 
 abbrev pub parts : ℕ
-parts = 17
+parts = 21
 
 -- how many bytes a part has, and how many lie before it
+abbrev pub sizes : List ℕ
+sizes = 32256 ∷ 4096 ∷ 2048 ∷ 512 ∷ 128 ∷ 64 ∷ 64 ∷ 128 ∷ 128 ∷ 128 ∷ 128 ∷ 64 ∷ 64 ∷ 16 ∷ 4 ∷ 256 ∷ 1 ∷ 2 ∷ 2 ∷ 863 ∷ 8 ∷ []
+
 unfoldable pub size : ℕ → ℕ
-size i = getD (32256 ∷ 4096 ∷ 2048 ∷ 512 ∷ 128 ∷ 64 ∷ 64 ∷ 128 ∷ 128 ∷ 128 ∷ 128 ∷ 64 ∷ 64 ∷ 16 ∷ 4 ∷ 1124 ∷ 8 ∷ []) i 0
+size i = getD sizes i 0
 
 unfoldable pub offset : ℕ → ℕ
 offset zero = 0

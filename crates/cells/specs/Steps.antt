@@ -7,12 +7,12 @@ use lib.ListN.{set, take, replicate}
 use Rattle.lists.specs.Lists.{insertBefore, remove}
 use Rattle.cells.specs.Sizes.{revisions, clients, main, closed, stateOut, stateJoined}
 use Rattle.cells.specs.Parts.{Parts, split, glue, size, _⟨_≔_⟩, rowsPart, lowPart, highPart, seenPart, caughtPart, statePart, usedPart, lastPart, firstPart}
-use Rattle.cells.specs.Parts.{countPart, basePart, layoutPart, openedPart, countersPart, signaturePart}
+use Rattle.cells.specs.Parts.{countPart, basePart, layoutPart, queuePart, openedPart, countersPart, signaturePart}
 use Rattle.cells.specs.Words.{putWord, putHalf}
 use Rattle.cells.specs.Marks.{pack, putRow}
 use Rattle.cells.specs.Decode.{decode}
 use Rattle.cells.specs.Range.{signature}
-use Rattle.cells.specs.CellSteps.{forkSeen, forkCaught, forkRow, spliced, joinSeen, joinCaught}
+use Rattle.cells.specs.CellSteps.{forkSeen, forkCaught, forkRow, forkGiven, forkQueue, spliced, joinSeen, joinCaught, joinQueue}
 
 -- all bytes 0 but these
 abbrev pub freshParts : Parts
@@ -20,6 +20,7 @@ freshParts =
     (λ i. replicate (size i) 0)
     ⟨ caughtPart ≔ pack clients (λ c r. true) ⟩
     ⟨ statePart ≔ set (replicate 64 0) main stateOut ⟩
+    ⟨ queuePart ≔ replicate 64 1 ⟩
     ⟨ openedPart ≔ replicate 16 closed ⟩
     ⟨ countersPart ≔ 0 ∷ 0 ∷ 1 ∷ 1 ∷ [] ⟩
     ⟨ signaturePart ≔ signature ⟩
@@ -77,7 +78,8 @@ forkParts p q c =
     ⟨ caughtPart ≔ pack clients (forkCaught (k .caught) q c) ⟩
     ⟨ statePart ≔ set (p statePart) c stateOut ⟩
     ⟨ layoutPart ≔ take revisions (insertBefore q c (p layoutPart)) ⟩
-    ⟨ countersPart ≔ set (set (p countersPart) 2 (suc (k .out))) 3 (suc (k .given)) ⟩
+    ⟨ queuePart ≔ forkQueue k ⟩
+    ⟨ countersPart ≔ set (set (p countersPart) 2 (suc (k .out))) 3 (forkGiven k) ⟩
 
 -- b's own list goes to the end of a's, unless it is empty
 abbrev pub spliceParts : Parts → ℕ → ℕ → Parts
@@ -99,6 +101,7 @@ joinParts p a b =
     ⟨ caughtPart ≔ pack clients (joinCaught (k .caught) a b) ⟩
     ⟨ statePart ≔ set (p statePart) b stateJoined ⟩
     ⟨ layoutPart ≔ take revisions (remove b (p layoutPart) ++ (0 ∷ [])) ⟩
+    ⟨ queuePart ≔ joinQueue k b ⟩
     ⟨ countersPart ≔ set (p countersPart) 2 (k .out - 1) ⟩
 
 -- the same on the bytes

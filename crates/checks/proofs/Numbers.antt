@@ -1,10 +1,15 @@
 -- What the checks of a client number (code 2), a number given out (3) and the next number (10) say.
 use Prim.Native.Nat.{ℕ, suc, _<_, _≤_}
+use native.Mathlib.Omega.{arith}
+use mathlib.Core.Bool.{true}
 use mathlib.Core.Path.{_≡_, refl, sym, _∙_, ap}
 use mathlib.Core.List.{List}
 use borrow.Author.Tests.{lt-ltb, le-ltb, eq-eqb, ne-eqb}
 use Rattle.cells.specs.Sizes.{clients, revisions}
+use Rattle.cells.specs.Cells.{nextNumber}
 use Rattle.cells.specs.Decode.{cells}
+use Rattle.cells.specs.Range.{inRange}
+use Rattle.cells.proofs.Range.{next-ranged, ranges}
 use Rattle.fields.specs.Numbers.{revisionCheck}
 use Rattle.fields.specs.declared.table.Client.{Client}
 use Rattle.fields.specs.declared.table.Revision.{Revision}
@@ -49,11 +54,15 @@ module _ (d : List ℕ) (n : ℕ) (r : Revision) (e : revisionCheck n ≡ revisi
   given-out z = rw (lt-ltb n revisions (known-revision n r e .1), ← at-n, ne-eqb v 0 z) (ap given.Given (sym (same-revision n r (known-revision n r e .0))))
 
 -- 10
-module _ (d : List ℕ) (n : ℕ) (en : n ≡ cells d .given) where
-  pub none-left : revisionCheck n ≡ revision.Unknown → left.Exhausted ≡ nextCheck d
+module _ (d : List ℕ) (n : ℕ) (en : n ≡ cells d .out) where
+  pub none-left : revisions ≤ n → left.Exhausted ≡ nextCheck d
   unfolding nextCheck
-  none-left e = rw (← en, le-ltb n revisions (unknown-revision n e))
+  none-left h = rw (← en, le-ltb n revisions h)
 
-  pub next-left : (r : Revision) → revisionCheck n ≡ revision.Known r → left.Next r ≡ nextCheck d
+  pub next-left : n < revisions → (r : Revision) → revisionCheck (nextNumber (cells d)) ≡ revision.Known r → left.Next r ≡ nextCheck d
   unfolding nextCheck
-  next-left r e = rw (← en, lt-ltb n revisions (known-revision n r e .1)) (ap left.Next (sym (same-revision n r (known-revision n r e .0))))
+  next-left h r e = rw (← en, lt-ltb n revisions h) (ap left.Next (sym (same-revision (nextNumber (cells d)) r (known-revision (nextNumber (cells d)) r e .0))))
+
+-- in range the next number is known
+pub next-known : (d : List ℕ) → inRange d ≡ true → revisionCheck (nextNumber (cells d)) ≡ revision.Unknown → ⊥
+next-known d i e = let a = next-ranged (cells d) (ranges d i) .1 in let b = unknown-revision (nextNumber (cells d)) e in omega arith

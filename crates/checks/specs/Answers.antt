@@ -2,6 +2,7 @@
 use Prim.Native.Nat.{ℕ}
 use mathlib.Core.Bool.{cond}
 use mathlib.Core.List.{List}
+use Rattle.cells.specs.Cells.{nextNumber}
 use Rattle.cells.specs.Decode.{cells}
 use Rattle.cells.specs.Range.{inRange}
 use Rattle.cells.specs.Checks.{isClient, givenOut, joined, openElsewhere, busy, busyByOther, stale, logFull, noneLeft, joinable}
@@ -62,9 +63,9 @@ staleCheck d c r = cond (stale (cells d) c r) event.Stale event.CaughtUp
 unfoldable pub logCheck : List ℕ → LogCheck
 logCheck d = cond (logFull (cells d)) log.Full log.Room
 
--- 10 "64 boxes started"; else the next unused number
+-- 10, 02, U7: "exactly if 64 boxes are out"; else the next number
 unfoldable pub nextCheck : List ℕ → NextCheck
-nextCheck d = cond (noneLeft (cells d)) left.Exhausted (left.Next (record { 0 = cells d .given }))
+nextCheck d = cond (noneLeft (cells d)) left.Exhausted (left.Next (record { 0 = nextNumber (cells d) }))
 
 -- 11 "joinee is box 0, is the joiner, its fork isn't seen, or its start is"
 unfoldable pub joinableCheck : List ℕ → ℕ → ℕ → JoinableCheck

@@ -1,11 +1,16 @@
 // Code 10: the next revision number, if one is left.
 ghost use mathlib.Core.Path.{_≡_};
+ghost use mathlib.Core.Bool.{true};
 ghost use lib.ListN.{length};
 ghost use Rattle.cells.specs.Sizes.{bytes};
+ghost use Rattle.cells.specs.Cells.{nextNumber};
+ghost use Rattle.cells.specs.Decode.{cells};
+ghost use Rattle.cells.specs.Range.{inRange};
 ghost use Rattle.checks.specs.Answers.{nextCheck};
 use fields::read;
 use fields::table::Revision;
 use fields::table::RevisionCheck;
+use fields::table::Table;
 use fields::table::check_revision;
 
 pub enum NextCheck {
@@ -13,11 +18,27 @@ pub enum NextCheck {
     Exhausted,
 }
 
-pub fn check_next(d: &[u8]) -> NextCheck
+// A number never used while there is one, else the number joined longest ago.
+fn next_number(d: &[u8]) -> u8
     requires { ⌜ length (now d) ≡ bytes ⌝ }
+    ensures { λ n. ⌜ n ≡ nextNumber (cells (now (d .entry))) ⌝ }
+{
+    let given = read::given(d);
+    if given < Table::REVISIONS {
+        return given as u8;
+    }
+    read::queued(d, 0) as u8
+}
+
+pub fn check_next(d: &[u8]) -> NextCheck
+    requires { ⌜ (length (now d) ≡ bytes) × (inRange (now d) ≡ true) ⌝ }
     ensures { λ a. ⌜ a ≡ nextCheck (now (d .entry)) ⌝ }
 {
-    let RevisionCheck::Known(c) = check_revision(read::given(d) as u8) else {
+    if Table::REVISIONS <= read::out(d) {
+        return NextCheck::Exhausted;
+    }
+    // in range every number that may be next is below 64, so this never refuses
+    let RevisionCheck::Known(c) = check_revision(next_number(d)) else {
         return NextCheck::Exhausted;
     };
     NextCheck::Next(c)

@@ -5,12 +5,13 @@ ghost use Prim.Native.Nat.{_+_, _*_, _≤_};
 ghost use lib.ListN.{length};
 ghost use borrow.Rule.Slice.PartMut.{midOf};
 ghost use Rattle.cells.specs.Sizes.{bytes};
-ghost use Rattle.cells.specs.Parts.{countersPart, signaturePart, split};
-ghost use Rattle.cells.specs.Range.{bytesBelow, countersIn, inRange, placesIn, recordsIn, signed, wordsBelow};
+ghost use Rattle.cells.specs.Parts.{countersPart, queuePart, signaturePart, split};
+ghost use Rattle.cells.specs.Range.{bytesBelow, countersIn, inRange, placesIn, queueIn, recordsIn, signed, singlesIn, wordsBelow};
 ghost use Rattle.checks.specs.Answers.{rangeCheck};
 use fields::numbers::byte_at;
 use fields::read;
 use fields::table::BASE;
+use fields::table::CLOSED_UPDATES;
 use fields::table::COUNT;
 use fields::table::FIRST;
 use fields::table::LAST;
@@ -18,6 +19,7 @@ use fields::table::LAYOUT;
 use fields::table::OPENED;
 use fields::table::QUEUE;
 use fields::table::SIGNATURE;
+use fields::table::SINGLE;
 use fields::table::STATE;
 use fields::table::Table;
 use fields::table::USED;
@@ -99,23 +101,48 @@ fn records_in(d: &[u8]) -> bool
     state & (used & (last & (first & (count & base))))
 }
 
-// The layout, the queue, open transactions, counters and signature.
+// Numbers that may be joined: 1 to 63.
+fn queue_in(d: &[u8]) -> bool
+    requires { ⌜ length (now d) ≡ bytes ⌝ }
+    ensures { λ r. ⌜ r ≡ queueIn (split (now (d .entry)) queuePart) ⌝ }
+{
+    let mut ok = true;
+    let mut i: usize = 0;
+    while i < Table::REVISIONS {
+        let n = byte_at(d, QUEUE + i);
+        ok = ok & ((0 < n) & (n < Table::REVISIONS));
+        i += 1;
+    }
+    ok
+}
+
+// The layout, the queue and open transactions.
 fn places_in(d: &[u8]) -> bool
     requires { ⌜ length (now d) ≡ bytes ⌝ }
     ensures { λ r. ⌜ r ≡ placesIn (split (now (d .entry))) ⌝ }
 {
     let layout = bytes_below(d, LAYOUT, Table::REVISIONS, Table::REVISIONS);
-    let queue = bytes_below(d, QUEUE, Table::REVISIONS, Table::REVISIONS);
+    let queue = queue_in(d);
     let opened = bytes_below(d, OPENED, Table::CLIENTS, Table::REVISIONS_LIMIT);
+    layout & (queue & opened)
+}
+
+// The cells that are one for the whole table: counters, single, closed updates and signature.
+fn singles_in(d: &[u8]) -> bool
+    requires { ⌜ length (now d) ≡ bytes ⌝ }
+    ensures { λ r. ⌜ r ≡ singlesIn (split (now (d .entry))) ⌝ }
+{
     let counters = counters_in(d);
-    layout & (queue & (opened & (counters & is_signed(d))))
+    let single = bytes_below(d, SINGLE, 1, Table::SINGLE_LIMIT);
+    let closed = words_below(d, CLOSED_UPDATES, 1, Table::UPDATES_LIMIT);
+    counters & (single & (closed & is_signed(d)))
 }
 
 fn in_range(d: &[u8]) -> bool
     requires { ⌜ length (now d) ≡ bytes ⌝ }
     ensures { λ r. ⌜ r ≡ inRange (now (d .entry)) ⌝ }
 {
-    records_in(d) & places_in(d)
+    records_in(d) & (places_in(d) & singles_in(d))
 }
 
 pub fn check_range(d: &[u8]) -> RangeCheck

@@ -9,7 +9,7 @@ use Rattle.plain.specs.Record.{PlainDay, freshDay}
 use Rattle.plain.specs.Answers.{called, answers, answersFrom}
 use Rattle.plain.specs.Edges as Edges
 use Rattle.plain.specs.Edges.{Edge, computed}
-use Rattle.plain.proofs.Edges.{edges-hold, codes-hold}
+use Rattle.plain.proofs.Edges.{edges-hold, codes-hold, reused-hold}
 use Rattle.plain.proofs.LineUp.{lined-up}
 use Rattle.plain.proofs.Never.{never-one}
 use Rattle.table.specs.Halves.{bytes}
@@ -65,4 +65,4 @@ module _ (t : List ℕ) (h : length t ≡ bytes) where
       λ i. first i ∷ rest i
 
 pub edges-at-table : EdgesHold
-edges-at-table t h = (same-computed t h Edges.edges ∙ edges-hold, same-computed t h Edges.codes ∙ codes-hold)
+edges-at-table t h = (same-computed t h Edges.edges ∙ edges-hold, same-computed t h Edges.codes ∙ codes-hold, same-computed t h Edges.reused ∙ reused-hold)

@@ -9,8 +9,8 @@ use Rattle.diagram.specs.Examples.{Example, e1, e1List, examples, expected}
 use Rattle.cells.specs.Cells.{Cells, chain}
 use Rattle.cells.specs.CellSteps.{freshCells}
 use Rattle.cells.specs.Order.{order}
-use Rattle.consistency.specs.Follow.{passes}
-use Rattle.consistency.specs.Reached.{stepCells}
+use Rattle.following.specs.Follow.{passes}
+use Rattle.following.specs.Reached.{stepCells}
 
 -- a step that does not pass changes nothing
 abbrev tried : Cells → Step → Cells

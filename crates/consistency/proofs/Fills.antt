@@ -4,7 +4,7 @@ use mathlib.Core.Path.{_≡_, refl, sym, _∙_, ap}
 use mathlib.Core.List.{List, [], _∷_}
 use native.Mathlib.Omega.{arith}
 use lib.ListN.{length}
-use Rattle.diagram.specs.Day.{nextNumber}
+use Rattle.diagram.specs.Sizes.{revisionLimit}
 use Rattle.lists.proofs.Sums.{sum-ends, sum-same}
 use Rattle.cells.specs.Sizes.{revisions}
 use Rattle.plain.specs.Calls as Paper
@@ -13,12 +13,12 @@ use Rattle.plain.specs.Answers.{called, dayAfter, answers, answersFrom}
 use Rattle.plain.specs.Fills.{acceptedIn, codesOf}
 use Rattle.plain.proofs.Fills as Plain
 use Rattle.plain.proofs.Fills.{no-fill}
-use Rattle.cells.proofs.Range.{ranges}
-use Rattle.table.specs.Halves.{bytes, low}
+use Rattle.plain.proofs.LineUp.{named}
+use Rattle.table.specs.Halves.{bytes}
 use Rattle.table.specs.Calls.{freshOut, fillOut}
 use Rattle.consistency.specs.Table.{Request, onPaper, calls, repliesOn, replies, tableAfter}
 use Rattle.consistency.specs.Fills.{acceptedUpdates, codesIn, fillSum, FillsAddUpOnDays}
-use Rattle.consistency.proofs.Table.Stands.{Stands, bytes-are}
+use Rattle.consistency.proofs.Table.Stands.{Stands}
 use Rattle.consistency.proofs.Table.Calls.{fill-same}
 use Rattle.consistency.proofs.Table.Follows.{fresh-stands, stands-after, table-follows}
 
@@ -39,9 +39,9 @@ module _ (t : List ℕ) (h : length t ≡ bytes) (qs : List Request) where
   unfolding left p dayAfter
   S = stands-after qs freshDay (freshOut t .lent) (fresh-stands t h)
 
-  few : p .day .revisions ≤ revisions
-  unfolding nextNumber
-  few = let a = bytes-are p left S .follow .same-number in let b = ranges (low left) (bytes-are p left S .ranged) .most-given in omega arith
+  few : p .day .numbering .given ≤ revisions
+  unfolding p revisionLimit
+  few = named (calls qs) .few
 
   history : acceptedUpdates qs (repliesOn (freshOut t .lent) qs) ≡ acceptedIn (calls qs) (codesOf (answers (calls qs)))
   unfolding answers
@@ -51,7 +51,7 @@ module _ (t : List ℕ) (h : length t ≡ bytes) (qs : List Request) where
   unfolding p
   summed =
       sum-same revisions _ (λ n. called p (Paper.Fill n) .answer .value) (λ n l. fill-same p left S n .own)
-      ∙ sum-ends (p .day .revisions) revisions (λ n. called p (Paper.Fill n) .answer .value) few (no-fill p)
+      ∙ sum-ends (p .day .numbering .given) revisions (λ n. called p (Paper.Fill n) .answer .value) few (no-fill p (named (calls qs)))
       ∙ Plain.fills-add-up (calls qs) .sum
       ∙ sym history
 

@@ -1,8 +1,5 @@
 -- From a fresh table, through every run of accepted steps, cells and bytes agree with the day; through every list of
 -- calls the replies do, demand 3 holds, own updates add up, and previews follow joins.
-pub mod Cells
-pub mod Bytes
-pub mod Follow
 pub mod Table
 pub mod Refusals
 pub mod Demand

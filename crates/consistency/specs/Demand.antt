@@ -7,7 +7,7 @@ use lib.ListN.{length, replicate}
 use Rattle.plain.specs.Calls as Paper
 use Rattle.plain.specs.Calls.{Call}
 use Rattle.plain.specs.Answers.{answers}
-use Rattle.plain.specs.Edges.{Edge, Said, edges, codes, expected}
+use Rattle.plain.specs.Edges.{Edge, Said, edges, codes, reused, expected}
 use Rattle.plain.specs.LineUp.{LineUp}
 use Rattle.table.specs.Halves.{bytes}
 use Rattle.table.specs.Calls.{freshOut}
@@ -57,4 +57,4 @@ computedOn t [] = []
 computedOn t (e ∷ es) = saidOn (repliesOn (freshOut t .lent) (asking (e .calls))) ∷ computedOn t es
 
 abbrev pub EdgesHold : Type 0
-EdgesHold = (t : List ℕ) → length t ≡ bytes → (computedOn t edges ≡ expected edges) × (computedOn t codes ≡ expected codes)
+EdgesHold = (t : List ℕ) → length t ≡ bytes → (computedOn t edges ≡ expected edges) × (computedOn t codes ≡ expected codes) × (computedOn t reused ≡ expected reused)

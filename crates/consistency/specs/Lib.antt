@@ -1,8 +1,5 @@
 -- What is claimed of whole days.
 -- A table that is made fresh agrees with the plain day: of revisions, through accepted steps; and of calls, whatever is called.
-pub mod Reached
-pub mod Follow
-pub mod Numbers
 pub mod Table
 pub mod Refusals
 pub mod Demand

@@ -1,5 +1,7 @@
 -- The day after every run of accepted steps: its diagram has a layout, and its transactions are whole.
 pub mod Moves
+pub mod Naming
+pub mod Waiting
 pub mod Accepting
 pub mod Real
 pub mod Sound

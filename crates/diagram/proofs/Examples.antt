@@ -3,7 +3,8 @@ use Prim.Native.Nat.{ℕ}
 use mathlib.Core.Bool.{true, false}
 use mathlib.Core.Path.{_≡_, refl}
 use mathlib.Core.Option.{none, some}
-use mathlib.Core.List.{List·Memᴰ·head, [], _∷_}
+use mathlib.Core.List.{List, List·Memᴰ·head, [], _++_, _∷_}
+use lib.ListN.{replicate}
 use Rattle.lists.specs.Sums.{anyBelow}
 use Rattle.diagram.specs.Sizes.{revisionLimit, clientLimit, updateLimit}
 use Rattle.diagram.proofs.Graph.Paths.{leads-path}
@@ -13,7 +14,8 @@ use Rattle.diagram.specs.Construction.{Constructed, entered, forked, joi
 use Rattle.diagram.specs.Effects.{tabulate, view, startVertex, forkVertex}
 use Rattle.diagram.specs.Day.{Day, fresh}
 use Rattle.diagram.specs.Checks.{unknownClient, openElsewhere, busyByOther, busy, stale, logFull, noneLeft, notJoinable}
-use Rattle.diagram.specs.Steps.{accepted, after, Event, Yield, Fork, Join}
+use Rattle.diagram.specs.Steps.{Step, accepted, after, run, runFrom, Event, Yield, Fork, Join}
+use Rattle.diagram.specs.Reuse.{handIns, waiting}
 use Rattle.diagram.specs.Examples.{triedAll, answers, e1, examples, expected, computed, e1List, beforeJoin, childJoinsParent, withCounts}
 
 examples-hold : computed examples ≡ expected examples
@@ -75,6 +77,20 @@ log-room = (refl, refl, refl)
 numbers-left : (accepted (withCounts 0 63) (Fork 0) ≡ true) × (accepted (withCounts 0 64) (Fork 0) ≡ false)
 unfolding accepted busy anyBelow noneLeft clientLimit revisionLimit
 numbers-left = (refl, refl)
+
+-- 02, U7: all 64 numbers are used, then 5 is handed in and then 3; a fork takes 5, the next one 3, and then none waits
+abbrev sentAll : List Step
+sentAll = replicate 63 (Fork 0)
+
+waiting-now :
+    (handIns (Fork 0 ∷ Fork 0 ∷ Join 0 2 ∷ Yield 0 ∷ Join 0 1 ∷ []) ≡ 2 ∷ 1 ∷ [])
+    × (waiting (Fork 0 ∷ Fork 0 ∷ Join 0 2 ∷ Fork 0 ∷ Join 0 1 ∷ []) ≡ 2 ∷ 1 ∷ [])
+    × (waiting (sentAll ++ (Join 0 5 ∷ Join 0 3 ∷ [])) ≡ 5 ∷ 3 ∷ [])
+    × (waiting (sentAll ++ (Join 0 5 ∷ Join 0 3 ∷ Fork 0 ∷ [])) ≡ 3 ∷ [])
+    × (waiting (sentAll ++ (Join 0 5 ∷ Join 0 3 ∷ Fork 0 ∷ Fork 0 ∷ [])) ≡ [])
+    × (waiting (sentAll ++ (Join 0 5 ∷ Join 0 3 ∷ Fork 0 ∷ Join 0 64 ∷ [])) ≡ 3 ∷ 5 ∷ [])
+unfolding run runFrom after anyBelow revisionLimit
+waiting-now = (refl, refl, refl, refl, refl, refl)
 
 -- the first half of the join rule holds of the child and its parent, the second does not, and the update is there twice
 first-half : (forkVertex beforeJoin 4 ≡ some 1) × (leads beforeJoin 1 5 ≡ true)

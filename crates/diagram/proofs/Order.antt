@@ -8,4 +8,5 @@ pub mod History
 pub mod Theorem
 pub mod Constructed
 pub mod Rules
+pub mod Reuse
 pub mod Witness

@@ -7,7 +7,7 @@ use lib.Dec.{eqb, ltb}
 use Rattle.lists.specs.Sums.{anyBelow}
 use Rattle.diagram.specs.Sizes.{revisionLimit, clientLimit, updateLimit}
 use Rattle.diagram.specs.Diagram.{Diagram, leads}
-use Rattle.diagram.specs.Day.{Day}
+use Rattle.diagram.specs.Day.{Day, outCount}
 
 -- 2: "tablet above 15"
 unfoldable pub unknownClient : ℕ → Bool
@@ -46,9 +46,9 @@ stale y c r = missing (y .diagram) (y .lastEvent c) (y .terminal r)
 unfoldable pub logFull : Day → Bool
 logFull y = not (ltb (y .updates) updateLimit)
 
--- 10: "64 boxes started"
+-- 10, 02, U7: "exactly if 64 boxes are out"
 unfoldable pub noneLeft : Day → Bool
-noneLeft y = not (ltb (y .revisions) revisionLimit)
+noneLeft y = not (ltb (outCount y) revisionLimit)
 
 -- 11: "joinee is box 0, is the joiner, its fork isn't seen, or its start is"
 unfoldable pub notJoinable : Day → ℕ → ℕ → Bool

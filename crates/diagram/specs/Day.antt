@@ -4,8 +4,9 @@ use mathlib.Core.Bool.{Bool, false, cond}
 use mathlib.Core.Path.{_≡_}
 use mathlib.Core.Option.{Option, none, some}
 use mathlib.Core.List.{List, [], _∷_}
-use lib.Dec.{ltb}
+use Rattle.lists.specs.Sums.{sumBelow}
 use Rattle.diagram.specs.Diagram.{root, Diagram}
+use Rattle.diagram.specs.Numbering.{Numbering, freshNumbering, next, latest}
 
 -- 01, "Words": "A tablet's events between yields form one transaction", in the order entered. `closed` says how many
 -- vertices there were at its yield; a transaction is open until then.
@@ -26,6 +27,8 @@ pub record Day : Type 0 where
   pub terminal : ℕ → ℕ
   -- 01: handed in
   pub joined : ℕ → Bool
+  -- 02, U7: the numbers that they bear
+  pub numbering : Numbering
   -- how many updates have been taken
   pub updates : ℕ
   -- of each client (01: tablet): its last event and its open transaction
@@ -44,6 +47,7 @@ fresh = record {
   forkOf = λ r. 0;
   terminal = λ r. 0;
   joined = λ r. false;
+  numbering = freshNumbering;
   updates = 0;
   lastEvent = λ c. none;
   openBy = λ c. none;
@@ -51,14 +55,22 @@ fresh = record {
   transaction = λ t. record { client = 0; revision = 0; events = []; closed = none };
 }
 
--- the revision that a number means: none if it is not yet given out (code 3). Numbers are given once, in order.
+-- the revision that a number means: none if it is not yet given out (code 3). 02, U7: "A number means the latest box that bore it"
 unfoldable pub meant : Day → ℕ → Option ℕ
-meant y n = cond (ltb n (y .revisions)) (some n) none
+meant y n = latest (y .numbering .of) n (y .revisions)
 
 -- the number that the next fork gives
 unfoldable pub nextNumber : Day → ℕ
-nextNumber y = y .revisions
+nextNumber y = next (y .numbering)
+
+-- the number of a revision
+abbrev pub numberOf : Day → ℕ → ℕ
+numberOf y r = y .numbering .of r
 
 -- 01, "Words": "A box is out until it is handed in by a join"
 abbrev pub IsOut : Day → ℕ → Type 0
 IsOut y r = (r < y .revisions) × (y .joined r ≡ false)
+
+-- how many are out
+abbrev pub outCount : Day → ℕ
+outCount y = sumBelow (y .revisions) (λ r. cond (y .joined r) 0 1)

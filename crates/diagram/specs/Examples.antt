@@ -64,6 +64,7 @@ withCounts updates revisions = record {
   forkOf = fresh .forkOf;
   terminal = fresh .terminal;
   joined = fresh .joined;
+  numbering = record { of = λ r. r; given = revisions; freed = [] };
   updates = updates;
   lastEvent = fresh .lastEvent;
   openBy = fresh .openBy;

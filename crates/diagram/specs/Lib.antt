@@ -6,9 +6,11 @@ pub mod Effects
 pub mod RootPaths
 pub mod Construction
 pub mod Day
+pub mod Numbering
 pub mod Checks
 pub mod Steps
 pub mod Rules
+pub mod Reuse
 pub mod Pool
 pub mod Counts
 pub mod Arbitration

@@ -8,6 +8,7 @@ use lib.ListN.{length}
 use lib.Dec.{ltb}
 use Rattle.lists.specs.Lists.{changed}
 use Rattle.diagram.specs.Diagram.{start, event, fork, join}
+use Rattle.diagram.specs.Numbering.{started, handedIn}
 use Rattle.diagram.specs.Day.{Transaction, Day, fresh}
 use Rattle.diagram.specs.Checks.{unknownClient, openElsewhere, busyByOther, busy, stale, logFull, noneLeft, notJoinable}
 
@@ -60,6 +61,7 @@ enter y c r u = record {
   forkOf = y .forkOf;
   terminal = changed (y .terminal) r (length (y .diagram));
   joined = y .joined;
+  numbering = y .numbering;
   updates = cond u (suc (y .updates)) (y .updates);
   lastEvent = changed (y .lastEvent) c (some (length (y .diagram)));
   openBy = changed (y .openBy) c (some (entersInto y (y .openBy c)));
@@ -79,6 +81,7 @@ close y c t = record {
   forkOf = y .forkOf;
   terminal = y .terminal;
   joined = y .joined;
+  numbering = y .numbering;
   updates = y .updates;
   lastEvent = y .lastEvent;
   openBy = changed (y .openBy) c none;
@@ -99,6 +102,7 @@ forkAt y r = record {
   forkOf = changed (y .forkOf) (y .revisions) (length (y .diagram));
   terminal = changed (changed (y .terminal) r (length (y .diagram))) (y .revisions) (suc (length (y .diagram)));
   joined = changed (y .joined) (y .revisions) false;
+  numbering = started (y .numbering) (y .revisions);
   updates = y .updates;
   lastEvent = y .lastEvent;
   openBy = y .openBy;
@@ -115,6 +119,7 @@ joinInto y a b = record {
   forkOf = y .forkOf;
   terminal = changed (y .terminal) a (length (y .diagram));
   joined = changed (y .joined) b true;
+  numbering = handedIn (y .numbering) b;
   updates = y .updates;
   lastEvent = y .lastEvent;
   openBy = y .openBy;

@@ -1,4 +1,4 @@
-// "The 63rd fork gives box 63, the next gives 10."
+// "The 63rd fork gives box 63, the next gives 10"; 02, U7: a number handed in is used again once every number was used.
 use crate::calls::fork;
 use crate::calls::fresh;
 use crate::calls::join;
@@ -13,7 +13,7 @@ fn chain(t: &mut [u8], many: u8) {
     }
 }
 
-// One that was joined still counts towards the 64.
+// 64 are out, and no more, until one is joined.
 pub fn all(t: &mut [u8]) {
     say::title(b"forks");
     fresh(t);
@@ -22,4 +22,26 @@ pub fn all(t: &mut [u8]) {
     fork(t, 63);
     join(t, 62, 63);
     fork(t, 0);
+    fork(t, 0);
+}
+
+// Two of 62 are joined, the higher number first; then the number never used is given.
+pub fn again(t: &mut [u8]) {
+    say::title(b"numbers used again");
+    fresh(t);
+    chain(t, 62);
+    join(t, 61, 62);
+    join(t, 60, 61);
+    fork(t, 61);
+    fork(t, 0);
+}
+
+// The two that were joined, the one joined longest ago first, and no more.
+pub fn longest_ago(t: &mut [u8]) {
+    fork(t, 0);
+    fork(t, 0);
+    fork(t, 0);
+    join(t, 0, 61);
+    fork(t, 63);
+    join(t, 63, 61);
 }

@@ -1,7 +1,7 @@
 // The edges of a race day that are not starred, run on the table: 01, "Edges of a race day". What it writes is compared.
 mod calls; // calls.rt: the calls, each with a line
 mod codes; // codes.rt: each code
-mod forks; // forks.rt: 64 revisions, and no more
+mod forks; // forks.rt: 64 revisions out, and no more; numbers used again
 mod listings; // listings.rt: lists before and after joins
 mod log; // log.rt: 4,096 updates, and no more
 mod sent; // sent.rt: bundles of entries
@@ -18,6 +18,8 @@ fn log_full() {
 fn all_forks() {
     let mut t = io::large_buffer();
     forks::all(&mut t);
+    forks::again(&mut t);
+    forks::longest_ago(&mut t);
 }
 
 fn around_a_join() {

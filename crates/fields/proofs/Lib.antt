@@ -1,5 +1,5 @@
 -- Laws that serve several proofs: cells read and written in a part, gaps of the layout, range checks, marks, bytes that are 0.
-pub mod Gaps
+pub mod PlaceLoops
 pub mod InPart
 pub mod InRange
 pub mod MarkReads

@@ -2,13 +2,14 @@
 ghost use mathlib.Core.Path.{_≡_};
 ghost use mathlib.Core.Bool.{true};
 ghost use lib.ListN.{length, replicate};
-ghost use Rattle.cells.specs.Sizes.{bytes, clients, closed};
-ghost use Rattle.cells.specs.Parts.{wrote, caughtPart, openedPart, signaturePart};
+ghost use Rattle.cells.specs.Sizes.{bytes, clients, closed, revisions};
+ghost use Rattle.cells.specs.Parts.{wrote, caughtPart, queuePart, openedPart, signaturePart};
 ghost use Rattle.cells.specs.Marks.{pack};
 ghost use Rattle.cells.specs.Range.{signature};
 use crate::table::CAUGHT;
 use crate::table::COUNTERS;
 use crate::table::OPENED;
+use crate::table::QUEUE;
 use crate::table::SIGNATURE;
 use crate::table::STATE;
 use crate::table::Table;
@@ -40,6 +41,15 @@ pub fn copy(t: &mut [u8], from: &[u8])
         t[i] = from[i];
         i += 1;
     }
+}
+
+// No number joined.
+pub fn queue(d: &mut [u8])
+    requires { ⌜ length (now d) ≡ bytes ⌝ }
+    ensures { λ _. ⌜ now (d .exit) ≡ wrote (now (d .entry)) queuePart (replicate revisions 1) ⌝ }
+{
+    let none = Table::fresh_queue();
+    copy(&mut d[QUEUE..OPENED], &none);
 }
 
 // No open transaction.

@@ -17,10 +17,10 @@ use crate::table::COUNTERS;
 use crate::table::Client;
 use crate::table::FIRST;
 use crate::table::HIGH;
-use crate::table::KEPT;
 use crate::table::LAST;
 use crate::table::LAYOUT;
 use crate::table::LOW;
+use crate::table::NAMES;
 use crate::table::OPENED;
 use crate::table::QUEUE;
 use crate::table::Revision;
@@ -130,6 +130,14 @@ pub fn place(d: &[u8], i: usize) -> usize
     byte_at(&d[LAYOUT..QUEUE], i)
 }
 
+// The number at a place of the queue.
+pub fn queued(d: &[u8], i: usize) -> usize
+    requires { ⌜ (length (now d) ≡ bytes) × (i < revisions) ⌝ }
+    ensures { λ v. ⌜ (v ≡ byte (cells (now (d .entry)) .queue) i) × (v < 256) ⌝ }
+{
+    byte_at(&d[QUEUE..OPENED], i)
+}
+
 // The revision of the open transaction, or `Table::CLOSED`.
 pub fn opened(d: &[u8], c: Client) -> usize
     requires { ⌜ (length (now d) ≡ bytes) × (c .0 < clients) ⌝ }
@@ -143,7 +151,7 @@ pub fn out(d: &[u8]) -> usize
     requires { ⌜ length (now d) ≡ bytes ⌝ }
     ensures { λ v. ⌜ (v ≡ cells (now (d .entry)) .out) × (v < 256) ⌝ }
 {
-    byte_at(&d[COUNTERS..KEPT], Table::REVISIONS_OUT)
+    byte_at(&d[COUNTERS..NAMES], Table::REVISIONS_OUT)
 }
 
 // How many revision numbers were given out.
@@ -151,7 +159,7 @@ pub fn given(d: &[u8]) -> usize
     requires { ⌜ length (now d) ≡ bytes ⌝ }
     ensures { λ v. ⌜ (v ≡ cells (now (d .entry)) .given) × (v < 256) ⌝ }
 {
-    byte_at(&d[COUNTERS..KEPT], Table::NUMBERS_GIVEN)
+    byte_at(&d[COUNTERS..NAMES], Table::NUMBERS_GIVEN)
 }
 
 // How many updates were taken.
@@ -159,5 +167,5 @@ pub fn updates(d: &[u8]) -> usize
     requires { ⌜ length (now d) ≡ bytes ⌝ }
     ensures { λ v. ⌜ (v ≡ cells (now (d .entry)) .updates) × (v < 65536) ⌝ }
 {
-    word_at(&d[COUNTERS..KEPT], Table::UPDATES_TAKEN)
+    word_at(&d[COUNTERS..NAMES], Table::UPDATES_TAKEN)
 }

@@ -1,7 +1,7 @@
 // The sizes of a day, and the numbers of revisions and clients, each of a type of its own.
 ghost use mathlib.Core.Path.{_≡_};
 ghost use lib.ListN.{replicate};
-ghost use Rattle.cells.specs.Sizes.{clients, closed};
+ghost use Rattle.cells.specs.Sizes.{clients, closed, revisions};
 ghost use Rattle.cells.specs.Range.{signature};
 ghost use Rattle.fields.specs.Numbers.{revisionCheck};
 use crate::numbers::wide;
@@ -71,7 +71,16 @@ pub const OPENED: usize = 39808;
 
 pub const COUNTERS: usize = 39824;
 
-pub const KEPT: usize = 39828;
+// The next four are 0 until a request uses them.
+pub const NAMES: usize = 39828;
+
+pub const SINGLE: usize = 40084;
+
+pub const CLOSED_UPDATES: usize = 40085;
+
+pub const STARTED: usize = 40087;
+
+pub const KEPT: usize = 40089;
 
 pub const SIGNATURE: usize = 40952;
 
@@ -100,6 +109,9 @@ impl Table {
     // In the cell of a client's open transaction: there is none.
     pub const CLOSED: usize = 64;
 
+    // In a place of the queue that is not in use: a number, but not the main revision's, which is never joined.
+    pub const UNQUEUED: u8 = 1;
+
     // In the counters: the word that counts updates taken.
     pub const UPDATES_TAKEN: usize = 0;
 
@@ -115,6 +127,9 @@ impl Table {
     // The limit of a cell that says whether a row is in use: 0 or 1.
     pub const USED_LIMIT: usize = 2;
 
+    // The limit of the cell that says whether a day is a single-main day: 0 or 1.
+    pub const SINGLE_LIMIT: usize = 2;
+
     // The limit of a count of updates: 0 to 4,096.
     pub const UPDATES_LIMIT: usize = Table::UPDATES + 1;
 
@@ -126,6 +141,13 @@ impl Table {
         ensures { λ r. ⌜ r ≡ replicate clients (replicate 8 255) ⌝ }
     {
         [[255; Table::REVISIONS / 8]; Table::CLIENTS]
+    }
+
+    // No number was joined.
+    pub fn fresh_queue() -> [u8; Table::REVISIONS]
+        ensures { λ r. ⌜ r ≡ replicate revisions 1 ⌝ }
+    {
+        [Table::UNQUEUED; Table::REVISIONS]
     }
 
     // No transaction is open.

@@ -4,15 +4,17 @@ ghost use mathlib.Core.List.{[], _++_, _∷_};
 ghost use Prim.Native.Nat.{_<_};
 ghost use lib.Dec.{eqb};
 ghost use lib.ListN.{length, set, take};
-ghost use Rattle.lists.specs.Lists.{insertBefore, remove};
+ghost use Rattle.lists.specs.Lists.{insertBefore, remove, restOf};
 ghost use Rattle.cells.specs.Sizes.{bytes, clients, revisions, updates};
 ghost use Rattle.cells.specs.Parts.{split, wrote, lowPart, highPart, seenPart, caughtPart, statePart, usedPart, lastPart, firstPart};
-ghost use Rattle.cells.specs.Parts.{countPart, basePart, layoutPart, openedPart, countersPart, rowsPart};
+ghost use Rattle.cells.specs.Parts.{countPart, basePart, layoutPart, queuePart, openedPart, countersPart, rowsPart};
 ghost use Rattle.cells.specs.Words.{putHalf, putWord};
 ghost use Rattle.cells.specs.Marks.{markAt, pack, putRow};
 ghost use Rattle.cells.specs.Decode.{cells};
 ghost use Rattle.cells.specs.CellSteps.{forkSeen, forkCaught, joinSeen, joinCaught};
 ghost use Rattle.cells.specs.Steps.{putRowOf};
+use crate::gaps;
+use crate::layout;
 use crate::numbers::put_byte;
 use crate::numbers::put_half;
 use crate::numbers::put_word;
@@ -24,10 +26,10 @@ use crate::table::COUNTERS;
 use crate::table::Client;
 use crate::table::FIRST;
 use crate::table::HIGH;
-use crate::table::KEPT;
 use crate::table::LAST;
 use crate::table::LAYOUT;
 use crate::table::LOW;
+use crate::table::NAMES;
 use crate::table::OPENED;
 use crate::table::QUEUE;
 use crate::table::ROWS;
@@ -105,21 +107,21 @@ pub fn updates(d: &mut [u8], v: usize)
     requires { ⌜ (length (now d) ≡ bytes) × (v < 65536) ⌝ }
     ensures { λ _. ⌜ now (d .exit) ≡ wrote (now (d .entry)) countersPart (putWord (split (now (d .entry)) countersPart) 0 v) ⌝ }
 {
-    put_word(&mut d[COUNTERS..KEPT], Table::UPDATES_TAKEN, v);
+    put_word(&mut d[COUNTERS..NAMES], Table::UPDATES_TAKEN, v);
 }
 
 pub fn out(d: &mut [u8], v: usize)
     requires { ⌜ (length (now d) ≡ bytes) × (v < 256) ⌝ }
     ensures { λ _. ⌜ now (d .exit) ≡ wrote (now (d .entry)) countersPart (set (split (now (d .entry)) countersPart) 2 v) ⌝ }
 {
-    put_byte(&mut d[COUNTERS..KEPT], Table::REVISIONS_OUT, v);
+    put_byte(&mut d[COUNTERS..NAMES], Table::REVISIONS_OUT, v);
 }
 
 pub fn given(d: &mut [u8], v: usize)
     requires { ⌜ (length (now d) ≡ bytes) × (v < 256) ⌝ }
     ensures { λ _. ⌜ now (d .exit) ≡ wrote (now (d .entry)) countersPart (set (split (now (d .entry)) countersPart) 3 v) ⌝ }
 {
-    put_byte(&mut d[COUNTERS..KEPT], Table::NUMBERS_GIVEN, v);
+    put_byte(&mut d[COUNTERS..NAMES], Table::NUMBERS_GIVEN, v);
 }
 
 // Client c has caught up with r alone.
@@ -167,7 +169,7 @@ pub fn enter(d: &mut [u8], parent: Revision, child: Revision)
     requires { ⌜ length (now d) ≡ bytes ⌝ }
     ensures { λ _. ⌜ now (d .exit) ≡ wrote (now (d .entry)) layoutPart (take revisions (insertBefore (parent .0) (child .0) (split (now (d .entry)) layoutPart))) ⌝ }
 {
-    crate::layout::put_in(&mut d[LAYOUT..QUEUE], parent.0, child.0);
+    layout::put_in(&mut d[LAYOUT..QUEUE], parent.0, child.0);
 }
 
 // b leaves the layout.
@@ -175,7 +177,23 @@ pub fn leave(d: &mut [u8], b: Revision)
     requires { ⌜ length (now d) ≡ bytes ⌝ }
     ensures { λ _. ⌜ now (d .exit) ≡ wrote (now (d .entry)) layoutPart (take revisions (remove (b .0) (split (now (d .entry)) layoutPart) ++ (0 ∷ []))) ⌝ }
 {
-    crate::layout::take_out(&mut d[LAYOUT..QUEUE], b.0);
+    layout::take_out(&mut d[LAYOUT..QUEUE], b.0);
+}
+
+// b's number comes to a place of the queue.
+pub fn queued(d: &mut [u8], i: usize, b: Revision)
+    requires { ⌜ (length (now d) ≡ bytes) × (i < revisions) ⌝ }
+    ensures { λ _. ⌜ now (d .exit) ≡ wrote (now (d .entry)) queuePart (set (split (now (d .entry)) queuePart) i (b .0)) ⌝ }
+{
+    put_byte(&mut d[QUEUE..OPENED], i, wide(b.0));
+}
+
+// The number in the first place of the queue leaves it.
+pub fn unqueued(d: &mut [u8])
+    requires { ⌜ length (now d) ≡ bytes ⌝ }
+    ensures { λ _. ⌜ now (d .exit) ≡ wrote (now (d .entry)) queuePart (restOf (split (now (d .entry)) queuePart) ++ (1 ∷ [])) ⌝ }
+{
+    gaps::close(&mut d[QUEUE..OPENED], 0, Table::UNQUEUED);
 }
 
 // The row of revision r, which is not the main revision.

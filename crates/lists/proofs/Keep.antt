@@ -1,6 +1,6 @@
 -- Membership as a test, and the elements that pass a test.
 use Prim.Native.Nat.{ℕ}
-use mathlib.Core.Bool.{Bool, _||_, cond, false, false≢true, or-assoc, true}
+use mathlib.Core.Bool.{Bool, _&&_, _||_, cond, false, false≢true, or-assoc, true}
 use mathlib.Core.Path.{_∙_, _≡_, ap, refl, sym}
 use mathlib.Core.List.{List, List·Memᴰ·head, List·Memᴰ·tail, List·Nodup, Memᴰ·cast, Sublistᴰ·cons, Sublistᴰ·cons-cons, Sublistᴰ·slnil, []}
 use mathlib.Core.List.{_++_, _∷_, nodup-cons}
@@ -33,6 +33,10 @@ keep-all p (x ∷ l) h = rw (h x (List·Memᴰ·head refl), keep-all p l (λ z i
 pub keep-++ : (p : ℕ → Bool) (a b : List ℕ) → keep p (a ++ b) ≡ keep p a ++ keep p b
 keep-++ p [] b = refl
 keep-++ p (x ∷ a) b = cases (p x) (λ e. rw (e, keep-++ p a b)) (λ e. rw (e, keep-++ p a b))
+
+pub keep-both : (p q : ℕ → Bool) (l : List ℕ) → keep (λ x. p x && q x) l ≡ keep q (keep p l)
+keep-both p q [] = refl
+keep-both p q (x ∷ l) = cases (p x) (λ e. rw (e, keep-both p q l)) (λ e. rw (e, keep-both p q l))
 
 pub keep-flatBack : (p : ℕ → Bool) (f : ℕ → List ℕ) (l : List ℕ) → keep p (flatBack f l) ≡ flatBack (λ x. keep p (f x)) l
 keep-flatBack p f [] = refl

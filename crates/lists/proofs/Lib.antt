@@ -11,3 +11,4 @@ pub mod Sums
 pub mod Replaced
 pub mod Rows
 pub mod Told
+pub mod Renamed

@@ -8,11 +8,11 @@ use mathlib.Core.List.{Nodup·of-append-right, Sublistᴰ·cases-cons, Sublist�
 use mathlib.Core.List.{Sublistᴰ·refl, [], _++_, _∷_, head-eq-of-cons-eq, nodup-cons}
 use native.Mathlib.Omega.{arith}
 use lib.Dec.{eqb}
-use lib.ListN.{getD, length, replicate, take}
+use lib.ListN.{getD, length, replicate, set, take}
 use borrow.Author.Tests.{eq-eqb, eqb-false, eqb-true, ne-eqb}
 use Rattle.lists.proofs.Cases.{either, split}
 use Rattle.lists.proofs.Sublists.{parts, ∈-⊑, ⊑-⊆}
-use Rattle.lists.specs.Lists.{_∈_, _⊑_, behind, insertBefore, remove}
+use Rattle.lists.specs.Lists.{_∈_, _⊑_, behind, insertBefore, remove, restOf}
 
 -- where an element stands
 pub record Place (b : ℕ) (l : List ℕ) : Type 0 where
@@ -169,6 +169,15 @@ take-in x zero l i = absurd (List·Memᴰ·not-nil i)
 take-in x (suc n) [] i = i
 take-in x (suc n) (z ∷ l) (List·Memᴰ·head e) = List·Memᴰ·head e
 take-in x (suc n) (z ∷ l) (List·Memᴰ·tail i) = List·Memᴰ·tail (take-in x n l i)
+
+pub rest-in : (x : ℕ) (l : List ℕ) → x ∈ restOf l → x ∈ l
+rest-in x [] i = i
+rest-in x (z ∷ l) i = List·Memᴰ·tail i
+
+pub set-in : (x : ℕ) (l : List ℕ) (n v : ℕ) → x ∈ set l n v → (x ≡ v) ⊎ (x ∈ l)
+set-in x [] n v i = absurd (List·Memᴰ·not-nil i)
+set-in x (z ∷ l) zero v i = either (List·Memᴰ·cases-cons i) (λ e. inl e) (λ j. inr (List·Memᴰ·tail j))
+set-in x (z ∷ l) (suc n) v i = either (List·Memᴰ·cases-cons i) (λ e. inr (List·Memᴰ·head e)) (λ j. either (set-in x l n v j) (λ e. inl e) (λ o. inr (List·Memᴰ·tail o)))
 
 pub getD-in : (l : List ℕ) (i d : ℕ) → i < length l → getD l i d ∈ l
 getD-in [] i d h = absurd (omega arith)

@@ -2,11 +2,12 @@
 use Prim.Native.Nat.{ℕ}
 use mathlib.Core.Bool.{false, true}
 use mathlib.Core.Path.{_∙_, _≡_, ap, refl, subst, sym}
-use mathlib.Core.Logic.{_⊎_, inl, inr}
+use mathlib.Core.Logic.{_⊎_, inl, inr, ∥∥₁-elim}
+use mathlib.Core.HLevel.{⊥-prop}
 use mathlib.Core.List.{List, List·Memᴰ·append-cases, List·Memᴰ·cases-cons, List·Memᴰ·head, List·Memᴰ·not-nil, List·Memᴰ·tail, List·Nodup}
 use mathlib.Core.List.{Memᴰ·append-left, Memᴰ·append-right, Memᴰ·cast, Sublistᴰ·append, Sublistᴰ·cases-cons, Sublistᴰ·cases-cons-cons}
 use mathlib.Core.List.{Sublistᴰ·cons, Sublistᴰ·cons-cons, Sublistᴰ·eq-nil, Sublistᴰ·nil-sublist, Sublistᴰ·refl, Sublistᴰ·slnil, [], _++_}
-use mathlib.Core.List.{_∷_, append-nil, nodup-append, nodup-cons}
+use mathlib.Core.List.{List·Memᴰ·eq-of-singleton, _∷_, append-nil, nodup-append, nodup-cons, nodup-nil, not-mem-nil}
 use lib.Dec.{eqb}
 use borrow.Author.Tests.{eqb-false, eqb-true}
 use Rattle.lists.proofs.Cases.{either, split}
@@ -80,6 +81,11 @@ apart-++ {a} {b} {c} f g n m k = either (List·Memᴰ·append-cases a m) (λ h. 
 
 pub nodup-apart : (a b : List ℕ) → List·Nodup (a ++ b) → Apart a b
 nodup-apart a b h n m k = (nodup-append {l₁ = a} {l₂ = b}) .0 h .2 n ∣ m ∣₁ ∣ k ∣₁
+
+-- one more at the end
+pub nodup-more : (l : List ℕ) (x : ℕ) → List·Nodup l → (x ∈ l → ⊥) → List·Nodup (l ++ (x ∷ []))
+nodup-more l x d n =
+    (nodup-append {l₁ = l} {l₂ = x ∷ []}) .1 (d, nodup-cons .1 (not-mem-nil, nodup-nil), λ a i j. ∥∥₁-elim i ⊥-prop (λ u. ∥∥₁-elim j ⊥-prop (λ v. n (rw (List·Memᴰ·eq-of-singleton v) at u))))
 
 pub mem? : (n : ℕ) (l : List ℕ) → (n ∈ l) ⊎ (n ∈ l → ⊥)
 mem? n [] = inr (λ i. List·Memᴰ·not-nil i)

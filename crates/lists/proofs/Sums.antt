@@ -46,3 +46,8 @@ any-at (suc n) f x h e =
 
 pub any-none : (n : ℕ) (f : ℕ → Bool) → anyBelow n f ≡ false → (x : ℕ) → x < n → f x ≡ false
 any-none n f e x h = cases (f x) (λ q. absurd (false≢true (sym e ∙ any-at n f x h q))) (λ q. q)
+
+pub any-never : (n : ℕ) (f : ℕ → Bool) → ((x : ℕ) → x < n → f x ≡ false) → anyBelow n f ≡ false
+unfolding anyBelow
+any-never zero f h = refl
+any-never (suc n) f h = rw (h n (omega arith), any-never n f (λ x l. h x (omega arith)))

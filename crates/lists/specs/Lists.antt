@@ -19,6 +19,15 @@ a ⊑ b = Sublistᴰ a b
 abbrev pub Apart : List ℕ → List ℕ → Type 0
 Apart a b = (n : ℕ) → n ∈ a → n ∈ b → ⊥
 
+-- the first element, 0 where there is none, and the others
+abbrev pub firstOf : List ℕ → ℕ
+firstOf [] = 0
+firstOf (x ∷ l) = x
+
+abbrev pub restOf : List ℕ → List ℕ
+restOf [] = []
+restOf (x ∷ l) = l
+
 -- membership as a test
 abbrev pub member : ℕ → List ℕ → Bool
 member n [] = false
@@ -56,6 +65,11 @@ flat f (x ∷ l) = f x ++ flat f l
 abbrev pub flatBack : (ℕ → List ℕ) → List ℕ → List ℕ
 flatBack f [] = []
 flatBack f (x ∷ l) = flatBack f l ++ f x
+
+-- the elements by other names
+abbrev pub named : (ℕ → ℕ) → List ℕ → List ℕ
+named f [] = []
+named f (x ∷ l) = f x ∷ named f l
 
 -- a function changed at one place
 abbrev pub changed : {A : Type 0} → (ℕ → A) → ℕ → A → ℕ → A

@@ -1,5 +1,5 @@
--- Every row of the tables of edges and codes holds, by computing the plain day; so do a full log, all boxes sent, the
--- lines of a list, and fills.
+-- Every row of the tables of edges, codes and reused numbers holds, by computing the plain day; so do a full log, all boxes
+-- sent, the lines of a list, and fills.
 use Prim.Native.Nat.{ℕ}
 use mathlib.Core.Path.{_≡_, refl}
 use mathlib.Core.List.{List, [], _∷_, _++_}
@@ -22,7 +22,7 @@ use Rattle.diagram.specs.Examples.{withCounts}
 use Rattle.plain.specs.Calls.{Call, Update, Query, Yield, Fork, Join, Show, Fill, Bundle, Entries, Entry, Line}
 use Rattle.plain.specs.Record.{PlainDay, freshDay}
 use Rattle.plain.specs.Answers.{called, sent, dayFrom, dayAfter, answersFrom, answers}
-use Rattle.plain.specs.Edges.{edges, codes, said, expected, computed, ok, refusal, neither, filled, lent, sends, small, unknownBib}
+use Rattle.plain.specs.Edges.{edges, codes, reused, said, expected, computed, ok, refusal, neither, filled, lent, sends, small, unknownBib}
 
 pub edges-hold : computed edges ≡ expected edges
 unfolding called answersFrom answers after leads tabulate meant nextNumber unknownClient openElsewhere busyByOther busy anyBelow stale logFull noneLeft notJoinable revisionLimit clientLimit updateLimit kindCheck effect earliest penalized stateOf valueIn applied sent entriesIn entriesFrom isWrong number
@@ -31,6 +31,10 @@ edges-hold = refl
 pub codes-hold : computed codes ≡ expected codes
 unfolding called answersFrom answers after leads tabulate meant nextNumber unknownClient openElsewhere busyByOther busy anyBelow stale logFull noneLeft notJoinable revisionLimit clientLimit updateLimit kindCheck effect earliest penalized stateOf valueIn applied sent entriesIn entriesFrom isWrong number
 codes-hold = refl
+
+pub reused-hold : computed reused ≡ expected reused
+unfolding called answersFrom answers after leads tabulate meant nextNumber unknownClient openElsewhere busyByOther busy anyBelow stale logFull noneLeft notJoinable revisionLimit clientLimit updateLimit kindCheck effect earliest penalized stateOf valueIn applied sent entriesIn entriesFrom isWrong number
+reused-hold = refl
 
 -- the fresh day, but with this many updates taken and boxes sent
 abbrev counted : ℕ → ℕ → PlainDay

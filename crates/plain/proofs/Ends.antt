@@ -17,7 +17,8 @@ use Rattle.diagram.specs.Day.{meant, nextNumber}
 use Rattle.diagram.specs.Checks.{unknownClient, openElsewhere, busyByOther, busy, stale, logFull, noneLeft, notJoinable}
 use Rattle.diagram.specs.Steps as Steps
 use Rattle.diagram.specs.Steps.{accepted}
-use Rattle.diagram.proofs.Days.Accepting.{meant-given, accept-event, accept-yield, accept-fork, accept-join}
+use Rattle.diagram.proofs.Days.Naming.{meant-given}
+use Rattle.diagram.proofs.Days.Accepting.{accept-event, accept-yield, accept-fork, accept-join}
 use Rattle.plain.specs.Calls.{Update, Query, Yield, Fork, Join, Show, Fill, Preview}
 use Rattle.plain.specs.Record.{PlainDay, pathResult, noted}
 use Rattle.plain.specs.Answers.{Outcome, refused, taken, answered, shown, told, foreseen, check, given, named, stepped, called}

@@ -1,24 +1,29 @@
 -- What fills tell adds up to the updates accepted, after every list of calls (02, U1).
 use Prim.Native.Nat.{ℕ, suc, _+_, _<_, _≤_}
 use mathlib.Core.Path.{_≡_, refl, _∙_, ap, sym}
+use mathlib.Core.Option.{Option, none, some}
 use mathlib.Core.List.{List, [], _∷_}
 use native.Mathlib.Omega.{arith}
-use borrow.Author.Tests.{le-ltb, lt-ltb, ne-eqb}
+use lib.ListN.{length}
+use borrow.Author.Tests.{ne-eqb}
 use Rattle.lists.proofs.Cases.{cases}
 use Rattle.diagram.specs.Counts.{OwnAddsUp, ownIfOut}
-use Rattle.diagram.specs.Day.{meant}
+use Rattle.diagram.specs.Effects.{own}
+use Rattle.diagram.specs.Day.{Day, meant}
 use Rattle.diagram.specs.Steps.{after}
 use Rattle.diagram.proofs.Days.Moves.{yield-updates}
+use Rattle.diagram.proofs.Days.Naming.{Named, countFor, earlier-in, not-meant, sum-latest}
+use Rattle.lists.specs.Sums.{sumBelow}
 use Rattle.lists.proofs.Sums.{sum-same}
 use Rattle.diagram.proofs.Order.Counted.{own-adds-up}
 use Rattle.plain.specs.Calls.{Call, Update, Query, Yield, Fork, Join, Show, Fill, Bundle, Preview}
 use Rattle.plain.specs.Record.{PlainDay, freshDay}
-use Rattle.plain.specs.Answers.{Outcome, called, dayFrom, dayAfter, answersFrom, answers}
+use Rattle.plain.specs.Answers.{Outcome, called, check, given, told, dayFrom, dayAfter, answersFrom, answers}
 use Rattle.plain.specs.Fills.{countsOne, acceptedIn, codesOf, FillsAddUp}
 use Rattle.plain.specs.Taken.{stepsAfter}
 use Rattle.plain.proofs.Bundles.{bundle-ends, bundle-ran}
 use Rattle.plain.proofs.Ends.{Ends, no, yes, was-taken, update-ends, query-ends, yield-ends, fork-ends, join-ends, show-ends, fill-ends, preview-ends}
-use Rattle.plain.proofs.LineUp.{lined-up}
+use Rattle.plain.proofs.LineUp.{lined-up, named}
 
 -- how many updates a call adds: what it counts
 abbrev Adds : PlainDay → Call → Outcome → Type 0
@@ -69,22 +74,29 @@ counted : (cs : List Call) → dayAfter cs .day .updates ≡ acceptedIn cs (code
 unfolding dayAfter answers
 counted cs = counted-from cs freshDay ∙ nothing-before (acceptedIn cs (codesOf (answersFrom freshDay cs)))
 
--- a fill tells what its revision, if it is out, has of its own
-fill-is : (p : PlainDay) (n : ℕ) → n < p .day .revisions → called p (Fill n) .answer .value ≡ ownIfOut (p .day) n
-unfolding called meant
-fill-is p n l = rw (lt-ltb n (p .day .revisions) l) (cases (p .day .joined n) (λ e. rw e) (λ e. rw e))
+-- a fill tells what the revision that the number means, if it is out, has of its own; of a number not given out nothing
+fill-is : (p : PlainDay) (n : ℕ) → called p (Fill n) .answer .value ≡ countFor (ownIfOut (p .day)) (meant (p .day) n)
+unfolding called
+fill-is p n = by (meant (p .day) n)
+  where
+    by : (q : Option ℕ) → given q p (λ r. check (p .day .joined r) 4 p (told p (length (own (p .day .diagram) (p .day .terminal r))) (p .day .updates))) .answer .value ≡ countFor (ownIfOut (p .day)) q
+    by none = refl
+    by (some r) = cases (p .day .joined r) (λ e. rw e) (λ e. rw e)
 
--- and of a number not given out nothing
-pub no-fill : (p : PlainDay) (n : ℕ) → p .day .revisions ≤ n → called p (Fill n) .answer .value ≡ 0
-unfolding called meant
-no-fill p n l = rw (le-ltb n (p .day .revisions) l)
+pub no-fill : (p : PlainDay) → Named (p .day) → (n : ℕ) → p .day .numbering .given ≤ n → called p (Fill n) .answer .value ≡ 0
+no-fill p N n l = fill-is p n ∙ ap (countFor (ownIfOut (p .day))) (not-meant (p .day) N n l)
+
+-- summed over the numbers given out, that is the own updates summed over the revisions
+over-numbers : (y : Day) → Named y → sumBelow (y .numbering .given) (λ n. countFor (ownIfOut y) (meant y n)) ≡ sumBelow (y .revisions) (ownIfOut y)
+unfolding meant
+over-numbers y N = sum-latest (y .numbering .of) (ownIfOut y) (y .numbering .given) (y .revisions) (N .low) (λ s r k l e. rw (earlier-in y N s r k l e))
 
 adds-up : (cs : List Call) → OwnAddsUp (dayAfter cs .day)
 adds-up cs = let L = lined-up cs in rw (L .steps) (own-adds-up (stepsAfter cs) (L .accepted))
 
 pub fills-add-up : (cs : List Call) → FillsAddUp cs
 fills-add-up cs = record {
-  sum = sum-same (p .day .revisions) _ (ownIfOut (p .day)) (fill-is p) ∙ adds-up cs ∙ counted cs;
+  sum = sum-same (p .day .numbering .given) _ _ (λ n l. fill-is p n) ∙ over-numbers (p .day) (named cs) ∙ adds-up cs ∙ counted cs;
   total = λ n e. let h = was-taken (fill-ends p n) e in ap (λ o. o .answer .total) (h .is) ∙ counted cs;
 }
   where

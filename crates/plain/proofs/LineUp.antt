@@ -7,21 +7,23 @@ use mathlib.Core.List.{List, List·Memᴰ·head, List·Memᴰ·tail, [], _++_, _
 use native.Mathlib.Omega.{arith}
 use lib.ListN.{length}
 use Rattle.bundles.specs.declared.entry.Entry as Sent
-use Rattle.diagram.proofs.Days.Accepting.{meant-low}
+use Rattle.diagram.proofs.Days.Naming.{Named, meant-low}
 use Rattle.diagram.proofs.Days.Moves.{step-moves}
 use Rattle.diagram.proofs.Graph.Visible.{visible}
 use Rattle.diagram.proofs.Graph.Tables.{tabulate-newest}
 use Rattle.diagram.proofs.Order.Growth.{Fine, extends, fine-fresh, tabulate-stays}
 use Rattle.diagram.proofs.Order.Inherited.{entry-is}
 use Rattle.diagram.proofs.Order.Rules.{by-rules}
+use Rattle.diagram.proofs.Order.Reuse.{by-numbers, takes}
 use Rattle.machine.proofs.Follow.Pool.{by-pool}
-use Rattle.diagram.proofs.Order.Runs.{accepted-first, along, fine-run, fine-step, older-from, run-step}
+use Rattle.diagram.proofs.Order.Runs.{accepted-first, along, fine-run, fine-step, older-from, run-step, named-run}
 use Rattle.diagram.proofs.Order.Theorem.{arbitration}
 use Rattle.diagram.proofs.Order.Witness.{witness}
 use Rattle.diagram.specs.Arbitration.{Arbitration, Extends, WholeAt}
 use Rattle.diagram.specs.Checks.{busy}
 use Rattle.diagram.specs.Construction.{entered}
 use Rattle.diagram.specs.Day.{Day, IsOut, meant}
+use Rattle.diagram.specs.Reuse.{Takes}
 use Rattle.diagram.specs.Effects.{entry, number, numberStep, view}
 use Rattle.diagram.specs.Steps as Steps
 use Rattle.diagram.specs.Steps.{Accepted, AcceptedFrom, Event, Step, after, run, runFrom}
@@ -29,9 +31,9 @@ use Rattle.lists.proofs.Blocks.{flat-from}
 use Rattle.lists.proofs.Changed.{changed-same}
 use Rattle.lists.specs.Lists.{_∈_}
 use Rattle.plain.proofs.Bundles.{bundle-ends, first-of, sent-parts, update-number}
-use Rattle.plain.proofs.Ends.{QueryTaken, ShowTaken, UpdateTaken, query-ends, show-ends, update-ends, was-taken}
+use Rattle.plain.proofs.Ends.{QueryTaken, ShowTaken, UpdateTaken, fork-ends, query-ends, show-ends, update-ends, was-taken}
 use Rattle.plain.proofs.Exactly.{exactly}
-use Rattle.plain.proofs.Values.{fill-value, fork-value, join-value}
+use Rattle.plain.proofs.Values.{fill-value, fork-none, fork-value, join-value}
 use Rattle.plain.proofs.Previews.{foresees}
 use Rattle.plain.proofs.Steps.{day-both, did, ran, steps-both}
 use Rattle.plain.specs.Taken.{bundleSteps, ifTaken, onRevision, stepOf, stepsAfter, stepsFrom, stepsOf}
@@ -121,6 +123,15 @@ grows-from [] p F = tt
 grows-from (c ∷ cs) p F =
     let d = did p c in
     (subst (λ y. Extends (p .day) y) (sym (d .same)) (extends-short (p .day) F (short-if (called p c .answer .code) (stepOf p c) (short-step p c)) (d .accepts)), grows-from cs (called p c .next) (subst Fine (sym (d .same)) (along Fine fine-step (stepsOf p c) (p .day) (d .accepts) F)))
+
+-- the numbers of the revisions out are apart, after every list of calls
+pub named : (cs : List Call) → Named (endOf cs)
+named cs = rw (same cs) (named-run (stepsAfter cs) (accepts cs))
+
+taken-number : (before : List Call) (n : ℕ) → called (dayAfter before) (Fork n) .answer .code ≡ 0 → Takes (stepsAfter before) (called (dayAfter before) (Fork n) .answer .value)
+taken-number before n e =
+    let h = was-taken (fork-ends (dayAfter before) n) e in
+    rw (h .is, same before) (takes (stepsAfter before) (accepts before) (h .step .revision) (subst (λ y. Steps.accepted y (Steps.Fork (h .step .revision)) ≡ true) (same before) (h .step .accepts)))
 
 module _ (cs : List Call) where
   abbrev A : Arbitration (stepsAfter cs)
@@ -298,6 +309,9 @@ module _ (cs : List Call) where
     witness = witness (stepsAfter cs) (accepts cs);
     rules = by-rules (stepsAfter cs) (accepts cs);
     pool = by-pool (stepsAfter cs) (accepts cs);
+    numbers-used = by-numbers (stepsAfter cs) (accepts cs);
+    takes = λ before rest n T. taken-number before n (T .code);
+    none-left = λ before rest n place. fork-none (dayAfter before) n (named before);
     exactly = λ before rest c place. exactly (dayAfter before) c;
     order = A .order;
     once = A .once;
@@ -309,7 +323,7 @@ module _ (cs : List Call) where
     numbered = rw e (A .numbered);
     number-at = number-at;
     noted = noted-is;
-    forked = λ before rest n T. fork-value (dayAfter before) n (T .code);
+    forked = λ before rest n T. fork-value (dayAfter before) n (named before) (T .code);
     gained = λ before rest n m a b T. join-value (dayAfter before) n m a b (T .code);
     filled = λ before rest n r T. fill-value (dayAfter before) n r (T .code);
     unbundled = unbundled;

@@ -1,6 +1,7 @@
--- 01, "Edges of a race day": the starred edges E1 to E9 as one table of calls with what each gives; and 02, U1 to U4 and U6.
-use Prim.Native.Nat.{ℕ}
+-- 01, "Edges of a race day": the starred edges E1 to E9 as one table of calls with what each gives; and 02, U1 to U4, U6 and U7.
+use Prim.Native.Nat.{ℕ, zero, suc}
 use mathlib.Core.List.{List, [], _∷_, _++_}
+use lib.ListN.{replicate}
 use Rattle.updates.specs.declared.standing.State.{State}
 use Rattle.updates.specs.declared.standing.State.the-variants as state
 use Rattle.bundles.specs.declared.entry.Entry as Sent
@@ -26,7 +27,7 @@ edge calls says = record { calls = calls; says = says }
 abbrev pub refusal : ℕ → Said
 refusal code = record { code = code; state = state.Neither; value = 0; total = 0; gain = 0 }
 
-abbrev timed : ℕ → Said
+abbrev pub timed : ℕ → Said
 timed value = record { code = 0; state = state.Timed; value = value; total = 0; gain = 0 }
 
 abbrev pub neither : Said
@@ -176,6 +177,45 @@ codes =
     ∷ Update 2 2 strike 8 0 ∷ Yield 2 ∷ Preview 0 1 7 ∷ Preview 0 1 8 ∷ Preview 1 2 8 ∷ Join 1 2 ∷ Preview 0 1 7 ∷ Preview 0 1 8 ∷ [])
     (ok 0 ∷ ok 1 ∷ ok 0 ∷ ok 1 ∷ ok 2 ∷ ok 2 ∷ ok 0 ∷ ok 3 ∷ ok 0
     ∷ ok 4 ∷ ok 0 ∷ previewed (timed 116) 1 ∷ previewed neither 1 ∷ previewed struck 1 ∷ ok 1 ∷ previewed (timed 116) 2 ∷ previewed struck 2 ∷ [])
+    ∷ []
+
+-- forks of box 0 and what they give: the numbers from one on
+abbrev forks : ℕ → List Call
+forks n = replicate n (Fork 0)
+
+abbrev upFrom : ℕ → ℕ → List Said
+upFrom first zero = []
+upFrom first (suc n) = ok first ∷ upFrom (suc first) n
+
+-- 02, U7: numbers used again
+abbrev pub reused : List Edge
+reused =
+    -- 64 boxes are out: 10, of any box, after 3 and 7, until one is handed in
+    edge
+    (forks 63 ++ (Fork 0 ∷ Fork 63 ∷ Fork 64 ∷ Query 0 0 7 ∷ Fork 0 ∷ Yield 0 ∷ Join 0 40 ∷ Fork 0 ∷ Fork 0 ∷ []))
+    (upFrom 1 63 ++ (refusal 10 ∷ refusal 10 ∷ refusal 3 ∷ neither ∷ refusal 7 ∷ ok 0 ∷ ok 0 ∷ ok 40 ∷ refusal 10 ∷ []))
+    -- "a never-used number while there is one", although others were handed in
+    ∷ edge
+    (Fork 0 ∷ Fork 0 ∷ Join 0 1 ∷ Fork 0 ∷ Join 0 2 ∷ Fork 0 ∷ Fork 1 ∷ Fork 2 ∷ Fork 5 ∷ [])
+    (ok 1 ∷ ok 2 ∷ ok 0 ∷ ok 3 ∷ ok 0 ∷ ok 4 ∷ refusal 4 ∷ refusal 4 ∷ refusal 3 ∷ [])
+    -- the last of them, and then the one that waits
+    ∷ edge (forks 62 ++ (Join 0 9 ∷ Fork 0 ∷ Fork 0 ∷ Fork 0 ∷ [])) (upFrom 1 62 ++ (ok 0 ∷ ok 63 ∷ ok 9 ∷ refusal 10 ∷ []))
+    -- "else the number handed in longest ago": in the order of the hand-ins and not of the numbers, also when one is handed in again
+    ∷ edge
+    (forks 63 ++ (Join 0 5 ∷ Join 0 3 ∷ Join 0 8 ∷ Fork 0 ∷ Join 0 5 ∷ Fork 0 ∷ Fork 3 ∷ Fork 0 ∷ Fork 0 ∷ []))
+    (upFrom 1 63 ++ (ok 0 ∷ ok 0 ∷ ok 0 ∷ ok 5 ∷ ok 0 ∷ ok 3 ∷ ok 8 ∷ ok 5 ∷ refusal 10 ∷ []))
+    -- a number handed in: 4. Used again, it means the new box, which shows what that one sees and not what the earlier bearer did; a client whose last
+    -- event is there may go on only where that event is seen
+    ∷ edge
+    (forks 63 ++ (Update 1 5 time 7 50 ∷ Yield 1 ∷ Fill 5 ∷ Join 0 5 ∷ Query 1 5 7 ∷ Show 5 0 ∷ Fill 5 ∷ Fork 5 ∷ Join 0 5 ∷ Join 5 4 ∷ Preview 0 5 7
+    ∷ Fork 63 ∷ Query 1 5 7 ∷ Query 2 5 7 ∷ Yield 2 ∷ Show 5 0 ∷ Fill 5 ∷ Query 1 0 7 ∷ Yield 1 ∷ Join 0 5 ∷ Join 0 63 ∷ Join 0 5 ∷ [])
+    )
+    (upFrom 1 63 ++ (ok 0 ∷ ok 0 ∷ filled 1 1 ∷ ok 1 ∷ refusal 4 ∷ refusal 4 ∷ refusal 4 ∷ refusal 4 ∷ refusal 4 ∷ refusal 4 ∷ refusal 4
+    ∷ ok 5 ∷ refusal 8 ∷ neither ∷ ok 0 ∷ ok 0 ∷ filled 0 1 ∷ timed 50 ∷ ok 0 ∷ refusal 11 ∷ ok 0 ∷ ok 0 ∷ []))
+    -- the same with a new bearer that sees the event: the client goes on there, and what it enters is the new box's own
+    ∷ edge
+    (forks 63 ++ (Update 1 5 time 7 50 ∷ Yield 1 ∷ Join 0 5 ∷ Fork 0 ∷ Query 1 5 7 ∷ Update 1 5 penalty 7 5 ∷ Query 1 5 7 ∷ Yield 1 ∷ Fill 5 ∷ Show 5 24 ∷ Query 1 0 7 ∷ Join 0 5 ∷ Query 1 0 7 ∷ []))
+    (upFrom 1 63 ++ (ok 0 ∷ ok 0 ∷ ok 1 ∷ ok 5 ∷ timed 50 ∷ ok 1 ∷ timed 55 ∷ ok 0 ∷ filled 1 2 ∷ ok 2 ∷ refusal 8 ∷ ok 1 ∷ timed 55 ∷ []))
     ∷ []
 
 abbrev pub said : List Answer → List Said

@@ -13,7 +13,7 @@ use Rattle.plain.specs.Answers.{called, dayAfter, answers}
 
 -- what a fill of each number given out tells; of one that is joined (01: handed in) it tells 0
 abbrev pub fillSum : PlainDay → ℕ
-fillSum p = sumBelow (p .day .revisions) (λ n. called p (Fill n) .answer .value)
+fillSum p = sumBelow (p .day .numbering .given) (λ n. called p (Fill n) .answer .value)
 
 -- the history: the calls and the codes of their answers. An update with code 0 was accepted, and of a bundle with
 -- code 0 each of its updates.

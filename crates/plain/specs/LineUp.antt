@@ -2,6 +2,7 @@
 -- whole list of calls, with one line-up for it, and not a claim for each call." The words `Sees`, `Shows`, `WholeAt` and
 -- `Extends` are those of the day of revisions: paths in the day's own diagram.
 use Prim.Native.Nat.{ℕ, _<_}
+use mathlib.Core.Bool.{true, false}
 use mathlib.Core.Path.{_≡_}
 use mathlib.Core.Logic.{_↔_}
 use mathlib.Core.Option.{none, some}
@@ -13,9 +14,12 @@ use Rattle.updates.specs.declared.kind.KindCheck.the-variants.{Known}
 use Rattle.updates.specs.Kinds.{kindCheck}
 use Rattle.updates.specs.Effect.{stateOf, valueIn}
 use Rattle.diagram.specs.Effects.{own, view, number, numbers}
-use Rattle.diagram.specs.Day.{Day, IsOut, meant}
+use Rattle.diagram.specs.Sizes.{revisionLimit}
+use Rattle.diagram.specs.Day.{Day, IsOut, meant, outCount}
 use Rattle.diagram.specs.Steps.{Accepted, run}
+use Rattle.diagram.specs.Checks.{busy}
 use Rattle.diagram.specs.Rules.{ByRules}
+use Rattle.diagram.specs.Reuse.{ByNumbers, Takes}
 use Rattle.diagram.specs.Pool.{ByPool}
 use Rattle.diagram.specs.Witness.{Witness}
 use Rattle.diagram.specs.Arbitration.{IsEvent, eventsOf, Numbered, Sees, SeesTransaction, Shows, WholeAt, Extends}
@@ -24,7 +28,7 @@ use Rattle.plain.specs.Record.{PlainDay, freshDay, standingOf, linesOf}
 use Rattle.plain.specs.Answers.{Outcome, called, dayAfter}
 use Rattle.plain.specs.Taken.{stepsAfter}
 use Rattle.plain.specs.Bundles.{Bundled, parts}
-use Rattle.plain.specs.Allowed.{Allowed}
+use Rattle.plain.specs.Allowed.{Allowed, Meaning}
 use Rattle.plain.specs.Previews.{Foresees}
 
 -- the day of revisions after a list of calls
@@ -50,9 +54,11 @@ pub record ListedBy (cs : List Call) (order : List ℕ) (x : ℕ) (answer : Answ
   pub count : answer .value ≡ length updates
   pub are : answer .lines ≡ linesOf (dayAfter cs .entries) updates
 
--- a fork from day y: its value meant no revision, and from then on means the new one, which is out and shows what the forked one shows
+-- a fork from day y: its value meant no revision that was out, and from then on means the new one, which is out and shows what the forked one
+-- shows; every other number means what it did
 pub record Forked (y : Day) (n : ℕ) (o : Outcome) : Type 0 where
-  pub unused : meant y (o .answer .value) ≡ none
+  pub unused : (r : ℕ) → meant y (o .answer .value) ≡ some r → y .joined r ≡ true
+  pub others : (k : ℕ) → (k ≡ o .answer .value → ⊥) → meant (o .next .day) k ≡ meant y k
   pub means : meant (o .next .day) (o .answer .value) ≡ some (y .revisions)
   pub out : IsOut (o .next .day) (y .revisions)
   pub shows : (r : ℕ) → meant y n ≡ some r → view (o .next .day .diagram) (o .next .day .terminal (y .revisions)) ≡ view (y .diagram) (y .terminal r)
@@ -67,6 +73,10 @@ pub record Filled (y : Day) (r : ℕ) (answer : Answer) : Type 0 where
   pub own-updates : answer .value ≡ length (own (y .diagram) (y .terminal r))
   pub all : answer .total ≡ y .updates
 
+-- a revision that is out and not busy
+abbrev pub Idle : Day → ℕ → Type 0
+Idle y r = (y .joined r ≡ false) × (busy y r ≡ false)
+
 -- "For a box that stays out, the list before a call begins the list after it."
 abbrev pub GrowsEach : PlainDay → List Call → Type 0
 GrowsEach p [] = Unit {0}
@@ -80,6 +90,11 @@ pub record LineUp (cs : List Call) : Type 0 where
   -- demand 2: they go by the rules of 002 and 01, and what a vertex lists are the effects along its root-path
   pub rules : ByRules (stepsAfter cs)
   pub pool : ByPool (stepsAfter cs)
+  -- 02, U7: the numbers by the history; what a fork gives by its rule; and 10, where no lower code applies, "exactly if 64 boxes are out"
+  pub numbers-used : ByNumbers (stepsAfter cs)
+  pub takes : (before rest : List Call) (n : ℕ) → Taken cs before (Fork n) rest → Takes (stepsAfter before) (called (dayAfter before) (Fork n) .answer .value)
+  pub none-left : (before rest : List Call) (n : ℕ) → cs ≡ before ++ (Fork n ∷ rest)
+      → (called (dayAfter before) (Fork n) .answer .code ≡ 10) ↔ (Meaning (endOf before) n (Idle (endOf before)) × (outCount (endOf before) ≡ revisionLimit))
   -- demand 2: each call "is taken exactly if" the rules and limits allow it
   pub exactly : (before rest : List Call) (c : Call) → cs ≡ before ++ (c ∷ rest) → (called (dayAfter before) c .answer .code ≡ 0) ↔ Allowed (dayAfter before) c
   -- "A line-up has every transaction once, open ones and those of queries alone too."

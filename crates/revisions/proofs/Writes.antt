@@ -1,28 +1,30 @@
 -- Each step is its writes in a row: from what every write says of the bytes before and after it to the step's definition.
-use Prim.Native.Nat.{ℕ, _+_, _-_, _/_, _%_, _<_}
+use Prim.Native.Nat.{ℕ, suc, _+_, _-_, _/_, _%_, _<_, _≤_}
 use mathlib.Core.Bool.{Bool, true, false, cond}
 use mathlib.Core.Path.{_≡_, refl, sym, ap, fun-ext, _∙_}
 use mathlib.Core.List.{List, [], _∷_, _++_}
 use native.Mathlib.Numerals.{add-one}
-use lib.Dec.{eqb}
+use native.Mathlib.Omega.{arith}
+use lib.Dec.{eqb, ltb}
 use lib.ListN.{length, set, take, replicate, length-replicate, length-set}
-use borrow.Author.Tests.{eq-eqb, ne-eqb}
-use Rattle.lists.specs.Lists.{insertBefore, remove}
+use lib.Seq.{getD-set-other, set-getD}
+use borrow.Author.Tests.{eq-eqb, eqb-true, le-ltb, lt-ltb, ne-eqb}
+use Rattle.lists.specs.Lists.{insertBefore, remove, restOf}
 use Rattle.lists.proofs.Cases.{cases}
 use Rattle.cells.specs.Sizes.{bytes, revisions, clients, closed}
 use Rattle.cells.specs.Parts.{Parts, Sized, size, split, glue, wrote, _⟨_≔_⟩, rowsPart, lowPart, highPart, seenPart, caughtPart, statePart, usedPart, lastPart, firstPart}
-use Rattle.cells.specs.Parts.{countPart, basePart, layoutPart, openedPart, countersPart, signaturePart}
+use Rattle.cells.specs.Parts.{countPart, basePart, layoutPart, queuePart, openedPart, countersPart, signaturePart}
 use Rattle.cells.specs.Words.{putWord, putHalf}
 use Rattle.cells.specs.Marks.{pack, putRow}
 use Rattle.cells.specs.Decode.{decode}
 use Rattle.cells.specs.Range.{signature}
 use Rattle.cells.specs.CellSteps.{forkSeen, forkCaught, forkRow, joinSeen, joinCaught}
-use Rattle.cells.specs.Steps.{queryParts, linkParts, appendParts, putRowOf, inheritParts, spliceParts, freshBytes, queryBytes, updateBytes, forkBytes, joinBytes}
-use Rattle.cells.proofs.Parts.{Holds, glue-split, holds-split, holds-step, holds-wrote, split-is, with-same}
+use Rattle.cells.specs.Steps.{queryParts, linkParts, appendParts, putRowOf, inheritParts, forkParts, spliceParts, freshBytes, queryBytes, updateBytes, forkBytes, joinBytes}
+use Rattle.cells.proofs.Parts.{Holds, glue-split, holds-split, holds-step, holds-wrote, sized-with, split-is, with-same}
 use Rattle.cells.proofs.Words.{putWord-length, putHalf-length}
 use Rattle.cells.proofs.Sized.{append-sized, caught-sized, caughtRow-sized, inherit-sized, layout-sized, link-sized, query-sized, row-sized, seen-sized, splice-sized}
 use Rattle.cells.proofs.Places.{insert-length, remove-length}
-use Rattle.revisions.specs.Pieces.{retireParts, startParts}
+use Rattle.revisions.specs.Pieces.{numberParts, retireParts, startParts}
 
 -- a byte, and a word, of one part
 byte-wrote : {d d′ : List ℕ} {p : Parts} (i r v : ℕ) → Holds d p → d′ ≡ wrote d i (set (split d i) r v) → Holds d′ (p ⟨ i ≔ set (p i) r v ⟩)
@@ -40,6 +42,40 @@ seen-wrote f h e = holds-step (λ q. q ⟨ seenPart ≔ pack revisions (f (decod
 
 caught-wrote : {d d′ : List ℕ} {p : Parts} (f : (ℕ → ℕ → Bool) → ℕ → ℕ → Bool) → Holds d p → d′ ≡ wrote d caughtPart (pack clients (f (decode (split d) .caught))) → Holds d′ (p ⟨ caughtPart ≔ pack clients (f (decode p .caught)) ⟩)
 caught-wrote f h e = holds-step (λ q. q ⟨ caughtPart ≔ pack clients (f (decode q .caught)) ⟩) h e (caught-sized (h .sized) _)
+
+with-swap : (p : Parts) (i j : ℕ) (a b : List ℕ) → (i ≡ j → ⊥) → p ⟨ i ≔ a ⟩ ⟨ j ≔ b ⟩ ≡ p ⟨ j ≔ b ⟩ ⟨ i ≔ a ⟩
+with-swap p i j a b n = fun-ext (λ x. cases (eqb x j)
+    (λ e. let z : eqb x i ≡ false = ne-eqb x i (λ f. n (sym f ∙ eqb-true x j e)) in rw (e, z))
+    (λ e. rw e))
+
+start-sized : {p : Parts} → Sized p → (q c n : ℕ) → Sized (startParts p q c n)
+start-sized {p} h q c n =
+    let k = decode p in
+    let a = caught-sized (seen-sized h (forkSeen (k .seen) q c)) (forkCaught (k .caught) q c) in
+    let b = sized-with a statePart (set (p statePart) c 1) (length-set (p statePart) c 1 ∙ h .of statePart) in
+    let e = layout-sized b (insertBefore q c (p layoutPart)) (insert-length q c (p layoutPart)) in
+    sized-with e countersPart (set (p countersPart) 2 n) (length-set (p countersPart) 2 n ∙ h .of countersPart)
+
+-- the pieces of a fork are the fork: where a number was never used the queue stays, else the count of those given out
+forked : (p : Parts) (q c : ℕ) → numberParts (startParts (inheritParts p q c) q c (suc (decode p .out))) (decode p .given) ≡ forkParts p q c
+forked p q c = cases (ltb (decode p .given) revisions)
+    (λ e. rw e (with-twice T countersPart _ _ ∙ ap (λ r. r ⟨ countersPart ≔ set A 3 (suc (decode p .given)) ⟩) (sym (with-same T queuePart))))
+    (λ e. rw e (with-swap T countersPart queuePart A _ (λ f. absurd (omega arith)) ∙ ap (λ r. T ⟨ queuePart ≔ restOf (p queuePart) ++ (1 ∷ []) ⟩ ⟨ countersPart ≔ r ⟩) (sym stays)))
+  where
+    A : List ℕ
+    A = set (p countersPart) 2 (suc (decode p .out))
+
+    T : Parts
+    T =
+        let k = decode p in
+        inheritParts p q c
+        ⟨ seenPart ≔ pack revisions (forkSeen (k .seen) q c) ⟩
+        ⟨ caughtPart ≔ pack clients (forkCaught (k .caught) q c) ⟩
+        ⟨ statePart ≔ set (p statePart) c 1 ⟩
+        ⟨ layoutPart ≔ take revisions (insertBefore q c (p layoutPart)) ⟩
+
+    stays : set A 3 (decode p .given) ≡ A
+    stays = ap (set A 3) (sym (getD-set-other (p countersPart) 2 3 (suc (decode p .out)) 0 (λ f. absurd (omega arith)))) ∙ set-getD A 3 0
 
 module _ (d : List ℕ) (l : length d ≡ bytes) where
   pub link-done : (d₁ d₂ : List ℕ) (u v : ℕ) → d₁ ≡ wrote d lowPart (set (split d lowPart) u (v % 256)) → d₂ ≡ wrote d₁ highPart (putHalf (split d₁ highPart) u (v / 256)) → d₂ ≡ glue (linkParts (split d) u v)
@@ -93,26 +129,27 @@ module _ (d : List ℕ) (l : length d ≡ bytes) where
       let h₂ = word-wrote lastPart a end h₁ e₂ in
       word-wrote firstPart a first h₂ e₃ .eq ∙ rw (ne-eqb (decode (split d) .count b) 0 (λ z. nz (en ∙ z)), eg, ef, et, ee)
 
-  pub retire-done : (d₁ d₂ d₃ d₄ d₅ : List ℕ) (a b n : ℕ)
+  pub retire-done : (d₁ d₂ d₃ d₄ d₅ d₆ : List ℕ) (a b i n : ℕ)
       → d₁ ≡ wrote d seenPart (pack revisions (joinSeen (decode (split d) .seen) a b)) → d₂ ≡ wrote d₁ caughtPart (pack clients (joinCaught (decode (split d₁) .caught) a b))
       → d₃ ≡ wrote d₂ statePart (set (split d₂ statePart) b 2) → d₄ ≡ wrote d₃ layoutPart (take revisions (remove b (split d₃ layoutPart) ++ (0 ∷ [])))
-      → d₅ ≡ wrote d₄ countersPart (set (split d₄ countersPart) 2 n) → d₅ ≡ glue (retireParts (split d) a b n)
-  retire-done d₁ d₂ d₃ d₄ d₅ a b n e₁ e₂ e₃ e₄ e₅ =
+      → d₅ ≡ wrote d₄ queuePart (set (split d₄ queuePart) i b) → d₆ ≡ wrote d₅ countersPart (set (split d₅ countersPart) 2 n) → d₆ ≡ glue (retireParts (split d) a b i n)
+  retire-done d₁ d₂ d₃ d₄ d₅ d₆ a b i n e₁ e₂ e₃ e₄ e₅ e₆ =
       let h = holds-split d l in
       let h₁ = seen-wrote (λ f. joinSeen f a b) h e₁ in
       let h₂ = caught-wrote (λ f. joinCaught f a b) h₁ e₂ in
       let h₃ = byte-wrote statePart b 2 h₂ e₃ in
       let h₄ = holds-step (λ q. q ⟨ layoutPart ≔ take revisions (remove b (q layoutPart) ++ (0 ∷ [])) ⟩) h₃ e₄ (layout-sized (h₃ .sized) (remove b (split d layoutPart) ++ (0 ∷ [])) (remove-length b (split d layoutPart))) in
-      byte-wrote countersPart 2 n h₄ e₅ .eq
+      let h₅ = byte-wrote queuePart i b h₄ e₅ in
+      byte-wrote countersPart 2 n h₅ e₆ .eq
 
-  pub join-done : (d₁ d₂ d₃ : List ℕ) (a b m n o : ℕ) → m ≡ decode (split d) .count a → n ≡ decode (split d) .count b → o ≡ decode (split d) .out
-      → d₁ ≡ glue (spliceParts (split d) a b) → d₂ ≡ wrote d₁ countPart (putWord (split d₁ countPart) a (m + n)) → d₃ ≡ glue (retireParts (split d₂) a b (o - 1)) → d₃ ≡ joinBytes d a b
+  pub join-done : (d₁ d₂ d₃ : List ℕ) (a b m n i o : ℕ) → m ≡ decode (split d) .count a → n ≡ decode (split d) .count b → i ≡ decode (split d) .given - decode (split d) .out → o ≡ decode (split d) .out
+      → d₁ ≡ glue (spliceParts (split d) a b) → d₂ ≡ wrote d₁ countPart (putWord (split d₁ countPart) a (m + n)) → d₃ ≡ glue (retireParts (split d₂) a b i (o - 1)) → d₃ ≡ joinBytes d a b
   unfolding joinBytes
-  join-done d₁ d₂ d₃ a b m n o em en eo e₁ e₂ e₃ =
+  join-done d₁ d₂ d₃ a b m n i o em en ei eo e₁ e₂ e₃ =
       let h = holds-split d l in
       let h₁ = holds-step (λ q. spliceParts q a b) h e₁ (splice-sized (h .sized) a b) in
       let h₂ = word-wrote countPart a (m + n) h₁ e₂ in
-      e₃ ∙ ap (λ q. glue (retireParts q a b (o - 1))) (split-is h₂) ∙ rw (em, en, eo)
+      e₃ ∙ ap (λ q. glue (retireParts q a b i (o - 1))) (split-is h₂) ∙ rw (em, en, ei, eo)
 
   -- what c inherits
   pub by-count-done : (d₁ d₂ d₃ : List ℕ) (c base : ℕ) → base ≡ decode (split d) .count 0
@@ -136,40 +173,49 @@ module _ (d : List ℕ) (l : length d ≡ bytes) where
       let h₃ = word-wrote basePart c base h₂ e₃ in
       word-wrote countPart c 0 h₃ e₄ .eq ∙ rw (ne-eqb q 0 nz, er, eb)
 
-  pub start-done : (d₁ d₂ d₃ d₄ d₅ d₆ : List ℕ) (q c n m : ℕ)
+  pub start-done : (d₁ d₂ d₃ d₄ d₅ : List ℕ) (q c n : ℕ)
       → d₁ ≡ wrote d seenPart (pack revisions (forkSeen (decode (split d) .seen) q c)) → d₂ ≡ wrote d₁ caughtPart (pack clients (forkCaught (decode (split d₁) .caught) q c))
       → d₃ ≡ wrote d₂ statePart (set (split d₂ statePart) c 1) → d₄ ≡ wrote d₃ layoutPart (take revisions (insertBefore q c (split d₃ layoutPart)))
-      → d₅ ≡ wrote d₄ countersPart (set (split d₄ countersPart) 2 n) → d₆ ≡ wrote d₅ countersPart (set (split d₅ countersPart) 3 m) → d₆ ≡ glue (startParts (split d) q c n m)
-  start-done d₁ d₂ d₃ d₄ d₅ d₆ q c n m e₁ e₂ e₃ e₄ e₅ e₆ =
+      → d₅ ≡ wrote d₄ countersPart (set (split d₄ countersPart) 2 n) → d₅ ≡ glue (startParts (split d) q c n)
+  start-done d₁ d₂ d₃ d₄ d₅ q c n e₁ e₂ e₃ e₄ e₅ =
       let h = holds-split d l in
       let h₁ = seen-wrote (λ f. forkSeen f q c) h e₁ in
       let h₂ = caught-wrote (λ f. forkCaught f q c) h₁ e₂ in
       let h₃ = byte-wrote statePart c 1 h₂ e₃ in
       let h₄ = holds-step (λ p. p ⟨ layoutPart ≔ take revisions (insertBefore q c (p layoutPart)) ⟩) h₃ e₄ (layout-sized (h₃ .sized) (insertBefore q c (split d layoutPart)) (insert-length q c (split d layoutPart))) in
-      let h₅ = byte-wrote countersPart 2 n h₄ e₅ in
-      byte-wrote countersPart 3 m h₅ e₆ .eq ∙ ap glue (with-twice _ countersPart _ _)
+      byte-wrote countersPart 2 n h₄ e₅ .eq
 
-  pub fork-done : (d₁ d₂ : List ℕ) (q c o g : ℕ) → c < revisions → o ≡ decode (split d) .out → g ≡ decode (split d) .given
-      → d₁ ≡ glue (inheritParts (split d) q c) → d₂ ≡ glue (startParts (split d₁) q c (o + 1) (g + 1)) → d₂ ≡ forkBytes d q c
+  -- a number never used, and one used again
+  pub number-done : (d₁ : List ℕ) (g : ℕ) → g < revisions → d₁ ≡ wrote d countersPart (set (split d countersPart) 3 (g + 1)) → d₁ ≡ glue (numberParts (split d) g)
+  number-done d₁ g h e = e ∙ rw (lt-ltb g revisions h, add-one)
+
+  pub again-done : (d₁ : List ℕ) (g : ℕ) → revisions ≤ g → d₁ ≡ wrote d queuePart (restOf (split d queuePart) ++ (1 ∷ [])) → d₁ ≡ glue (numberParts (split d) g)
+  again-done d₁ g h e = e ∙ rw (le-ltb g revisions h)
+
+  pub fork-done : (d₁ d₂ d₃ : List ℕ) (q c o g : ℕ) → c < revisions → o ≡ decode (split d) .out → g ≡ decode (split d) .given
+      → d₁ ≡ glue (inheritParts (split d) q c) → d₂ ≡ glue (startParts (split d₁) q c (o + 1)) → d₃ ≡ glue (numberParts (split d₂) g) → d₃ ≡ forkBytes d q c
   unfolding forkBytes
-  fork-done d₁ d₂ q c o g cl eo eg e₁ e₂ =
+  fork-done d₁ d₂ d₃ q c o g cl eo eg e₁ e₂ e₃ =
       let h = holds-split d l in
       let h₁ = holds-step (λ p. inheritParts p q c) h e₁ (inherit-sized (h .sized) q c cl) in
-      e₂ ∙ ap (λ p. glue (startParts p q c (o + 1) (g + 1))) (split-is h₁) ∙ rw (add-one, add-one, eo, eg)
+      let h₂ = holds-step (λ p. startParts p q c (o + 1)) h₁ e₂ (start-sized (h₁ .sized) q c (o + 1)) in
+      e₃ ∙ ap (λ p. glue (numberParts p g)) (split-is h₂) ∙ rw (add-one, eo, eg) (ap glue (forked (split d) q c))
 
 -- a new day, from bytes that are all 0
-pub fresh-done : (d₁ d₂ d₃ d₄ d₅ d₆ d₇ : List ℕ)
+pub fresh-done : (d₁ d₂ d₃ d₄ d₅ d₆ d₇ d₈ : List ℕ)
     → d₁ ≡ glue (λ i. replicate (size i) 0) → d₂ ≡ wrote d₁ caughtPart (pack clients (λ c r. true)) → d₃ ≡ wrote d₂ statePart (set (split d₂ statePart) 0 1)
-    → d₄ ≡ wrote d₃ openedPart (replicate clients closed) → d₅ ≡ wrote d₄ countersPart (set (split d₄ countersPart) 2 1) → d₆ ≡ wrote d₅ countersPart (set (split d₅ countersPart) 3 1)
-    → d₇ ≡ wrote d₆ signaturePart signature → d₇ ≡ freshBytes
+    → d₄ ≡ wrote d₃ queuePart (replicate revisions 1) → d₅ ≡ wrote d₄ openedPart (replicate clients closed)
+    → d₆ ≡ wrote d₅ countersPart (set (split d₅ countersPart) 2 1) → d₇ ≡ wrote d₆ countersPart (set (split d₆ countersPart) 3 1)
+    → d₈ ≡ wrote d₇ signaturePart signature → d₈ ≡ freshBytes
 unfolding freshBytes size signature
-fresh-done d₁ d₂ d₃ d₄ d₅ d₆ d₇ e₁ e₂ e₃ e₄ e₅ e₆ e₇ =
+fresh-done d₁ d₂ d₃ d₄ d₅ d₆ d₇ d₈ e₁ e₂ e₃ e₄ e₅ e₆ e₇ e₈ =
     let z : Sized (λ i. replicate (size i) 0) = record { of = λ i. length-replicate (size i) 0 } in
     let h₁ : Holds d₁ (λ i. replicate (size i) 0) = record { eq = e₁; sized = z } in
     let h₂ = caught-wrote (λ f c r. true) h₁ e₂ in
     let h₃ = byte-wrote statePart 0 1 h₂ e₃ in
-    let h₄ = holds-wrote openedPart (λ t. replicate clients closed) h₃ e₄ refl in
-    let h₅ = byte-wrote countersPart 2 1 h₄ e₅ in
-    let h₆ = byte-wrote countersPart 3 1 h₅ e₆ in
-    let e = holds-wrote signaturePart (λ t. signature) h₆ e₇ refl .eq in
+    let h₄ = holds-wrote queuePart (λ t. replicate revisions 1) h₃ e₄ refl in
+    let h₅ = holds-wrote openedPart (λ t. replicate clients closed) h₄ e₅ refl in
+    let h₆ = byte-wrote countersPart 2 1 h₅ e₆ in
+    let h₇ = byte-wrote countersPart 3 1 h₆ e₇ in
+    let e = holds-wrote signaturePart (λ t. signature) h₇ e₈ refl .eq in
     e ∙ ap (λ p. glue (p ⟨ signaturePart ≔ signature ⟩)) (with-twice _ countersPart _ _)

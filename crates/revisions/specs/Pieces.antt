@@ -1,32 +1,42 @@
 -- The larger steps in pieces, as the code makes them. `cells` has the whole of each.
-use Prim.Native.Nat.{ℕ}
+use Prim.Native.Nat.{ℕ, suc}
+use mathlib.Core.Bool.{cond}
 use mathlib.Core.List.{[], _∷_, _++_}
+use lib.Dec.{ltb}
 use lib.ListN.{set, take}
-use Rattle.lists.specs.Lists.{insertBefore, remove}
+use Rattle.lists.specs.Lists.{insertBefore, remove, restOf}
 use Rattle.cells.specs.Sizes.{revisions, clients, stateOut, stateJoined}
-use Rattle.cells.specs.Parts.{Parts, _⟨_≔_⟩, seenPart, caughtPart, statePart, layoutPart, countersPart}
+use Rattle.cells.specs.Parts.{Parts, _⟨_≔_⟩, seenPart, caughtPart, statePart, layoutPart, queuePart, countersPart}
 use Rattle.cells.specs.Marks.{pack}
 use Rattle.cells.specs.Decode.{decode}
 use Rattle.cells.specs.CellSteps.{forkSeen, forkCaught, joinSeen, joinCaught}
 
--- b is joined into a: the marks, b's state, the layout, and n revisions out
-abbrev pub retireParts : Parts → ℕ → ℕ → ℕ → Parts
-retireParts p a b n =
+-- b is joined into a: the marks, b's state, the layout, place i of the queue, and n revisions out
+abbrev pub retireParts : Parts → ℕ → ℕ → ℕ → ℕ → Parts
+retireParts p a b i n =
     let k = decode p in
     p
     ⟨ seenPart ≔ pack revisions (joinSeen (k .seen) a b) ⟩
     ⟨ caughtPart ≔ pack clients (joinCaught (k .caught) a b) ⟩
     ⟨ statePart ≔ set (p statePart) b stateJoined ⟩
     ⟨ layoutPart ≔ take revisions (remove b (p layoutPart) ++ (0 ∷ [])) ⟩
+    ⟨ queuePart ≔ set (p queuePart) i b ⟩
     ⟨ countersPart ≔ set (p countersPart) 2 n ⟩
 
--- q's fork c is out: the marks, c's state, the layout, n revisions out, and m numbers given out
-abbrev pub startParts : Parts → ℕ → ℕ → ℕ → ℕ → Parts
-startParts p q c n m =
+-- q's fork c is out: the marks, c's state, the layout, and n revisions out
+abbrev pub startParts : Parts → ℕ → ℕ → ℕ → Parts
+startParts p q c n =
     let k = decode p in
     p
     ⟨ seenPart ≔ pack revisions (forkSeen (k .seen) q c) ⟩
     ⟨ caughtPart ≔ pack clients (forkCaught (k .caught) q c) ⟩
     ⟨ statePart ≔ set (p statePart) c stateOut ⟩
     ⟨ layoutPart ≔ take revisions (insertBefore q c (p layoutPart)) ⟩
-    ⟨ countersPart ≔ set (set (p countersPart) 2 n) 3 m ⟩
+    ⟨ countersPart ≔ set (p countersPart) 2 n ⟩
+
+-- a number is given, of which g were: one more, or the first of the queue leaves it
+abbrev pub numberParts : Parts → ℕ → Parts
+numberParts p g =
+    cond (ltb g revisions)
+    (p ⟨ countersPart ≔ set (p countersPart) 3 (suc g) ⟩)
+    (p ⟨ queuePart ≔ restOf (p queuePart) ++ (1 ∷ []) ⟩)

@@ -1,30 +1,41 @@
 // A revision forks another, which is out from then on and inherits what the first one sees.
 ghost use mathlib.Core.Path.{_≡_};
 ghost use mathlib.Core.Bool.{true};
-ghost use Prim.Native.Nat.{_<_};
+ghost use Prim.Native.Nat.{_<_, _≤_};
 ghost use lib.ListN.{length};
 ghost use Rattle.cells.specs.Sizes.{bytes, revisions};
 ghost use Rattle.cells.specs.Parts.{glue, split};
 ghost use Rattle.cells.specs.Range.{inRange};
 ghost use Rattle.cells.specs.Steps.{forkBytes};
-ghost use Rattle.revisions.specs.Pieces.{startParts};
+ghost use Rattle.revisions.specs.Pieces.{numberParts, startParts};
 use crate::inherit;
 use fields::read;
 use fields::table::Revision;
 use fields::table::Table;
 use fields::write;
 
-// The marks, the child's state and place, and the counts of those out and given out.
-fn start(d: &mut [u8], parent: Revision, child: Revision, out: usize, given: usize)
-    requires { ⌜ (length (now d) ≡ bytes) × (parent .0 < revisions) × (child .0 < revisions) × (out < 256) × (given < 256) ⌝ }
-    ensures { λ _. ⌜ now (d .exit) ≡ glue (startParts (split (now (d .entry))) (parent .0) (child .0) out given) ⌝ }
+// The marks, the child's state and place, and the count of those out.
+fn start(d: &mut [u8], parent: Revision, child: Revision, out: usize)
+    requires { ⌜ (length (now d) ≡ bytes) × (parent .0 < revisions) × (child .0 < revisions) × (out < 256) ⌝ }
+    ensures { λ _. ⌜ now (d .exit) ≡ glue (startParts (split (now (d .entry))) (parent .0) (child .0) out) ⌝ }
 {
     write::fork_seen(d, parent, child);
     write::fork_caught(d, parent, child);
     write::state(d, child, Table::STATE_OUT);
     write::enter(d, parent, child);
     write::out(d, out);
-    write::given(d, given);
+}
+
+// The number given is one more used, or, where all are, it leaves the queue.
+fn use_number(d: &mut [u8], given: usize)
+    requires { ⌜ (length (now d) ≡ bytes) × (given ≤ revisions) ⌝ }
+    ensures { λ _. ⌜ now (d .exit) ≡ glue (numberParts (split (now (d .entry))) given) ⌝ }
+{
+    if given < Table::REVISIONS {
+        write::given(d, given + 1);
+        return;
+    }
+    write::unqueued(d);
 }
 
 // The parent forks the child, a number that is not the main revision's.
@@ -33,7 +44,8 @@ pub fn fork(d: &mut [u8], parent: Revision, child: Revision)
     ensures { λ _. ⌜ now (d .exit) ≡ forkBytes (now (d .entry)) (parent .0) (child .0) ⌝ }
 {
     let out = read::out(d) + 1;
-    let given = read::given(d) + 1;
+    let given = read::given(d);
     inherit::inherit(d, parent, child);
-    start(d, parent, child, out, given);
+    start(d, parent, child, out);
+    use_number(d, given);
 }

@@ -14,6 +14,7 @@ pub fn fresh(d: &mut [u8])
     fields::fresh::clear(d);
     fields::fresh::caught(d);
     write::state(d, Revision::main(), Table::STATE_OUT);
+    fields::fresh::queue(d);
     fields::fresh::opened(d);
     write::out(d, 1);
     write::given(d, 1);

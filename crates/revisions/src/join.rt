@@ -1,7 +1,7 @@
 // A revision joins another: it gets the joinee's own list, what the joinee has seen, and who has caught up with it.
 ghost use mathlib.Core.Path.{_≡_};
 ghost use mathlib.Core.Bool.{true};
-ghost use Prim.Native.Nat.{_<_};
+ghost use Prim.Native.Nat.{_-_, _<_};
 ghost use lib.ListN.{length};
 ghost use Rattle.cells.specs.Sizes.{bytes, revisions};
 ghost use Rattle.cells.specs.Parts.{glue, split};
@@ -15,15 +15,29 @@ use fields::table::Revision;
 use fields::table::Table;
 use fields::write;
 
-// The marks, b's state and place, and the count of those out.
-fn retire(d: &mut [u8], a: Revision, b: Revision, out: usize)
-    requires { ⌜ (length (now d) ≡ bytes) × (a .0 < revisions) × (b .0 < revisions) × (out < 256) ⌝ }
-    ensures { λ _. ⌜ now (d .exit) ≡ glue (retireParts (split (now (d .entry))) (a .0) (b .0) out) ⌝ }
+// The first place of the queue that is not in use: as many are as numbers were given out and are not out.
+fn queue_end(d: &[u8]) -> usize
+    requires { ⌜ (length (now d) ≡ bytes) × (inRange (now d) ≡ true) ⌝ }
+    ensures { λ i. ⌜ (i ≡ cells (now (d .entry)) .given - cells (now (d .entry)) .out) × (i < revisions) ⌝ }
+{
+    let given = read::given(d);
+    let out = read::out(d);
+    if given < out {
+        return 0;
+    }
+    given - out
+}
+
+// The marks, b's state and place, its number in the queue, and the count of those out.
+fn retire(d: &mut [u8], a: Revision, b: Revision, place: usize, out: usize)
+    requires { ⌜ (length (now d) ≡ bytes) × (a .0 < revisions) × (b .0 < revisions) × (place < revisions) × (out < 256) ⌝ }
+    ensures { λ _. ⌜ now (d .exit) ≡ glue (retireParts (split (now (d .entry))) (a .0) (b .0) place out) ⌝ }
 {
     write::join_seen(d, a, b);
     write::join_caught(d, a, b);
     write::state(d, b, Table::STATE_JOINED);
     write::leave(d, b);
+    write::queued(d, place, b);
     write::out(d, out);
 }
 
@@ -34,9 +48,10 @@ pub fn join(d: &mut [u8], a: Revision, b: Revision) -> usize
 {
     let gain = read::count(d, b);
     let total = read::count(d, a) + gain;
+    let place = queue_end(d);
     let out = read::out(d) - 1;
     own::splice(d, a, b);
     write::count(d, a, total);
-    retire(d, a, b, out);
+    retire(d, a, b, place, out);
     gain
 }

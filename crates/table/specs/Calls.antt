@@ -8,7 +8,7 @@ use Rattle.bundles.specs.declared.entry.Entry.{Entry}
 use Rattle.bundles.specs.Records.{entriesIn, isWrong}
 use Rattle.updates.specs.Kinds.{kindCheck, badBib}
 use Rattle.updates.specs.Effect.{stateOf, valueIn}
-use Rattle.cells.specs.Cells.{Cells}
+use Rattle.cells.specs.Cells.{Cells, nextNumber}
 use Rattle.cells.specs.Order.{order}
 use Rattle.cells.specs.Checks.{isClient, givenOut, joined, openElsewhere, busy, busyByOther, stale, logFull, noneLeft, joinable}
 use Rattle.cells.specs.Steps.{freshBytes, updateBytes, queryBytes, closeBytes, forkBytes, joinBytes}
@@ -75,7 +75,7 @@ forkOut t n =
     check (joined (cellsOf t) n) 4 t (
     check (busy (cellsOf t) n) 7 t (
     check (noneLeft (cellsOf t)) 10 t (
-    taken (forkBytes (low t) n (cellsOf t .given) ++ high t) (cellsOf t .given))))))
+    taken (forkBytes (low t) n (nextNumber (cellsOf t)) ++ high t) (nextNumber (cellsOf t)))))))
 
 -- "Join: 1, 3, 4, 7, 11"
 unfoldable pub joinOut : List ℕ → ℕ → ℕ → Out

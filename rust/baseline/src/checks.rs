@@ -48,11 +48,12 @@ impl Table<'_> {
         refuse(usize::from(self.updates()) + more >= LOG, Code::LogFull)
     }
 
-    /// Code 10, or the next revision number.
+    /// Code 10, or the next revision number: one that was never used, else the one handed in longest
+    /// ago.
     pub(crate) fn check_left(&self) -> Result<Revision, Code> {
+        refuse(usize::from(self.out()) >= REVISIONS, Code::NoneLeft)?;
         let given = self.given();
-        refuse(usize::from(given) >= REVISIONS, Code::NoneLeft)?;
-        Ok(Revision(given))
+        Ok(Revision(if usize::from(given) < REVISIONS { given } else { self.queue()[0] }))
     }
 
     /// All checks of a join, and the two revisions.

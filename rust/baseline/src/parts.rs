@@ -20,6 +20,8 @@ pub(crate) const OPENED: usize = 39_808;
 pub(crate) const UPDATES: usize = 39_824;
 pub(crate) const OUT: usize = 39_826;
 pub(crate) const GIVEN: usize = 39_827;
+pub(crate) const SINGLE: usize = 40_084;
+pub(crate) const CLOSED_MAIN: usize = 40_085;
 pub(crate) const SIGNATURE: usize = 40_952;
 pub(crate) const ENTRIES: usize = 40_960;
 

@@ -4,8 +4,8 @@ use calls::Code;
 
 use crate::numbers::{CLIENTS, REVISIONS};
 use crate::parts::{
-    BASE, BYTES, COUNT, FIRST, GIVEN, LAST, LAYOUT, OPENED, OUT, QUEUE, SIGNATURE, SIGNED, STATE,
-    UPDATES, USED,
+    BASE, BYTES, CLOSED_MAIN, COUNT, FIRST, GIVEN, LAST, LAYOUT, OPENED, OUT, QUEUE, SIGNATURE,
+    SIGNED, SINGLE, STATE, UPDATES, USED,
 };
 use crate::table::Table;
 
@@ -21,21 +21,23 @@ pub(crate) fn checked(bytes: &mut [u8]) -> Result<Table<'_>, Code> {
 
 fn in_range(t: &[u8; BYTES]) -> bool {
     let bytes = |at: usize, count: usize, most: u8| t[at..at + count].iter().all(|&b| b <= most);
-    let words = |at: usize, most: u16| {
-        let (words, _) = t[at..at + 2 * REVISIONS].as_chunks::<2>();
+    let words = |at: usize, count: usize, most: u16| {
+        let (words, _) = t[at..at + 2 * count].as_chunks::<2>();
         words.iter().all(|&word| u16::from_le_bytes(word) <= most)
     };
     bytes(STATE, REVISIONS, 2)
         && bytes(USED, REVISIONS, 1)
-        && words(LAST, 4_095)
-        && words(FIRST, 4_095)
-        && words(COUNT, 4_096)
-        && words(BASE, 4_096)
+        && words(LAST, REVISIONS, 4_095)
+        && words(FIRST, REVISIONS, 4_095)
+        && words(COUNT, REVISIONS, 4_096)
+        && words(BASE, REVISIONS, 4_096)
         && bytes(LAYOUT, REVISIONS, 63)
-        && bytes(QUEUE, REVISIONS, 63)
+        && t[QUEUE..QUEUE + REVISIONS].iter().all(|number| (1..=63).contains(number))
         && bytes(OPENED, CLIENTS, 64)
-        && u16::from_le_bytes([t[UPDATES], t[UPDATES + 1]]) <= 4_096
+        && words(UPDATES, 1, 4_096)
         && (1..=64).contains(&t[OUT])
         && (1..=64).contains(&t[GIVEN])
+        && bytes(SINGLE, 1, 1)
+        && words(CLOSED_MAIN, 1, 4_096)
         && t[SIGNATURE..SIGNATURE + SIGNED.len()] == SIGNED
 }

@@ -51,8 +51,20 @@ impl Table<'_> {
             layout.copy_within(place..REVISIONS - 1, place + 1);
             layout[place] = child.0;
         }
+        self.take_number();
         self.set_out(self.out() + 1);
-        self.set_given(self.given() + 1);
+    }
+
+    /// The number of a fork is used: it is one more given out, or it leaves the queue.
+    fn take_number(&mut self) {
+        let given = self.given();
+        if usize::from(given) < REVISIONS {
+            self.set_given(given + 1);
+        } else {
+            let queue = self.queue_mut();
+            queue.copy_within(1.., 0);
+            queue[REVISIONS - 1] = 1;
+        }
     }
 
     /// From the main revision by count alone, else by count, row and own list.
@@ -95,6 +107,8 @@ impl Table<'_> {
             layout.copy_within(place + 1.., place);
             layout[REVISIONS - 1] = 0;
         }
+        let place = usize::from(self.given().saturating_sub(self.out()));
+        self.queue_mut()[place] = joinee.0;
         self.set_out(self.out() - 1);
         gained
     }

@@ -4,7 +4,7 @@ use crate::marks::Marks;
 use crate::numbers::{Client, Revision, CLIENTS, REVISIONS};
 use crate::parts::{
     BASE, BYTES, CAUGHT, CLOSED, COUNT, ENTRIES, ENTRY, FIRST, GIVEN, HIGH, IS_OUT, LAST, LAYOUT,
-    LOW, OPENED, OUT, ROW, ROWS, SEEN, SIGNATURE, SIGNED, STATE, UPDATES, USED,
+    LOW, OPENED, OUT, QUEUE, ROW, ROWS, SEEN, SIGNATURE, SIGNED, STATE, UPDATES, USED,
 };
 
 /// A lent buffer that passed the check of code 1.
@@ -15,6 +15,7 @@ pub(crate) fn fresh(t: &mut [u8; BYTES]) {
     t.fill(0);
     t[CAUGHT..STATE].fill(0xff);
     t[STATE] = IS_OUT;
+    t[QUEUE..OPENED].fill(1);
     t[OPENED..UPDATES].fill(CLOSED);
     t[OUT] = 1;
     t[GIVEN] = 1;
@@ -118,6 +119,15 @@ impl Table<'_> {
 
     pub(crate) fn layout_mut(&mut self) -> &mut [u8] {
         &mut self.0[LAYOUT..LAYOUT + REVISIONS]
+    }
+
+    /// All 64 places. The numbers handed in and not used again stand in the first ones.
+    pub(crate) fn queue(&self) -> &[u8] {
+        &self.0[QUEUE..QUEUE + REVISIONS]
+    }
+
+    pub(crate) fn queue_mut(&mut self) -> &mut [u8] {
+        &mut self.0[QUEUE..QUEUE + REVISIONS]
     }
 
     pub(crate) fn link(&self, u: u16) -> u16 {

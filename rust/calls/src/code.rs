@@ -15,7 +15,7 @@ pub enum Code {
     UnknownClient = 2,
     /// Revision number not yet given out.
     NeverGiven = 3,
-    /// The revision was joined.
+    /// The latest revision that bore the number was joined.
     Joined = 4,
     /// Bib above 999, or update kind not 1 to 4.
     BadEntry = 5,
@@ -27,7 +27,7 @@ pub enum Code {
     Stale = 8,
     /// 4,096 updates were accepted.
     LogFull = 9,
-    /// 64 revisions started.
+    /// 64 revisions are out.
     NoneLeft = 10,
     /// The join rule does not hold.
     NotJoinable = 11,

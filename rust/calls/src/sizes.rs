@@ -3,7 +3,7 @@
 
 use crate::Line;
 
-/// Revisions, joined or not: 0 to 63.
+/// Revisions that are out at most, and their numbers: 0 to 63.
 pub const REVISIONS: u8 = 64;
 /// Clients: 0 to 15.
 pub const CLIENTS: u8 = 16;

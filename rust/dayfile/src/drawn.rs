@@ -16,6 +16,8 @@ const TOP: f64 = 44.0;
 
 /// A revision as far as it is drawn.
 struct Lane {
+    /// The number that it bears, or bore.
+    number: u32,
     start: f64,
     /// Where its last vertex stands.
     end: f64,
@@ -23,6 +25,7 @@ struct Lane {
 
 /// What is drawn so far. Edges come before vertices, so that these lie on top.
 struct Drawing {
+    /// In the order of their starts.
     lanes: Vec<Lane>,
     /// Where the newest vertex stands.
     now: f64,
@@ -64,15 +67,23 @@ impl Drawing {
             vertices: String::new(),
             refused: Vec::new(),
         };
-        drawing.start(LEFT);
+        drawing.start(0, LEFT);
         drawing
     }
 
+    /// The lane of the latest revision that bore a number.
+    fn lane(&self, number: u8) -> usize {
+        let bears = |lane: &Lane| lane.number == u32::from(number);
+        match self.lanes.iter().rposition(bears) {
+            Some(lane) => lane,
+            None => unreachable!("an accepted step names revisions that are out"),
+        }
+    }
+
     /// A revision's start vertex, with its name before it.
-    fn start(&mut self, x: f64) {
-        let number = self.lanes.len();
-        let (name, y) = (x - 12.0, y(number));
-        self.lanes.push(Lane { start: x, end: x });
+    fn start(&mut self, number: u32, x: f64) {
+        let (name, y) = (x - 12.0, y(self.lanes.len()));
+        self.lanes.push(Lane { number, start: x, end: x });
         put(&mut self.vertices, format!("<circle cx=\"{x}\" cy=\"{y}\" r=\"4\"/>"));
         let name =
             format!("<text x=\"{name}\" y=\"{}\" text-anchor=\"end\">box {number}</text>", y + 5.0);
@@ -93,15 +104,16 @@ impl Drawing {
             }
             Call::Fork { revision } => {
                 self.vertex(revision, "turn", "fork", "");
-                let (x, from) = (self.now + STEP / 2.0, y(usize::from(revision)));
+                let (x, from) = (self.now + STEP / 2.0, y(self.lane(revision)));
                 let to = y(self.lanes.len());
                 put(&mut self.edges, format!("<path d=\"M{} {from}L{x} {to}\"/>", self.now));
-                self.start(x);
+                self.start(answer.value, x);
             }
             Call::Join { joiner, joinee } => {
-                let end = self.lanes[usize::from(joinee)].end;
+                let lane = self.lane(joinee);
+                let end = self.lanes[lane].end;
                 self.vertex(joiner, "turn", "join", "");
-                let (from, to) = (y(usize::from(joinee)), y(usize::from(joiner)));
+                let (from, to) = (y(lane), y(self.lane(joiner)));
                 // Along the joinee's line first, so that the edge crosses no text.
                 let turn = self.now - STEP / 2.0;
                 let edge = format!("<path d=\"M{end} {from}H{turn}L{} {to}\"/>", self.now);
@@ -116,7 +128,7 @@ impl Drawing {
     /// A vertex at the terminal of a revision, with two lines of text.
     fn vertex(&mut self, revision: u8, class: &str, above: &str, below: &str) {
         self.now += STEP;
-        let (x, lane) = (self.now, usize::from(revision));
+        let (x, lane) = (self.now, self.lane(revision));
         let y = y(lane);
         self.lanes[lane].end = x;
         put(
@@ -146,8 +158,8 @@ impl Drawing {
         );
         put(&mut text, STYLE.to_string());
         put(&mut text, format!("<rect width=\"{width}\" height=\"{}\"/>", bottom + 8.0));
-        for (number, lane) in self.lanes.iter().enumerate() {
-            put(&mut text, format!("<path d=\"M{} {}H{}\"/>", lane.start, y(number), lane.end));
+        for (place, lane) in self.lanes.iter().enumerate() {
+            put(&mut text, format!("<path d=\"M{} {}H{}\"/>", lane.start, y(place), lane.end));
         }
         text += &self.edges;
         text += &self.vertices;

@@ -1,6 +1,6 @@
 //! The literal replay against the baseline, answer by answer.
 
-use calls::Call;
+use calls::{Answer, Call};
 use literal::Day;
 
 use crate::reads::{every_fill, every_list, every_preview};
@@ -10,13 +10,22 @@ pub fn disagreement(calls: &[Call]) -> Option<String> {
     disagreement_with(calls, |_| Vec::new())
 }
 
-/// As [`disagreement`], with every revision read after each call: by a fill, and by a listing with
+/// As [`disagreement`], with the calls made otherwise than by the baseline.
+pub fn disagreement_by(calls: &[Call], mut make: impl FnMut(&Call) -> Answer) -> Option<String> {
+    let mut literal = Day::fresh();
+    calls.iter().find_map(|call| {
+        let (right, given) = (literal.call(call), make(call));
+        (given != right).then(|| format!("`{call}`: gives {given}, not {right}"))
+    })
+}
+
+/// As [`disagreement`], with every number read after each call: by a fill, and by a listing with
 /// room enough, with just enough, and with one byte less.
 pub fn disagreement_with_reads(calls: &[Call]) -> Option<String> {
     disagreement_with(calls, |day| [every_fill(day), every_list(day, usize::MAX)].concat())
 }
 
-/// As [`disagreement`], with a preview of each pair of revisions after each call, of these bibs.
+/// As [`disagreement`], with a preview of each pair of numbers after each call, of these bibs.
 pub fn disagreement_with_previews(calls: &[Call], bibs: &[u16]) -> Option<String> {
     disagreement_with(calls, |day| every_preview(day, bibs))
 }

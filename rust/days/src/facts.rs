@@ -39,7 +39,8 @@ pub struct Facts {
     pub updates: Vec<Update>,
     /// The calls.
     pub steps: Vec<Step>,
-    /// The view of each revision before the first call and after each one; none once it is joined.
+    /// The view of each revision, in the order of their starts, before the first call and after each
+    /// one; none once it is joined.
     pub views: Vec<Vec<Option<View>>>,
 }
 
@@ -103,8 +104,8 @@ pub fn stands(updates: impl Iterator<Item = Update>, bib: u16) -> (State, u32) {
 }
 
 fn views_now(day: &Day) -> Vec<Option<View>> {
-    let view = |(number, revision): (usize, &Revision)| {
-        let view = View { terminal: revision.terminal.place(), updates: day.visible(number) };
+    let view = |(place, revision): (usize, &Revision)| {
+        let view = View { terminal: revision.terminal.place(), updates: day.visible(place) };
         (!revision.joined).then_some(view)
     };
     day.revisions().iter().enumerate().map(view).collect()

@@ -9,28 +9,27 @@ use crate::rng::Rng;
 /// A random day: its calls, picked by the answers of the baseline.
 pub fn random_day(profile: &Profile, seed: u64) -> Vec<Call> {
     let mut generator = Generator::new(profile, seed);
-    let mut day = baseline::Day::fresh();
     let count = profile.calls / 2 + generator.rng.below(profile.calls / 2 + 1);
-    (0..profile.first + count)
-        .map(|at| {
-            let call = if at < profile.first { generator.first() } else { generator.pick() };
-            let answer = day.call(&call);
-            generator.learn(&call, &answer);
-            call
-        })
-        .collect()
+    generator.begin();
+    for _ in 0..count {
+        let call = generator.pick();
+        generator.make(call);
+    }
+    generator.calls
 }
 
-/// What the answers told so far.
+/// The day so far, and what the answers told.
 pub(crate) struct Generator<'a> {
-    profile: &'a Profile,
+    pub(crate) profile: &'a Profile,
     pub(crate) rng: Rng,
-    /// The revisions that are out.
+    day: baseline::Day,
+    calls: Vec<Call>,
+    /// The revisions that are out, in the order of their starts.
     out: Vec<u8>,
-    /// How many revisions were started.
-    given: usize,
-    /// Who forked each revision, or took over the one that did.
-    forker: Vec<u8>,
+    /// How many numbers were given out.
+    pub(crate) given: usize,
+    /// Who forked the latest revision of each number, or took over the one that did.
+    forker: [u8; REVISIONS as usize],
     /// The revision of each client's open transaction.
     open: [Option<u8>; CLIENTS as usize],
     /// Where each client was last, or who took that over.
@@ -45,14 +44,23 @@ impl<'a> Generator<'a> {
         Generator {
             profile,
             rng: Rng::new(seed),
+            day: baseline::Day::fresh(),
+            calls: Vec::new(),
             out: vec![0],
             given: 1,
-            forker: vec![0],
+            forker: [0; REVISIONS as usize],
             open: [None; CLIENTS as usize],
             last: [0; CLIENTS as usize],
             updates: 0,
             next: None,
         }
+    }
+
+    /// Makes a call.
+    pub(crate) fn make(&mut self, call: Call) {
+        let answer = self.day.call(&call);
+        self.learn(&call, &answer);
+        self.calls.push(call);
     }
 
     fn learn(&mut self, call: &Call, answer: &Answer) {
@@ -67,9 +75,10 @@ impl<'a> Generator<'a> {
             Call::Query { client, revision, .. } => self.entered(client, revision),
             Call::Yield { client } => self.open[usize::from(client)] = None,
             Call::Fork { revision } => {
-                self.out.push(answer.value as u8);
-                self.forker.push(revision);
-                self.given += 1;
+                let number = answer.value as u8;
+                self.out.push(number);
+                self.forker[usize::from(number)] = revision;
+                self.given = self.given.max(usize::from(number) + 1);
             }
             Call::Join { joiner, joinee } => {
                 self.out.retain(|&revision| revision != joinee);
@@ -118,7 +127,7 @@ impl<'a> Generator<'a> {
             self.query()
         } else if falls(w.yields) {
             Call::Yield { client: self.client() }
-        } else if falls(w.fork) && self.given < self.profile.revisions {
+        } else if falls(w.fork) && self.may_fork() {
             self.fork()
         } else if falls(w.join) {
             self.join()
@@ -133,12 +142,19 @@ impl<'a> Generator<'a> {
         }
     }
 
+    fn may_fork(&self) -> bool {
+        self.given < self.profile.revisions && self.out.len() < self.profile.out
+    }
+
     pub(crate) fn client(&mut self) -> u8 {
         self.rng.below(usize::from(self.profile.clients)) as u8
     }
 
+    /// Any revision, or one of the newest, so that others stay out for long.
     fn any_out(&mut self) -> u8 {
-        self.rng.pick(&self.out)
+        let near = self.profile.recent > 0 && self.rng.percent(self.profile.recent);
+        let from = if near { self.out.len().saturating_sub(5) } else { 0 };
+        self.rng.pick(&self.out[from..])
     }
 
     /// Where a client goes on or starts.
@@ -160,7 +176,7 @@ impl<'a> Generator<'a> {
         self.rng.below(usize::from(self.profile.bibs)) as u16
     }
 
-    fn update(&mut self) -> Call {
+    pub(crate) fn update(&mut self) -> Call {
         let client = self.client();
         let revision = self.place(client);
         let (kind, bib, v) = self.entry();
@@ -196,10 +212,13 @@ impl<'a> Generator<'a> {
         }
     }
 
-    fn fork(&mut self) -> Call {
+    pub(crate) fn fork(&mut self) -> Call {
         let newest = self.out[self.out.len() - 1];
         let any = self.any_out();
-        let revision = if self.rng.percent(self.profile.newest) { newest } else { any };
+        let mut revision = if self.rng.percent(self.profile.newest) { newest } else { any };
+        if self.profile.main > 0 && self.rng.percent(self.profile.main) {
+            revision = 0;
+        }
         self.settled(None, &[revision], Call::Fork { revision })
     }
 
@@ -212,8 +231,14 @@ impl<'a> Generator<'a> {
     fn pair(&mut self) -> (u8, u8) {
         let joinee = self.any_out();
         let any = self.any_out();
-        let likely = self.rng.percent(60);
+        let likely = self.rng.percent(self.profile.back);
         (if likely { self.forker[usize::from(joinee)] } else { any }, joinee)
+    }
+
+    /// A join of a revision with its forker, which is accepted where neither is in use.
+    pub(crate) fn back(&mut self) -> Call {
+        let joinee = self.rng.pick(&self.out[1..]);
+        Call::Join { joiner: self.forker[usize::from(joinee)], joinee }
     }
 
     /// In many cases of a revision that some client entered on last, with its forker; and the join

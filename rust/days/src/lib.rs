@@ -1,17 +1,19 @@
 //! Random days, and the checkers that judge them.
 //!
 //! Days are made from a seed, but for the short ones of [`late_days`]. A failed check prints the
-//! seed, and the shortest day found that still fails. There are five checks:
+//! seed, and the shortest day found that still fails. There are six checks:
 //!
 //! - the literal replay and the baseline agree on every answer;
 //! - an arbitration order (01: line-up) has what demand 3 says of it, by brute force;
 //! - the fills of all revisions come to the updates accepted;
+//! - numbers are given, and mean a revision that is out, by the order of the hand-ins;
 //! - a bundle is its updates and a yield;
 //! - a preview is the join on a copy, as a list and a query there have it.
 
 #![forbid(unsafe_code)]
 
 mod arbitration;
+mod beginning;
 mod bundles;
 mod chains;
 mod compare;
@@ -22,6 +24,8 @@ mod generator;
 mod judge;
 mod late;
 mod line_up;
+mod meeting;
+mod numbers;
 mod previews;
 mod profile;
 mod reads;
@@ -32,13 +36,17 @@ mod sample;
 pub use arbitration::arbitration_order;
 pub use bundles::{fault_of_bundles, updates_of};
 pub use chains::chains_of_joins;
-pub use compare::{disagreement, disagreement_with_previews, disagreement_with_reads};
+pub use compare::{
+    disagreement, disagreement_by, disagreement_with_previews, disagreement_with_reads,
+};
 pub use facts::{stands, Facts, Step, View};
 pub use fills::fault_of_fills;
 pub use generator::random_day;
 pub use judge::{must_find, must_pass};
 pub use late::late_days;
 pub use line_up::{broken_sentence, SENTENCES};
+pub use meeting::meeting;
+pub use numbers::fault_of_numbers;
 pub use previews::fault_of_previews;
 pub use profile::{Profile, Weights};
 pub use reads::{every_fill, every_list, every_preview};

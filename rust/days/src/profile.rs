@@ -32,6 +32,9 @@ pub struct Profile {
     pub name: &'static str,
     /// A day begins with so many bundles of 64 good entries on the main revision.
     pub first: usize,
+    /// If it is not 0, every number is given out next, and then one of these revisions is handed in, or
+    /// up to so many.
+    pub handed_in: usize,
     /// Then it has so many calls at most, and at least half of them.
     pub calls: usize,
     /// Clients that take part.
@@ -40,12 +43,20 @@ pub struct Profile {
     pub bibs: u16,
     /// The kinds of update, each as often as it stands here.
     pub kinds: &'static [u8],
-    /// No fork is tried with so many revisions started.
+    /// No fork is tried with so many numbers given out.
     pub revisions: usize,
+    /// No fork is tried with so many revisions out.
+    pub out: usize,
     /// What is tried.
     pub weights: Weights,
     /// In so many of a hundred forks, the newest revision is forked.
     pub newest: u32,
+    /// In so many of a hundred forks, the main revision is forked, whatever else was picked.
+    pub main: u32,
+    /// In so many of a hundred joins, a revision goes back to its forker, not to any.
+    pub back: u32,
+    /// In so many of a hundred cases, one of the newest revisions is picked, so that others stay out.
+    pub recent: u32,
     /// In so many of a hundred cases, a busy revision is yielded on first.
     pub settle: u32,
     /// In so many of a hundred cases, a client starts on any revision, not where it was last.
@@ -62,11 +73,13 @@ impl Profile {
     pub const MIXED: Profile = Profile {
         name: "mixed",
         first: 0,
+        handed_in: 0,
         calls: 200,
         clients: CLIENTS,
         bibs: 5,
         kinds: ALIKE,
         revisions: REVISIONS as usize + 1,
+        out: REVISIONS as usize + 1,
         weights: Weights {
             update: 35,
             query: 15,
@@ -79,6 +92,9 @@ impl Profile {
             preview: 6,
         },
         newest: 20,
+        main: 0,
+        back: 60,
+        recent: 0,
         settle: 60,
         roam: 40,
         strange: 5,
@@ -202,7 +218,7 @@ impl Profile {
         ..Profile::MIXED
     };
 
-    /// All 64 revisions and the fork that is refused.
+    /// 64 revisions out and the fork that is refused.
     pub const FORKS: Profile = Profile {
         name: "forks",
         calls: 400,
@@ -299,4 +315,68 @@ impl Profile {
 
     /// Bundles that fill the log to its last place, or find it full in their midst.
     pub const NEARLY_FULL: Profile = Profile { name: "nearly full", first: 61, ..Profile::BUNDLES };
+
+    /// Hundreds of forks on a few revisions, so that each number is borne many times. Some revisions
+    /// stay out for long.
+    pub const REUSED: Profile = Profile {
+        name: "reused",
+        calls: 4_400,
+        clients: 8,
+        bibs: 3,
+        out: 16,
+        weights: Weights {
+            update: 12,
+            query: 8,
+            yields: 14,
+            fork: 34,
+            join: 34,
+            list: 10,
+            fill: 3,
+            bundle: 3,
+            preview: 4,
+        },
+        newest: 40,
+        main: 25,
+        back: 85,
+        recent: 50,
+        settle: 95,
+        roam: 60,
+        strange: 1,
+        ..Profile::MIXED
+    };
+
+    /// The same with revisions that fork revisions of their own, and clients that roam.
+    pub const REUSED_NESTED: Profile = Profile {
+        name: "reused, nested",
+        clients: CLIENTS,
+        out: 30,
+        newest: 75,
+        roam: 90,
+        ..Profile::REUSED
+    };
+
+    /// Hundreds of forks with nearly all revisions out: a number is free for a short time only.
+    pub const CROWDED: Profile = Profile {
+        name: "crowded",
+        out: REVISIONS as usize + 1,
+        weights: Weights { fork: 55, ..Profile::REUSED.weights },
+        strange: 2,
+        ..Profile::REUSED
+    };
+
+    /// Short days on numbers that were all borne before, for what looks at them after each step.
+    pub const SMALL_REUSED: Profile = Profile {
+        name: "small, reused",
+        handed_in: 8,
+        calls: 80,
+        clients: CLIENTS,
+        revisions: REVISIONS as usize + 1,
+        weights: Weights { fork: 20, join: 20, ..Profile::SMALL.weights },
+        newest: 40,
+        main: 25,
+        back: 80,
+        recent: 90,
+        roam: 60,
+        ..Profile::SMALL
+    };
 }

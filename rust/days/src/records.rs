@@ -5,7 +5,7 @@ use calls::{Call, Line, BIBS, BUNDLE, CLIENTS, UPDATES};
 use crate::generator::Generator;
 
 impl Generator<'_> {
-    /// 64 entries of client 0 on the main revision.
+    /// 64 good entries of client 0 on the main revision.
     pub(crate) fn first(&mut self) -> Call {
         let records = (0..BUNDLE).flat_map(|_| self.line().to_bytes()).collect();
         Call::Bundle { client: 0, revision: 0, records }

@@ -46,7 +46,7 @@ impl Profile {
 
 /// How many days of each kind are a thorough replay. Small days come besides: they are short enough
 /// to be looked at after each step.
-const KINDS: [(Profile, u64); 10] = [
+const KINDS: [(Profile, u64); 13] = [
     (Profile::MIXED, 600),
     (Profile::NESTED, 600),
     (Profile::STALE, 400),
@@ -57,6 +57,9 @@ const KINDS: [(Profile, u64); 10] = [
     (Profile::FULL, 12),
     (Profile::BUNDLES, 200),
     (Profile::NEARLY_FULL, 60),
+    (Profile::REUSED, 40),
+    (Profile::REUSED_NESTED, 40),
+    (Profile::CROWDED, 40),
 ];
 
 /// The random days of a thorough replay, or one in so many of each kind.

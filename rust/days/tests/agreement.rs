@@ -24,6 +24,13 @@ fn small_days_agree_in_every_preview_after_every_step() {
     });
 }
 
+/// 02, U7: on numbers that were all borne before.
+#[test]
+fn small_days_on_reused_numbers_agree_after_every_step() {
+    must_pass(Profile::SMALL_REUSED.days(seeds(60)), disagreement_with_reads);
+    must_pass(Profile::SMALL_REUSED.days(0..2), |calls| disagreement_with_previews(calls, &[0]));
+}
+
 #[test]
 fn days_of_all_kinds_agree() {
     must_pass(one_in(1), disagreement);
@@ -86,7 +93,8 @@ impl Found {
     /// Notes an accepted query of a day.
     fn note(&mut self, day: &literal::Day, revision: u8, bib: u16, state: State) {
         *self.states.entry(state).or_default() += 1;
-        let mut visible = day.visible(usize::from(revision));
+        let Some(revision) = day.meant(revision) else { return };
+        let mut visible = day.visible(revision);
         visible.retain(|&number| day.updates()[number].bib == bib);
         let [.., before, last] = visible[..] else { return };
         if day.updates()[before].kind == calls::STRIKE {
@@ -145,7 +153,7 @@ fn fills_of_every_kind_are_made() {
         let mut day = literal::Day::fresh();
         for call in calls {
             if let Call::Fill { revision } = call {
-                *met.entry(kind_of(&day, usize::from(revision))).or_default() += 1;
+                *met.entry(kind_of(&day, revision)).or_default() += 1;
             }
             day.call(&call);
         }
@@ -155,14 +163,15 @@ fn fills_of_every_kind_are_made() {
     assert!(met.values().all(|&times| times >= 100), "{met:?}");
 }
 
-fn kind_of(day: &literal::Day, number: usize) -> &'static str {
-    let open = |t: &literal::Transaction| t.revision == number && t.is_open();
-    match day.revisions().get(number) {
-        None if number >= usize::from(REVISIONS) => "above 63",
-        None => "never forked",
-        Some(revision) if revision.joined => "joined",
-        _ if day.transactions().iter().any(open) => "busy",
-        _ => "out and idle",
+fn kind_of(day: &literal::Day, number: u8) -> &'static str {
+    let Some(meant) = day.meant(number) else {
+        return if number >= REVISIONS { "above 63" } else { "never forked" };
+    };
+    let open = |t: &literal::Transaction| t.revision == meant && t.is_open();
+    match day.revisions()[meant].joined {
+        true => "joined",
+        false if day.transactions().iter().any(open) => "busy",
+        false => "out and idle",
     }
 }
 
@@ -185,13 +194,10 @@ fn full_logs_are_reached_and_joins_follow() {
 }
 
 #[test]
-fn all_64_revisions_are_started() {
-    let starts_63 = |day: &Sample| {
-        let mut table = baseline::Day::fresh();
-        day.calls.iter().any(|call| table.call(call).value == LAST && call.name() == "fork")
-    };
-    let days = Profile::FORKS.days(0..100).filter(starts_63).count();
-    assert!(days >= 30, "days with 64 revisions: {days}");
+fn sixty_four_revisions_are_out() {
+    let refused = |day: &Sample| codes(&day.calls).contains(&Code::NoneLeft);
+    let days = Profile::FORKS.days(0..100).filter(refused).count();
+    assert!(days >= 30, "days with 64 revisions out: {days}");
 }
 
 #[test]

@@ -6,7 +6,7 @@ use days::{days_of, fault_of_bundles, must_find, must_pass, updates_of, Profile,
 use literal::Day;
 
 /// How many days of each kind are replayed.
-const KINDS: [(Profile, u64); 7] = [
+const KINDS: [(Profile, u64); 9] = [
     (Profile::SMALL, 500),
     (Profile::MIXED, 200),
     (Profile::STALE, 200),
@@ -14,6 +14,8 @@ const KINDS: [(Profile, u64); 7] = [
     (Profile::FULL, 2),
     (Profile::BUNDLES, 100),
     (Profile::NEARLY_FULL, 60),
+    (Profile::REUSED, 6),
+    (Profile::CROWDED, 6),
 ];
 
 fn by_baseline(calls: &[Call]) -> Option<String> {
@@ -131,7 +133,7 @@ const WRONG: [(&str, Wrong); 13] = [
         _ => right(day, client, revision, records),
     }),
     ("a wrong bundle is found after 2 and 3", |day, client, revision, records| {
-        let known = usize::from(revision) < day.revisions().len();
+        let known = day.meant(revision).is_some();
         match (client, known) {
             (CLIENTS.., _) => Answer::refused(Code::UnknownClient),
             (_, false) => Answer::refused(Code::NeverGiven),
@@ -157,7 +159,7 @@ const WRONG: [(&str, Wrong); 13] = [
     }),
     ("an open transaction is in the way", |day, client, revision, records| {
         let mut open = day.transactions().iter().filter(|t| t.is_open());
-        let busy = open.any(|t| t.revision == usize::from(revision));
+        let busy = open.any(|t| Some(t.revision) == day.meant(revision));
         let answer = right(&mut day.clone(), client, revision, records);
         match busy && answer.code == Code::Accepted {
             true => Answer::refused(Code::InUse),

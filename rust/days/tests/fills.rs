@@ -15,10 +15,11 @@ fn by_either(calls: &[Call]) -> Option<String> {
 fn fills_come_to_the_updates_accepted() {
     must_pass(one_in(4), by_either);
     must_pass(Profile::SMALL.days(seeds(300)), by_either);
+    must_pass(Profile::SMALL_REUSED.days(seeds(30)), by_either);
     must_pass(chains_of_joins(seeds(30)), by_either);
 }
 
-/// What a wrong fill of a revision number answers, in place of what is right.
+/// What a wrong fill of a revision answers, in place of what is right.
 type Wrong = fn(&Day, usize, Answer) -> Answer;
 
 const WRONG: [(&str, Wrong); 8] = [
@@ -89,7 +90,9 @@ fn wrong_fills_are_found() {
             fault_of_fills(Day::fresh(), calls, |day, call| match *call {
                 Call::Fill { revision } => {
                     let right = day.call(call);
-                    wrong(day, usize::from(revision), right)
+                    // A number that was never given out means none.
+                    let meant = day.meant(revision).unwrap_or(usize::MAX);
+                    wrong(day, meant, right)
                 }
                 _ => day.call(call),
             })

@@ -30,6 +30,12 @@ fn days_with_many_revisions_have_a_line_up() {
     must_pass(chains.take(30), line_up);
 }
 
+/// 02, U7: "what the earlier bearer did stays in the diagram, and a tablet's last event may be there".
+#[test]
+fn days_on_reused_numbers_have_a_line_up() {
+    must_pass(Profile::SMALL_REUSED.days(seeds(120)), line_up);
+}
+
 /// A small day on which every sentence has something to say.
 fn day() -> (Vec<usize>, Facts) {
     let update = |client, revision, v| Call::Update { client, revision, kind: 1, bib: 7, v };

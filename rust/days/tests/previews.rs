@@ -9,7 +9,7 @@ use days::{
 use literal::Day;
 
 /// How many days of each kind are replayed.
-const KINDS: [(Profile, u64); 8] = [
+const KINDS: [(Profile, u64); 10] = [
     (Profile::SMALL, 500),
     (Profile::MIXED, 200),
     (Profile::NESTED, 200),
@@ -18,6 +18,8 @@ const KINDS: [(Profile, u64); 8] = [
     (Profile::FORKS, 100),
     (Profile::STRANGE, 200),
     (Profile::BUNDLES, 100),
+    (Profile::REUSED_NESTED, 6),
+    (Profile::CROWDED, 6),
 ];
 
 fn by_baseline(calls: &[Call]) -> Option<String> {
@@ -27,6 +29,7 @@ fn by_baseline(calls: &[Call]) -> Option<String> {
 #[test]
 fn previews_are_the_join_on_a_copy_and_what_is_read_there() {
     must_pass(days_of(&KINDS), by_baseline);
+    must_pass(Profile::SMALL_REUSED.days(seeds(50)), by_baseline);
     must_pass(chains_of_joins(seeds(50)), by_baseline);
     must_pass(late_days(), by_baseline);
 }
@@ -45,7 +48,7 @@ fn previews_of_every_kind_are_made() {
                 continue;
             }
             states[answer.state as usize] += 1;
-            let before = after(&day, day.visible(usize::from(joiner)), bib);
+            let before = after(&day, visible(&day, joiner), bib);
             changed += usize::from(before != (answer.state, answer.value));
             empty += usize::from(answer.gain == 0);
             joined += usize::from(calls.get(at + 1) == Some(&Call::Join { joiner, joinee }));
@@ -61,29 +64,39 @@ fn after(day: &Day, numbers: Vec<usize>, bib: u16) -> (State, u32) {
     stands(numbers.into_iter().map(|number| day.updates()[number]), bib)
 }
 
+/// The visible updates of the revision that a number means.
+fn visible(day: &Day, number: u8) -> Vec<usize> {
+    day.meant(number).map_or_else(Vec::new, |revision| day.visible(revision))
+}
+
+/// Its own updates.
+fn own(day: &Day, number: u8) -> Vec<usize> {
+    day.meant(number).map_or_else(Vec::new, |revision| day.own(revision))
+}
+
 /// What a wrong preview answers and does; the last argument is what is right.
-type Wrong = fn(&mut Day, [usize; 2], u16, Answer) -> Answer;
+type Wrong = fn(&mut Day, [u8; 2], u16, Answer) -> Answer;
 
 const WRONG: [(&str, Wrong); 11] = [
     ("the joinee's updates first", |day, [joiner, joinee], bib, right| {
         told(day, bib, right, |day| {
-            let [mut before, own] = [day.visible(joiner), day.own(joinee)];
-            let behind = before.split_off(before.len() - day.own(joiner).len());
-            [before, own, behind].concat()
+            let mut before = visible(day, joiner);
+            let behind = before.split_off(before.len() - own(day, joiner).len());
+            [before, own(day, joinee), behind].concat()
         })
     }),
     ("what the joinee inherited again", |day, [joiner, joinee], bib, right| {
-        told(day, bib, right, |day| [day.visible(joiner), day.visible(joinee)].concat())
+        told(day, bib, right, |day| [visible(day, joiner), visible(day, joinee)].concat())
     }),
     ("the joiner as it stands", |day, [joiner, _], bib, right| {
-        told(day, bib, right, |day| day.visible(joiner))
+        told(day, bib, right, |day| visible(day, joiner))
     }),
     ("the joinee as it stands", |day, [_, joinee], bib, right| {
-        told(day, bib, right, |day| day.visible(joinee))
+        told(day, bib, right, |day| visible(day, joinee))
     }),
     ("in the order of the numbers", |day, [joiner, joinee], bib, right| {
         told(day, bib, right, |day| {
-            let mut both = [day.visible(joiner), day.own(joinee)].concat();
+            let mut both = [visible(day, joiner), own(day, joinee)].concat();
             both.sort_unstable();
             both
         })
@@ -97,17 +110,16 @@ const WRONG: [(&str, Wrong); 11] = [
         _ => right,
     }),
     ("the gain is what the joinee sees", |day, [_, joinee], _, right| match right.code {
-        Code::Accepted => Answer { gain: day.visible(joinee).len() as u32, ..right },
+        Code::Accepted => Answer { gain: visible(day, joinee).len() as u32, ..right },
         _ => right,
     }),
     ("the join is made", |day, [joiner, joinee], _, right| {
-        let [joiner, joinee] = [joiner as u8, joinee as u8];
         day.call(&Call::Join { joiner, joinee });
         right
     }),
     ("a refusal tells the state", |day, [joiner, _], bib, right| match right.code {
         Code::NotJoinable => {
-            let (state, value) = after(day, day.visible(joiner), bib);
+            let (state, value) = after(day, visible(day, joiner), bib);
             Answer { state, value, ..right }
         }
         _ => right,
@@ -116,7 +128,6 @@ const WRONG: [(&str, Wrong); 11] = [
         if right.code != Code::InUse {
             return right;
         }
-        let [joiner, joinee] = [joiner as u8, joinee as u8];
         all_yielded(day).call(&Call::Preview { joiner, joinee, bib })
     }),
 ];
@@ -129,8 +140,8 @@ fn all_yielded(day: &Day) -> Day {
 }
 
 /// Whether some client may query on a revision.
-fn may_query(day: &Day, revision: usize) -> bool {
-    let query = |client| Call::Query { client, revision: revision as u8, bib: 0 };
+fn may_query(day: &Day, revision: u8) -> bool {
+    let query = |client| Call::Query { client, revision, bib: 0 };
     (0..CLIENTS).any(|client| day.clone().call(&query(client)).code == Code::Accepted)
 }
 
@@ -149,7 +160,7 @@ fn by_wrong(wrong: Wrong) -> impl Fn(&[Call]) -> Option<String> {
         fault_of_previews(Day::fresh(), calls, |day, call| match *call {
             Call::Preview { joiner, joinee, bib } => {
                 let right = day.call(call);
-                wrong(day, [joiner, joinee].map(usize::from), bib, right)
+                wrong(day, [joiner, joinee], bib, right)
             }
             _ => day.call(call),
         })
@@ -169,7 +180,7 @@ fn wrong_previews_are_found() {
 fn previews_are_compared_where_no_client_may_query() {
     let wrong: Wrong = |day, [joiner, joinee], _, right| {
         let mut copy = all_yielded(day);
-        copy.call(&Call::Join { joiner: joiner as u8, joinee: joinee as u8 });
+        copy.call(&Call::Join { joiner, joinee });
         match right.code == Code::Accepted && !may_query(&copy, joiner) {
             true => Answer { value: right.value.wrapping_add(1), ..right },
             false => right,

@@ -1,12 +1,11 @@
-//! The checks behind codes 2 to 12 and 14, each by itself: 01, "Codes of the desk", and 02, U4.
+//! The checks behind codes 2 to 12 and 14, each by itself: 01, "Codes of the desk", and 02, U4 and U7.
 
 use calls::Code;
 
 use crate::day::{Day, CLIENTS};
+use crate::numbering::NUMBERS;
 use crate::update::BIBS;
 
-/// 64 revisions, joined or not.
-const REVISIONS: usize = 64;
 /// 4,096 updates, the sum over all revisions.
 const UPDATES: usize = 4_096;
 /// Bytes of one entry of a listing, and of one record of a bundle.
@@ -48,9 +47,9 @@ pub(crate) fn bundle_whole(bytes: usize) -> Result<(), Code> {
 }
 
 impl Day {
-    /// 3: "box number not yet given out".
-    pub(crate) fn given_out(&self, revision: usize) -> Result<(), Code> {
-        refuse_if(revision >= self.revisions.len(), Code::NeverGiven)
+    /// 3: "box number not yet given out"; else the revision that the number means.
+    pub(crate) fn given_out(&self, number: u8) -> Result<usize, Code> {
+        self.meant(number).ok_or(Code::NeverGiven)
     }
 
     /// 4: "box already a joinee".
@@ -88,9 +87,10 @@ impl Day {
         refuse_if(self.updates.len() >= UPDATES, Code::LogFull)
     }
 
-    /// 10: "64 boxes started".
-    pub(crate) fn revision_left(&self) -> Result<(), Code> {
-        refuse_if(self.revisions.len() >= REVISIONS, Code::NoneLeft)
+    /// 10: "exactly if 64 boxes are out".
+    pub(crate) fn number_left(&self) -> Result<(), Code> {
+        let out = self.revisions.iter().filter(|revision| !revision.joined).count();
+        refuse_if(out >= NUMBERS, Code::NoneLeft)
     }
 
     /// 11: "joinee is box 0, is the joiner, its fork isn't seen, or its start is".

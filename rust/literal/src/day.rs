@@ -1,6 +1,7 @@
 //! The record of the day: 01, "The plain day and its line-up".
 
 use crate::diagram::{Diagram, VertexId};
+use crate::numbering::Numbering;
 use crate::update::Update;
 
 /// How many clients there are: 0 to 15.
@@ -22,7 +23,7 @@ pub struct Revision {
 pub struct Transaction {
     /// Whose it is.
     pub client: usize,
-    /// Where it is.
+    /// Where it is: a revision by the order of their starts.
     pub revision: usize,
     /// Its events, as entered; never empty.
     pub events: Vec<VertexId>,
@@ -51,6 +52,7 @@ pub(crate) struct Client {
 pub struct Day {
     pub(crate) diagram: Diagram,
     pub(crate) revisions: Vec<Revision>,
+    pub(crate) numbering: Numbering,
     pub(crate) clients: [Client; CLIENTS],
     pub(crate) updates: Vec<Update>,
     pub(crate) transactions: Vec<Transaction>,
@@ -63,6 +65,7 @@ impl Day {
         Day {
             diagram,
             revisions: vec![Revision { start: root, terminal: root, joined: false }],
+            numbering: Numbering::fresh(),
             clients: [Client::default(); CLIENTS],
             updates: Vec::new(),
             transactions: Vec::new(),
@@ -74,9 +77,19 @@ impl Day {
         &self.diagram
     }
 
-    /// All revisions started, by number.
+    /// All revisions started, in the order of their starts. Methods name them by their places here.
     pub fn revisions(&self) -> &[Revision] {
         &self.revisions
+    }
+
+    /// The revision that a number means: "the latest box that bore it"; none if none did.
+    pub fn meant(&self, number: u8) -> Option<usize> {
+        self.numbering.meant(number)
+    }
+
+    /// The number that a revision bears, or bore.
+    pub fn number_of(&self, revision: usize) -> u8 {
+        self.numbering.of(revision)
     }
 
     /// All transactions, open ones and those of queries alone too, in the order of their first

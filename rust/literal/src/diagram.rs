@@ -109,16 +109,17 @@ impl Diagram {
         self.vertices[x.0].joins
     }
 
-    /// Whether a path leads from x to y, along any edges. From a vertex to itself there is one.
+    /// Whether a path leads from x to y, along any edges. From a vertex to itself there is one. The
+    /// search goes backwards from y, and leaves out what is older than x: no edge leads there from x.
     pub fn leads(&self, x: VertexId, y: VertexId) -> bool {
-        let mut met = vec![false; self.size()];
+        let mut met = vec![false; (y.0 + 1).saturating_sub(x.0)];
         let mut to_visit = vec![y];
         while let Some(z) = to_visit.pop() {
             if z == x {
                 return true;
             }
-            if !met[z.0] {
-                met[z.0] = true;
+            if z > x && !met[z.0 - x.0] {
+                met[z.0 - x.0] = true;
                 to_visit.extend(self.s_edge(z));
                 to_visit.extend(self.f_edge(z));
                 to_visit.extend(self.j_edge(z));

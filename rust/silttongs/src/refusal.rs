@@ -20,7 +20,7 @@ pub enum Refusal {
     UnknownClient = 2,
     /// Box number not yet given out.
     NeverGiven = 3,
-    /// The box was joined already.
+    /// The latest box of that number was joined already.
     Joined = 4,
     /// Bib above 999, or update kind not 1 to 4.
     BadEntry = 5,
@@ -32,7 +32,7 @@ pub enum Refusal {
     Stale = 8,
     /// 4,096 updates were taken.
     LogFull = 9,
-    /// 64 boxes were started.
+    /// 64 boxes are out.
     NoneLeft = 10,
     /// The joinee is box 0 or the joiner, or the joiner has not seen its fork or has seen its start.
     NotJoinable = 11,

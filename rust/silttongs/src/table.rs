@@ -154,7 +154,8 @@ impl<B: AsMut<[u8]>> Table<B> {
         exports::yield_(self.0.as_mut(), client).map(|_| ())
     }
 
-    /// Sends a new box off from a box. Its number is the answer.
+    /// Sends a new box off from a box. Its number is the answer: the next that was never used; once
+    /// all were, the number handed in longest ago. A number means the latest box that bore it.
     ///
     /// ```
     /// use silttongs::{Refusal, Table, BYTES};
@@ -163,6 +164,23 @@ impl<B: AsMut<[u8]>> Table<B> {
     /// assert_eq!(table.fork(0), Ok(1));
     /// assert_eq!(table.fork(1), Ok(2));
     /// assert_eq!(table.fork(3), Err(Refusal::NeverGiven));
+    /// # Ok::<(), Refusal>(())
+    /// ```
+    ///
+    /// 64 boxes may be out at a time:
+    ///
+    /// ```
+    /// # use silttongs::{Refusal, Table, BYTES};
+    /// # let mut table = Table::fresh([0; BYTES])?;
+    /// for number in 1..64 {
+    ///     assert_eq!(table.fork(0), Ok(number));
+    /// }
+    /// assert_eq!(table.fork(0), Err(Refusal::NoneLeft));
+    /// table.join(0, 40)?;
+    /// table.join(0, 7)?;
+    /// assert_eq!(table.fork(40), Err(Refusal::Joined));
+    /// assert_eq!(table.fork(0), Ok(40));
+    /// assert_eq!(table.fork(40), Ok(7));
     /// # Ok::<(), Refusal>(())
     /// ```
     ///

@@ -15,13 +15,16 @@ use Rattle.updates.specs.declared.standing.Standing.{Standing}
 use Rattle.updates.specs.declared.standing.State.the-variants.{Neither}
 use Rattle.updates.specs.Effect.{stateOf, valueIn}
 use Rattle.updates.specs.Kinds.{kindCheck, badBib}
-use Rattle.diagram.specs.Day.{Day, meant, nextNumber}
+use Rattle.diagram.specs.Day.{Day, meant, numberOf}
+use Rattle.diagram.specs.Day as Days
 use Rattle.diagram.specs.Checks as Day
 use Rattle.diagram.specs.Steps as Steps
 use Rattle.diagram.specs.Steps.{Step, accepted, after}
 use Rattle.diagram.proofs.Days.Moves.{yield-updates}
-use Rattle.diagram.proofs.Days.Accepting.{meant-given, meant-same, accept-event, accept-yield, accept-fork, accept-join}
+use Rattle.diagram.proofs.Days.Naming.{meant-given, meant-number}
+use Rattle.diagram.proofs.Days.Accepting.{accept-event, accept-yield, accept-fork, accept-join}
 use Rattle.cells.specs.Sizes as Lower
+use Rattle.cells.specs.Cells.{nextNumber}
 use Rattle.cells.specs.Checks as Asked
 use Rattle.cells.specs.Steps.{forkBytes, joinBytes, queryBytes}
 use Rattle.diagram.specs.Effects.{own, view}
@@ -39,10 +42,11 @@ use Rattle.table.specs.Answers as Table
 use Rattle.table.specs.Answers.{Out}
 use Rattle.table.specs.Calls.{updateOut, queryOut, yieldOut, forkOut, joinOut, listOut, shownOut, fillOut, fillIn, noFill, told}
 use Rattle.table.specs.declared.answer.Level.{Level}
-use Rattle.consistency.specs.Reached.{stepBytes}
-use Rattle.consistency.specs.Numbers.{Number, isGiven}
+use Rattle.following.specs.Reached.{byNumber, stepBytes}
+use Rattle.following.specs.Numbers.{Number}
+use Rattle.following.specs.Follow.{isGiven}
 use Rattle.consistency.specs.Table.{sheetWith}
-use Rattle.consistency.proofs.Cells.Passing.{client-is, known}
+use Rattle.following.proofs.Cells.Passing.{client-is, known}
 use Rattle.consistency.proofs.Table.Stands.{Stands, asEntered, bytes-are, high-size, is-table, numbers-are, stands-next}
 use Rattle.consistency.proofs.Table.Same.{Same, by-check, by-table, by-given, by-named}
 use Rattle.consistency.proofs.Table.Values.{same-order, same-sheet, same-standing}
@@ -62,13 +66,13 @@ module _ (p : PlainDay) (t : List ℕ) (S : Stands p t) where
   check-given = by-given p t S OnTable t S
 
   -- a step that notes no entry: the table that it leaves, and the call's end, of a query and of any other
-  stepped-on : (s : Step) → accepted y s ≡ true → after y s .updates ≡ y .updates → (b : List ℕ) → b ≡ stepBytes (low t) s → Stands (stepped p s) (b ++ high t)
+  stepped-on : (s : Step) → accepted y s ≡ true → after y s .updates ≡ y .updates → (b : List ℕ) → b ≡ stepBytes (low t) (byNumber y s) → Stands (stepped p s) (b ++ high t)
   stepped-on s e q b x = subst (λ k. Stands (stepped p s) (k ++ high t)) (sym x) (stands-next p t S s e (stepped p s) refl (high t) (high-size p t S) (λ n h. S .entries-are n (subst (λ k. n < k) q h)))
 
-  by-step : (s : Step) → accepted y s ≡ true → after y s .updates ≡ y .updates → (value w : ℕ) → w ≡ value → (b : List ℕ) → b ≡ stepBytes (low t) s → Same OnTable (Plain.taken (stepped p s) value) (Table.taken (b ++ high t) w)
+  by-step : (s : Step) → accepted y s ≡ true → after y s .updates ≡ y .updates → (value w : ℕ) → w ≡ value → (b : List ℕ) → b ≡ stepBytes (low t) (byNumber y s) → Same OnTable (Plain.taken (stepped p s) value) (Table.taken (b ++ high t) w)
   by-step s e q value w z b x = record { code = refl; state = refl; value = z; total = refl; gain = refl; lent = stepped-on s e q b x }
 
-  by-query : (s : Step) → accepted y s ≡ true → after y s .updates ≡ y .updates → (standing w : Standing) → w ≡ standing → (b : List ℕ) → b ≡ stepBytes (low t) s
+  by-query : (s : Step) → accepted y s ≡ true → after y s .updates ≡ y .updates → (standing w : Standing) → w ≡ standing → (b : List ℕ) → b ≡ stepBytes (low t) (byNumber y s)
       → Same OnTable (Plain.answered (stepped p s) standing) (Table.answered (b ++ high t) w)
   by-query s e q standing w z b x = record { code = refl; state = ap stateOf z; value = ap valueIn z; total = refl; gain = refl; lent = stepped-on s e q b x }
 
@@ -82,7 +86,7 @@ module _ (p : PlainDay) (t : List ℕ) (S : Stands p t) where
   room e = ltb-true (cellsOf t .updates) Lower.updates (not-false _ (bytes-are p t S .follow .same-full ∙ e))
 
   noted-same : (c r : ℕ) (kind : Kind) (bib v : ℕ) → accepted y (Steps.Event c r true) ≡ true → badBib bib ≡ false → Day.logFull y ≡ false
-      → Same OnTable (Plain.taken (noted p c r kind bib v) (y .updates)) (Table.taken (stepBytes (low t) (Steps.Event c r true) ++ wrote (high t) (cellsOf t .updates) (entry kind c bib v)) (cellsOf t .updates))
+      → Same OnTable (Plain.taken (noted p c r kind bib v) (y .updates)) (Table.taken (stepBytes (low t) (byNumber y (Steps.Event c r true)) ++ wrote (high t) (cellsOf t .updates) (entry kind c bib v)) (cellsOf t .updates))
   unfolding after
   noted-same c r kind bib v e e5 e9 = record {
     code = refl;
@@ -117,7 +121,7 @@ module _ (p : PlainDay) (t : List ℕ) (S : Stands p t) where
       check-table _ (Day.busyByOther y c r) 7 _ _ (number n r e3 .same-busyByOther c) λ e7.
       check-table _ (Day.stale y c r) 8 _ _ (number n r e3 .out e4 .same-stale c (known y (cellsOf t) (bytes-are p t S .follow) c e2)) λ e8.
       check-table _ (Day.logFull y) 9 _ _ (bytes-are p t S .follow .same-full) λ e9.
-      rw (meant-same y n r e3) (noted-same c r kind bib v (accept-event y c r true e2 (meant-given y n r e3) e4 e6 e7 e8 e9) e5 e9))
+      rw (← meant-number y n r e3) (noted-same c r kind bib v (accept-event y c r true e2 (meant-given y n r e3) e4 e6 e7 e8 e9) e5 e9))
 
   pub query-same : (c n bib : ℕ) → Same OnTable (called p (Paper.Query c n bib)) (queryOut t c n bib)
   unfolding called queryOut stepBytes after
@@ -132,7 +136,7 @@ module _ (p : PlainDay) (t : List ℕ) (S : Stands p t) where
       check-table _ (Day.stale y c r) 8 _ _ (number n r e3 .out e4 .same-stale c (known y (cellsOf t) (bytes-are p t S .follow) c e2)) λ e8.
       let standing = same-standing p t S n r e3 e4 c bib in
       let accepts = accept-event y c r false e2 (meant-given y n r e3) e4 e6 e7 e8 refl in
-      by-query (Steps.Event c r false) accepts refl _ _ standing _ (ap (queryBytes (low t) c) (meant-same y n r e3)))
+      by-query (Steps.Event c r false) accepts refl _ _ standing _ (ap (queryBytes (low t) c) (sym (meant-number y n r e3))))
 
   pub yield-same : (c : ℕ) → Same OnTable (called p (Paper.Yield c)) (yieldOut t c)
   unfolding called yieldOut stepBytes after
@@ -149,7 +153,7 @@ module _ (p : PlainDay) (t : List ℕ) (S : Stands p t) where
       check-table _ (y .joined r) 4 _ _ (number n r e3 .same-joined) λ e4.
       check-table _ (Day.busy y r) 7 _ _ (number n r e3 .same-busy) λ e7.
       check-table _ (Day.noneLeft y) 10 _ _ (bytes-are p t S .follow .same-left) λ e10.
-      by-step (Steps.Fork r) (accept-fork y r (meant-given y n r e3) e4 e7 e10) refl (nextNumber y) _ (bytes-are p t S .follow .same-number) _ (ap (λ z. forkBytes (low t) z (cellsOf t .given)) (meant-same y n r e3)))
+      by-step (Steps.Fork r) (accept-fork y r (meant-given y n r e3) e4 e7 e10) refl (Days.nextNumber y) _ (bytes-are p t S .follow .same-number e10) _ (ap (λ z. forkBytes (low t) z (nextNumber (cellsOf t))) (sym (meant-number y n r e3))))
 
   pub join-same : (n m : ℕ) → Same OnTable (called p (Paper.Join n m)) (joinOut t n m)
   unfolding called joinOut stepBytes after
@@ -164,7 +168,7 @@ module _ (p : PlainDay) (t : List ℕ) (S : Stands p t) where
       check-table _ (Day.notJoinable y a b) 11 _ _ (ap not (numbers-are p t S .same-joinable n m a b e3 f3 (o .0) (o .1)) ∙ Bool·not-not (Day.notJoinable y a b)) λ e11.
       let gain = number m b f3 .out (o .1) .same-gain in
       let accepts = accept-join y a b (meant-given y n a e3) (meant-given y m b f3) (o .0) (o .1) (i .0) (i .1) e11 in
-      by-step (Steps.Join a b) accepts refl _ _ gain _ (ap (λ z. joinBytes (low t) z m) (meant-same y n a e3) ∙ ap (joinBytes (low t) a) (meant-same y m b f3)))
+      by-step (Steps.Join a b) accepts refl _ _ gain _ (ap (λ z. joinBytes (low t) z m) (sym (meant-number y n a e3)) ∙ ap (joinBytes (low t) (numberOf y a)) (sym (meant-number y m b f3))))
 
   -- a call that has a sheet lent leaves the table as it is, and the day's lines on the sheet
   abbrev pub OnSheet : List ℕ → PlainDay → List Line → List ℕ → Type 0

@@ -17,9 +17,9 @@ use Rattle.table.specs.Halves.{bytes}
 use Rattle.table.specs.Answers.{Out}
 use Rattle.table.specs.Calls.{freshOut}
 use Rattle.table.proofs.Halves.{low-of}
-use Rattle.consistency.specs.Reached.{bytesAfter, bytesFrom}
+use Rattle.following.specs.Reached.{bytesAfter, bytesFrom}
 use Rattle.consistency.specs.Table.{Request, Update, Query, Yield, Fork, Join, Show, Fill, Bundle, Reply, onPaper, calls, onTable, served, repliesOn, tableAfter, said, replies, TableFollowsDays, Preview}
-use Rattle.consistency.proofs.Follow.{bytes-follow}
+use Rattle.following.proofs.Follow.{bytes-follow}
 use Rattle.consistency.proofs.Table.Stands.{Stands}
 use Rattle.consistency.proofs.Table.Same.{Same}
 use Rattle.consistency.proofs.Table.Calls.{OnTable, update-same, query-same, yield-same, fork-same, join-same, list-same, fill-same}

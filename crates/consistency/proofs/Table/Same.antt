@@ -16,7 +16,7 @@ use Rattle.plain.specs.Answers.{Outcome}
 use Rattle.table.specs.Halves.{cellsOf, isTable}
 use Rattle.table.specs.Answers as Table
 use Rattle.table.specs.Answers.{Out}
-use Rattle.consistency.specs.Numbers.{isGiven}
+use Rattle.following.specs.Follow.{isGiven}
 use Rattle.consistency.proofs.Table.Stands.{Stands, is-table, numbers-are}
 
 -- a call's end on the day and on the table: the same code, state and value, no second number, no gain, and lent bytes that stand for the day

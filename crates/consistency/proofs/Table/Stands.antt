@@ -6,8 +6,8 @@ use mathlib.Core.List.{List, [], _∷_, _++_}
 use native.Mathlib.Omega.{arith}
 use lib.ListN.{length, length-append, length-drop}
 use borrow.Author.Tests.{eq-eqb}
-use Rattle.diagram.specs.Day.{fresh}
-use Rattle.diagram.specs.Steps.{Step, Accepted, accepted, after, run}
+use Rattle.diagram.specs.Day.{Day, fresh}
+use Rattle.diagram.specs.Steps.{Step, Accepted, accepted, after, run, runFrom}
 use Rattle.diagram.proofs.Order.Runs.{accepted-both, run-step}
 use Rattle.cells.specs.Sizes as Lower
 use Rattle.entries.specs.Sizes as Upper
@@ -17,11 +17,11 @@ use Rattle.plain.specs.Calls.{Entry}
 use Rattle.plain.specs.Record.{PlainDay}
 use Rattle.table.specs.Halves.{bytes, low, high, cellsOf, isTable}
 use Rattle.table.proofs.Halves.{low-of, high-of}
-use Rattle.consistency.specs.Reached.{bytesAfter, bytesFrom, stepBytes}
-use Rattle.consistency.specs.Follow.{BytesFollow}
-use Rattle.consistency.specs.Numbers.{NumbersFollow}
-use Rattle.consistency.proofs.Cells.Numbers.{numbers-follow}
-use Rattle.consistency.proofs.Follow.{bytes-follow}
+use Rattle.following.specs.Reached.{byNumber, bytesAfter, bytesFrom, stepBytes}
+use Rattle.following.specs.Follow.{BytesFollow}
+use Rattle.following.specs.Numbers.{NumbersFollow}
+use Rattle.following.proofs.Cells.Numbers.{numbers-follow}
+use Rattle.following.proofs.Follow.{bytes-follow}
 
 -- an entry as it was entered
 abbrev pub asEntered : Stored.Entry → Entry
@@ -35,14 +35,14 @@ pub record Stands (p : PlainDay) (t : List ℕ) : Type 0 where
   pub size : length t ≡ bytes
   pub entries-are : (n : ℕ) → n < p .day .updates → asEntered (entryAt (high t) n) ≡ p .entries n
 
-bytes-both : (ss : List Step) (s : Step) (d : List ℕ) → bytesFrom d (ss ++ (s ∷ [])) ≡ stepBytes (bytesFrom d ss) s
-unfolding bytesFrom
-bytes-both [] s d = refl
-bytes-both (a ∷ ss) s d = bytes-both ss s (stepBytes d a)
+bytes-both : (ss : List Step) (s : Step) (y : Day) (d : List ℕ) → bytesFrom y d (ss ++ (s ∷ [])) ≡ stepBytes (bytesFrom y d ss) (byNumber (runFrom y ss) s)
+unfolding bytesFrom runFrom
+bytes-both [] s y d = refl
+bytes-both (a ∷ ss) s y d = bytes-both ss s (after y a) (stepBytes d (byNumber y a))
 
-bytes-step : (ss : List Step) (s : Step) → bytesAfter (ss ++ (s ∷ [])) ≡ stepBytes (bytesAfter ss) s
-unfolding bytesAfter
-bytes-step ss s = bytes-both ss s _
+bytes-step : (ss : List Step) (s : Step) → bytesAfter (ss ++ (s ∷ [])) ≡ stepBytes (bytesAfter ss) (byNumber (run ss) s)
+unfolding bytesAfter run
+bytes-step ss s = bytes-both ss s fresh _
 
 accepted-one : (ss : List Step) (s : Step) → Accepted ss → accepted (run ss) s ≡ true → Accepted (ss ++ (s ∷ []))
 unfolding run
@@ -65,21 +65,21 @@ module _ (p : PlainDay) (t : List ℕ) (S : Stands p t) where
 
   -- a step taken, with any upper half that has the entries
   pub stands-next : (s : Step) → accepted (p .day) s ≡ true → (q : PlainDay) → q .day ≡ after (p .day) s → (h : List ℕ) → length h ≡ Upper.bytes
-      → ((n : ℕ) → n < q .day .updates → asEntered (entryAt h n) ≡ q .entries n) → Stands q (stepBytes (low t) s ++ h)
-  stands-next s e q d h l f = record {
+      → ((n : ℕ) → n < q .day .updates → asEntered (entryAt h n) ≡ q .entries n) → Stands q (stepBytes (low t) (byNumber (p .day) s) ++ h)
+  stands-next s e q d h l f = let w = byNumber (p .day) s in record {
     steps = S .steps ++ (s ∷ []);
     ok = ok′;
     day-is = d ∙ ap (λ z. after z s) (S .day-is) ∙ sym (run-step (S .steps) s);
-    low-is = low-of (stepBytes (low t) s) h size′ ∙ is;
-    size = length-append (stepBytes (low t) s) h ∙ omega (arith, size′, l);
-    entries-are = λ n k. ap (λ z. asEntered (entryAt z n)) (high-of (stepBytes (low t) s) h size′) ∙ f n k;
+    low-is = low-of (stepBytes (low t) w) h size′ ∙ is;
+    size = length-append (stepBytes (low t) w) h ∙ omega (arith, size′, l);
+    entries-are = λ n k. ap (λ z. asEntered (entryAt z n)) (high-of (stepBytes (low t) w) h size′) ∙ f n k;
   }
     where
       ok′ : Accepted (S .steps ++ (s ∷ []))
       ok′ = accepted-one (S .steps) s (S .ok) (ap (λ z. accepted z s) (sym (S .day-is)) ∙ e)
 
-      is : stepBytes (low t) s ≡ bytesAfter (S .steps ++ (s ∷ []))
-      is = ap (λ z. stepBytes z s) (S .low-is) ∙ sym (bytes-step (S .steps) s)
+      is : stepBytes (low t) (byNumber (p .day) s) ≡ bytesAfter (S .steps ++ (s ∷ []))
+      is = ap (λ z. stepBytes z (byNumber (p .day) s)) (S .low-is) ∙ ap (λ z. stepBytes (bytesAfter (S .steps)) (byNumber z s)) (S .day-is) ∙ sym (bytes-step (S .steps) s)
 
-      size′ : length (stepBytes (low t) s) ≡ Lower.bytes
+      size′ : length (stepBytes (low t) (byNumber (p .day) s)) ≡ Lower.bytes
       size′ = ap length is ∙ bytes-follow (S .steps ++ (s ∷ [])) ok′ .size

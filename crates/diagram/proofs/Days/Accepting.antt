@@ -1,34 +1,11 @@
--- A step is accepted exactly where no check applies; and what a number means was given out.
-use Prim.Native.Nat.{_<_, ℕ}
+-- A step is accepted exactly where no check applies.
+use Prim.Native.Nat.{ℕ}
 use mathlib.Core.Bool.{Bool, _&&_, false, true}
 use mathlib.Core.Path.{_≡_}
-use mathlib.Core.Option.{none, some}
-use native.Mathlib.Omega.{arith}
-use lib.Dec.{ltb}
-use borrow.Author.Tests.{ltb-true, not-false}
 use Rattle.diagram.specs.Checks.{busy, busyByOther, logFull, noneLeft, notJoinable, openElsewhere, stale, unknownClient}
-use Rattle.diagram.specs.Day.{Day, meant}
+use Rattle.diagram.specs.Day.{Day}
 use Rattle.diagram.specs.Steps.{Event, Fork, Join, Yield, accepted, notGiven}
 use Rattle.diagram.proofs.Days.Moves.{none-of}
-use Rattle.lists.proofs.Cases.{cases}
-
-pub meant-same : (y : Day) (n r : ℕ) → meant y n ≡ some r → n ≡ r
-unfolding meant
-meant-same y n r e =
-    cases (ltb n (y .revisions))
-    (λ t. let q : some n ≡ some r = rw t at e in cc)
-    (λ t. let q : none ≡ some r = rw t at e in let z : _≡_ {A = ℕ} 0 1 = cc in absurd (omega arith))
-
-pub meant-given : (y : Day) (n r : ℕ) → meant y n ≡ some r → notGiven y r ≡ false
-unfolding meant
-meant-given y n r e =
-    cases (ltb n (y .revisions))
-    (λ t. rw (← meant-same y n r e, t))
-    (λ t. let q : none ≡ some r = rw t at e in let z : _≡_ {A = ℕ} 0 1 = cc in absurd (omega arith))
-
--- a number means a revision of the day
-pub meant-low : (y : Day) (n r : ℕ) → meant y n ≡ some r → r < y .revisions
-meant-low y n r e = ltb-true r (y .revisions) (not-false _ (meant-given y n r e))
 
 module _ (y : Day) where
   pub accept-event : (c r : ℕ) (u : Bool) → unknownClient c ≡ false → notGiven y r ≡ false → y .joined r ≡ false → openElsewhere y c r ≡ false

@@ -99,8 +99,8 @@ module _ (y : Day) (layout : List ℕ) (hold : ℕ → List ℕ) (S : Sound y la
   sound-fork = record {
     real = real-fork y layout (S .real) r N;
     filed = filed′;
-    runs = moved-runs y layout hold S (sv ∷ fv ∷ d) _ _ _ _ _ (omega arith) up was hold′ kept;
+    runs = moved-runs y layout hold S (sv ∷ fv ∷ d) _ _ _ _ _ _ (omega arith) up was hold′ kept;
     unshut = S .unshut;
-    whole = moved-whole y layout hold S (sv ∷ fv ∷ d) _ _ _ _ _ (omega arith) up was outside;
-    sessions = moved-sessions y layout hold S (sv ∷ fv ∷ d) _ _ _ _ _ (omega arith) up was;
+    whole = moved-whole y layout hold S (sv ∷ fv ∷ d) _ _ _ _ _ _ (omega arith) up was outside;
+    sessions = moved-sessions y layout hold S (sv ∷ fv ∷ d) _ _ _ _ _ _ (omega arith) up was;
   }

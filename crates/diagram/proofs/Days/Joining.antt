@@ -101,8 +101,8 @@ module _ (y : Day) (layout : List ℕ) (hold : ℕ → List ℕ) (S : Sound y la
   sound-join = record {
     real = real-join y layout (S .real) a b H;
     filed = filed′;
-    runs = moved-runs y layout hold S (jv ∷ d) _ _ _ _ _ (omega arith) up was hold′ kept;
+    runs = moved-runs y layout hold S (jv ∷ d) _ _ _ _ _ _ (omega arith) up was hold′ kept;
     unshut = S .unshut;
-    whole = moved-whole y layout hold S (jv ∷ d) _ _ _ _ _ (omega arith) up was outside;
-    sessions = moved-sessions y layout hold S (jv ∷ d) _ _ _ _ _ (omega arith) up was;
+    whole = moved-whole y layout hold S (jv ∷ d) _ _ _ _ _ _ (omega arith) up was outside;
+    sessions = moved-sessions y layout hold S (jv ∷ d) _ _ _ _ _ _ (omega arith) up was;
   }

@@ -8,10 +8,10 @@ use lib.Dec.{eqb}
 use borrow.Author.Tests.{eqb-true, eqb-false, ne-eqb, ltb-true, not-true, not-false}
 use Rattle.lists.proofs.Cases.{cases, or-false, and-true}
 use Rattle.lists.proofs.Sums.{any-none}
-use Rattle.diagram.specs.Sizes.{clientLimit}
+use Rattle.diagram.specs.Sizes.{clientLimit, revisionLimit}
 use Rattle.diagram.specs.Diagram.{leads}
-use Rattle.diagram.specs.Day.{Day, IsOut}
-use Rattle.diagram.specs.Checks.{unknownClient, isOn, openElsewhere, busyByOther, busy, stale, notJoinable}
+use Rattle.diagram.specs.Day.{Day, IsOut, outCount}
+use Rattle.diagram.specs.Checks.{unknownClient, isOn, openElsewhere, busyByOther, busy, stale, noneLeft, notJoinable}
 use Rattle.diagram.specs.Steps.{Step, Event, Yield, Fork, Join, notGiven, accepted, enter, yield, forkAt, joinInto, after}
 
 -- a number given out that is not the last one
@@ -40,6 +40,7 @@ pub record CanEnter (y : Day) (c r : ℕ) : Type 0 where
 pub record CanFork (y : Day) (r : ℕ) : Type 0 where
   pub out : IsOut y r
   pub idle : Idle y (λ o. Unit {0}) r
+  pub room : outCount y < revisionLimit
 
 pub record CanJoin (y : Day) (a b : ℕ) : Type 0 where
   pub out-a : IsOut y a
@@ -128,12 +129,13 @@ module _ (y : Day) where
   can-yield c e = known c (none-of (unknownClient c) _ e .0)
 
   pub can-fork : (r : ℕ) → accepted y (Fork r) ≡ true → CanFork y r
-  unfolding accepted
+  unfolding accepted noneLeft
   can-fork r e =
       let e3 = none-of (notGiven y r) _ e in
       let e4 = none-of (y .joined r) _ (e3 .1) in
       let e7 = none-of (busy y r) _ (e4 .1) in
-      record { out = (given r (e3 .0), e4 .0); idle = idle-all r (e7 .0) }
+      let left = none-of (noneLeft y) _ (e7 .1) in
+      record { out = (given r (e3 .0), e4 .0); idle = idle-all r (e7 .0); room = (let l = ltb-true _ revisionLimit (not-false _ (left .0)) in omega arith) }
 
   pub can-join : (a b : ℕ) → accepted y (Join a b) ≡ true → CanJoin y a b
   unfolding accepted

@@ -3,6 +3,7 @@ use mathlib.Core.Bool.{true}
 use mathlib.Core.Path.{_≡_, refl}
 use mathlib.Core.List.{List, [], _++_, _∷_}
 use Rattle.diagram.proofs.Days.Moves.{step-moves}
+use Rattle.diagram.proofs.Days.Naming.{Named, named-fresh, named-moves}
 use Rattle.diagram.proofs.Order.Growth.{Fine, Older, fine-fresh, fine-moves, older-moves, older-trans, same}
 use Rattle.diagram.proofs.Order.Numbered.{numbered-fresh, numbered-moves}
 use Rattle.diagram.specs.Arbitration.{Numbered}
@@ -63,3 +64,7 @@ numbered-run ss A = along (λ y. Numbered (y .diagram) (y .updates)) (λ y s e N
 
 pub older-from : (ss : List Step) (y : Day) → AcceptedFrom y ss → Older (y .diagram) (runFrom y ss .diagram)
 older-from ss y A = along (λ z. Older (y .diagram) (z .diagram)) (λ z s e o. older-trans o (older-moves z (after z s) (step-moves z s e))) ss y A same
+
+pub named-run : (ss : List Step) → Accepted ss → Named (run ss)
+unfolding run
+named-run ss A = along Named (λ y s e N. named-moves y N (after y s) (step-moves y s e)) ss fresh A named-fresh

@@ -95,6 +95,10 @@ fn random_days() {
         (Profile::FORKS, 30),
         (Profile::STRANGE, 60),
         (Profile::FULL, 4),
+        (Profile::REUSED, 6),
+        (Profile::REUSED_NESTED, 6),
+        (Profile::CROWDED, 6),
+        (Profile::SMALL_REUSED, 30),
     ];
     let struck: usize =
         days_of(&kinds).map(|day| must_print(&day_file(&day), &day.to_string())).sum();

@@ -115,6 +115,43 @@ fn draws_the_day() {
     assert_eq!(drawn, include_str!("../../../../docs/crossing.svg"));
 }
 
+/// A day on which box 1 is borne twice, and the step behind the second fork is on the later one.
+fn reused() -> String {
+    let others: String = (2..64).map(|_| "fork box 0\n").collect();
+    format!("fork box 0\n{others}fork box 0\njoin 0 with 1\nfork box 0\nupdate 0/1 Time bib 7 5\n")
+}
+
+#[test]
+fn shows_numbers_that_are_used_again() {
+    let file = output(&["pack"], reused().as_bytes());
+    let shown = String::from_utf8(output(&["show"], &file)).unwrap();
+    let lines: Vec<&str> = shown.lines().skip(64).collect();
+    assert_eq!(
+        lines,
+        [
+            "   63  fork box 0                 10           0  no box left",
+            "   64  join 0 with 1               0           0",
+            "   65  fork box 0                  0           1",
+            "   66  update 0/1 Time bib 7 5     0           0",
+        ]
+    );
+}
+
+/// A line for each box, labelled by its number: 64 boxes, and one that bears 1 again.
+#[test]
+fn draws_numbers_that_are_used_again() {
+    let file = output(&["pack"], reused().as_bytes());
+    let drawn = String::from_utf8(output(&["draw"], &file)).unwrap();
+    assert_eq!(drawn.matches("r=\"4\"").count(), 65);
+    assert_eq!(drawn.matches(">box 1<").count(), 2);
+    assert_eq!(drawn.matches(">box 63<").count(), 1);
+    assert!(!drawn.contains(">box 64<"));
+    assert!(drawn.contains("Refused: steps 63 (no box left)."));
+    // The update stands on the last line, and not on that of the earlier box 1.
+    let update = drawn.lines().find(|line| line.contains("class=\"event\"")).unwrap();
+    assert!(update.contains(&format!("cy=\"{}\"", 44 + 92 * 64)), "{update}");
+}
+
 #[test]
 fn help_goes_to_standard_output() {
     let help = String::from_utf8(output(&["--help"], b"")).unwrap();

@@ -3,6 +3,7 @@
 
 mod bundles;
 mod fills;
+mod numbers;
 mod previews;
 mod race_day;
 mod readings;
@@ -41,6 +42,10 @@ fn list(revision: u8, room: usize) -> Call {
 
 fn fill(revision: u8) -> Call {
     Call::Fill { revision }
+}
+
+fn preview(joiner: u8, joinee: u8, bib: u16) -> Call {
+    Call::Preview { joiner, joinee, bib }
 }
 
 /// The answers of both implementations, which are the same.

@@ -3,13 +3,9 @@
 use calls::{Answer, Call, Code, State};
 
 use super::{
-    answers, day, fork, join, late_update, list, query, update, yields, EARLIEST, PENALTY, STRIKE,
-    TIME,
+    answers, day, fork, join, late_update, list, preview, query, update, yields, EARLIEST, PENALTY,
+    STRIKE, TIME,
 };
-
-fn preview(joiner: u8, joinee: u8, bib: u16) -> Call {
-    Call::Preview { joiner, joinee, bib }
-}
 
 /// Makes the calls of one day and then a preview, which the join and a query by tablet 15 bear out.
 #[track_caller]

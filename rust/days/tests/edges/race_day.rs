@@ -132,7 +132,8 @@ fn the_log_is_full_after_4096_updates_of_all_revisions() {
     day(&rows);
 }
 
-/// "The 63rd fork gives box 63, the next gives 10." "Boxes handed in still count towards the 64."
+/// "The 63rd fork gives box 63, the next gives 10." 02, U7: once one of the 64 is handed in, a fork is
+/// taken again.
 #[test]
 fn sixty_three_forks() {
     let mut rows: Vec<Row> = Vec::new();
@@ -145,8 +146,9 @@ fn sixty_three_forks() {
         (fork(63), 10, 0),
         (fork(64), 3, 0),
         (join(0, 63), 0, 0),
-        (fork(0), 10, 0),
         (fork(63), 4, 0),
+        (fork(0), 0, 63),
+        (fork(63), 10, 0),
         (query(0, 0, 0), 0, 0),
         (fork(0), 7, 0),
     ]);

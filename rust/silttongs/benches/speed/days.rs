@@ -38,6 +38,25 @@ pub(crate) fn chain(updates: usize, revisions: usize) -> Vec<Call> {
     calls
 }
 
+/// So many forks, and as many joins, behind a day: one revision from the main one, and one from that,
+/// in turn.
+pub(crate) fn handed_in(mut day: Vec<Call>, pairs: usize) -> Vec<Call> {
+    let mut numbers = baseline::Day::fresh();
+    day.iter().for_each(|call| _ = numbers.call(call));
+    let mut make = |call: Call| {
+        let number = numbers.call(&call).value as u8;
+        day.push(call);
+        number
+    };
+    for _ in 0..pairs / 2 {
+        let sent = make(Call::Fork { revision: 0 });
+        let nested = make(Call::Fork { revision: sent });
+        make(Call::Join { joiner: sent, joinee: nested });
+        make(Call::Join { joiner: 0, joinee: sent });
+    }
+    day
+}
+
 /// A whole day: 63 revisions are forked, each by one of the eight before it; 4,096 updates are
 /// entered on the first 16, by a client each, in transactions of four, every fourth with a query;
 /// all of them are joined.

@@ -12,7 +12,7 @@ use std::hint::black_box;
 use std::time::Instant;
 
 use calls::{Call, CLIENTS, UPDATES};
-use days::{bundle, chain, update, whole};
+use days::{bundle, chain, handed_in, update, whole};
 use sides::{made, Side, Work};
 use silttongs::SHEET;
 
@@ -128,6 +128,36 @@ fn single_calls() -> Vec<Case> {
     ]
 }
 
+/// 02, U7: the same calls on a short day, and on one that has 20,000 forks and joins behind it.
+fn reused() -> Vec<Case> {
+    let short = chain(2_048, 8);
+    let long = handed_in(short.clone(), 20_000);
+    let calls = |day: &[Call]| {
+        let join = Call::Join { joiner: 0, joinee: next(day) };
+        [
+            ("fork + join", vec![Call::Fork { revision: 0 }, join]),
+            ("update + yield", vec![update(0, 7, 7), Call::Yield { client: 0 }]),
+            ("query", vec![Call::Query { client: 0, revision: 7, bib: 7 }]),
+            ("list", vec![Call::List { revision: 7, room: SHEET }]),
+        ]
+    };
+    let of = |day: &[Call], after: &str| {
+        let case = |(name, calls): (&str, Vec<Call>)| {
+            Case::of_calls(format!("{name}, {after}"), day, &calls)
+        };
+        calls(day).map(case)
+    };
+    let pairs = of(&short, "7 forks").into_iter().zip(of(&long, "20,000 forks and joins"));
+    pairs.flat_map(|(short, long)| [short, long]).collect()
+}
+
+/// The number that the next fork gives.
+fn next(day: &[Call]) -> u8 {
+    let mut table = baseline::Day::fresh();
+    day.iter().for_each(|call| _ = table.call(call));
+    table.call(&Call::Fork { revision: 0 }).value as u8
+}
+
 /// The calls on the last revision of chains of several sizes: the sizes, and the case of each.
 fn growth(sizes: &[usize], chain_of: impl Fn(usize) -> (usize, usize)) -> Vec<(usize, Case)> {
     let of_size = |&size: &usize| {
@@ -158,6 +188,7 @@ fn main() {
 
     let clock = clock();
     let mut single = single_calls();
+    single.extend(reused());
     let mut by_updates = growth(&[64, 1_024, 2_048, 3_072, 4_080], |updates| (updates, 8));
     let mut by_revisions = growth(&[2, 8, 16, 32, 48, 63], |revisions| (2_048, revisions));
     for _ in 0..ROUNDS {

@@ -17,12 +17,14 @@ use super::given::{
 const BUFFERS: u64 = 8_000;
 /// How many calls are made on each.
 const CALLS: usize = 16;
+/// The cell that says how many numbers were given out.
+const GIVEN: usize = 39_827;
 
-/// The 796 bytes that docs/CELLS.md names.
+/// The 799 bytes that docs/CELLS.md names.
 #[test]
 fn the_cells_with_a_range() {
     let cells = cells();
-    assert_eq!(cells.iter().map(|cell| cell.width).sum::<usize>(), 796);
+    assert_eq!(cells.iter().map(|cell| cell.width).sum::<usize>(), 799);
     assert!(is_table(&cells, &fresh_bytes()));
 }
 
@@ -151,17 +153,23 @@ impl Met {
 fn random_calls_on_damaged_buffers() {
     let cells = cells();
     let mut met = Met::default();
+    let mut reused = 0;
     for seed in seeds(BUFFERS) {
         let mut rng = Rng::new(seed);
         let mut t = damaged(&cells, &mut rng);
         for step in 0..CALLS {
             let at = format!("seed {seed}, call {step}");
             met.calls(&at, &mut rng, |call| {
-                judged(&cells, &mut t, call)
-                    .unwrap_or_else(|fault| panic!("{at}, `{call}`: {fault}"))
+                let all_given = t.get(GIVEN) == Some(&REVISIONS);
+                let given = judged(&cells, &mut t, call)
+                    .unwrap_or_else(|fault| panic!("{at}, `{call}`: {fault}"));
+                let forked = call.name() == "fork" && given.answer.code == Code::Accepted;
+                reused += usize::from(all_given && forked);
+                given
             });
         }
     }
+    assert!(reused >= 50, "{reused} forks took a number from the queue");
     let Met { codes, states } = met;
     // 13 is given by the program alone.
     let numbers: Vec<u8> = codes.keys().map(|code| code.number()).collect();
@@ -221,7 +229,8 @@ fn damaged(cells: &[Cell], rng: &mut Rng) -> Vec<u8> {
         1 => random_bytes(rng),
         _ => {
             let mut t = fresh_bytes();
-            for call in random_day(&Profile::MIXED, rng.bits()) {
+            let kind = if rng.percent(80) { Profile::MIXED } else { Profile::SMALL_REUSED };
+            for call in random_day(&kind, rng.bits()) {
                 library(&mut t, &call);
             }
             t

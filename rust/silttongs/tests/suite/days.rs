@@ -4,7 +4,8 @@
 use calls::{Answer, Call, Line, BIBS};
 use days::{
     chains_of_joins, days_of, every_fill, every_list, every_preview, fault_of_bundles,
-    fault_of_fills, fault_of_previews, late_days, must_pass, one_in, seeds, Profile,
+    fault_of_fills, fault_of_numbers, fault_of_previews, late_days, must_pass, one_in, seeds,
+    Profile,
 };
 use silttongs::{lines, Entry, Table};
 
@@ -30,6 +31,7 @@ fn days_with_late_updates() {
 #[test]
 fn small_days_with_every_listing_and_fill_after_every_step() {
     must_pass(Profile::SMALL.days(seeds(800)), fault_with_reads);
+    must_pass(Profile::SMALL_REUSED.days(seeds(20)), fault_with_reads);
     must_pass(chains_of_joins(0..10), fault_with_reads);
 }
 
@@ -59,6 +61,14 @@ fn both_forms_on_random_days() {
         let mut t = fresh_bytes();
         calls.iter().find_map(|call| fault_of_entries(&mut t, call))
     });
+}
+
+/// 02, U7, by the library alone: which number a fork gives, and which numbers are out.
+#[test]
+fn numbers_go_by_the_order_of_the_hand_ins() {
+    let numbers = |calls: &[Call]| fault_of_numbers(fresh_bytes(), calls, answered);
+    must_pass(one_in(4), numbers);
+    must_pass(Profile::SMALL_REUSED.days(seeds(60)), numbers);
 }
 
 /// 02, U1: after every step, the own updates of all boxes out come to the updates accepted.

@@ -1,5 +1,5 @@
 //! The static library through the wrapper: random days against the literal replay and the baseline,
-//! buffers that no day made, 02's requests, C, and the stack.
+//! buffers that no day made, 02's requests, a day of 20,100 forks, C, and the stack.
 
 mod bundles;
 mod c;
@@ -7,6 +7,8 @@ mod cells;
 mod damaged;
 mod days;
 mod given;
+mod meeting;
+mod numbers;
 mod previews;
 mod stack;
 mod struck;

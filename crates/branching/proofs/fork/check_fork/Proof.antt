@@ -29,7 +29,8 @@ returns-3 c =
     let k = c .before .before .before .before in
     let e = sym (k .before .before .before .check-idle .ensures) ∙ k .before .found .given .1 in
     let f = sym (c .before .before .before .check-next .ensures) ∙ c .before .c .given .1 in
-    let n = next _ _ f in
+    let start = k .before .before .before .before .before in
+    let n = next _ (start .pre .1) _ f in
     (rw (e, f), (idle-in _ _ _ e, n .0, n .1))
 
 pub check-fork-spec : {M : Type 1} → statement M

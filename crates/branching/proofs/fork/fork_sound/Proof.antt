@@ -1,11 +1,10 @@
 -- `branching::fork::fork_sound` meets its contract: the checks, then the work. Assumes nothing.
 use mathlib.Core.Path.{refl, sym, _∙_, ap}
 use borrow.Author.Needs.{needs}
-use Rattle.cells.proofs.Range.{ranges}
 use Rattle.table.specs.Halves.{low}
 use Rattle.table.specs.Found.{onPair, pairCode}
 use Rattle.table.proofs.Halves.{low-length}
-use Rattle.branching.proofs.Calls.{above, fork-by, same-taken}
+use Rattle.branching.proofs.Calls.{fork-by, same-taken}
 use Rattle.branching.proofs.fork.fork_sound.Statement.{statement}
 use Rattle.branching.proofs.fork.fork_sound.Tie as tie
 
@@ -18,6 +17,12 @@ returns c =
     let h = c .before .enum-told .given .1 in
     rw (c .code .ensures ∙ ap pairCode h) (fork-by (s .t .now) (start .pre .0) (s .revision) _ (sym (at-check .check-fork .ensures .0) ∙ h))
 
+check-fork-requires : tie.Need-check-fork-requires
+unfolding low
+check-fork-requires c κs =
+    let start = c .before .before .before in
+    (low-length (start .args .t .now) (start .pre .1), start .pre .2)
+
 start-requires : tie.Need-start-requires
 unfolding low
 start-requires c κs =
@@ -25,8 +30,7 @@ start-requires c κs =
     let at-check = at-found .before .before in
     let start = at-check .before .before .before .before in
     let i = rw (at-found .found .given .1) at (at-check .check-fork .ensures .1) in
-    let g = ranges (low (start .args .t .now)) (start .pre .2) .some-given in
-    (start .pre .1, start .pre .2, i .0, above _ _ (i .1) g, i .2)
+    (start .pre .1, start .pre .2, i .0, i .1, i .2)
 
 returns-2 : tie.Need-returns-2
 unfolding low onPair
@@ -44,7 +48,7 @@ fork-sound-spec = tie.close (tie.spec
     (λ c. search needs)
     (λ c. search needs)
     (λ c. search needs)
-    (λ c κs. low-length (c .before .before .before .args .t .now) (c .before .before .before .pre .1))
+    check-fork-requires
     (λ c. search needs)
     (λ c. search needs)
     (λ c κs. search needs)

@@ -1,4 +1,4 @@
--- `checks::range::in_range` meets its contract: both pieces. Assumes nothing.
+-- `checks::range::in_range` meets its contract: all pieces. Assumes nothing.
 use borrow.Author.Needs.{needs}
 use Rattle.cells.specs.Range.{inRange}
 use Rattle.checks.proofs.Flags.{both}
@@ -7,10 +7,11 @@ use Rattle.checks.proofs.range.in_range.Tie as tie
 
 returns : tie.Need-returns
 unfolding inRange
-returns c = both (c .before .records-in .ensures) (c .places-in .ensures)
+returns c = both (c .before .before .records-in .ensures) (both (c .before .places-in .ensures) (c .singles-in .ensures))
 
 pub in-range-spec : {M : Type 1} → statement M
 in-range-spec = tie.close (tie.spec
+    (λ c κs. search needs)
     (λ c κs. search needs)
     (λ c κs. search needs)
     returns)

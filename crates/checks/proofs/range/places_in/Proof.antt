@@ -8,19 +8,12 @@ use Rattle.checks.proofs.range.places_in.Tie as tie
 returns : tie.Need-returns
 unfolding offset size split
 returns c =
-    let at-counters = c .before in
-    let at-opened = at-counters .before in
-    let at-queue = at-opened .before in
+    let at-queue = c .before in
     let at-layout = at-queue .before in
-    both (at-layout .bytes-below .ensures)
-    (both (at-queue .bytes-below2 .ensures)
-    (both (at-opened .bytes-below3 .ensures)
-    (both (at-counters .counters-in .ensures) (c .is-signed .ensures))))
+    both (at-layout .bytes-below .ensures) (both (at-queue .queue-in .ensures) (c .bytes-below2 .ensures))
 
 pub places-in-spec : {M : Type 1} → statement M
 places-in-spec = tie.close (tie.spec
-    (λ c κs. search needs)
-    (λ c κs. search needs)
     (λ c κs. search needs)
     (λ c κs. search needs)
     (λ c κs. search needs)

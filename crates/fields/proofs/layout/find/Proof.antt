@@ -5,7 +5,7 @@ use native.Mathlib.Omega.{arith}
 use lib.ListN.{drop}
 use borrow.Author.Needs.{needs}
 use Rattle.fields.specs.Place.{firstPlace}
-use Rattle.fields.proofs.Gaps.{sought-end, sought-found, sought-more, sought-start}
+use Rattle.fields.proofs.PlaceLoops.{sought-end, sought-found, sought-more, sought-start}
 use Rattle.fields.proofs.layout.find.Statement.{statement}
 use Rattle.fields.proofs.layout.find.Tie as tie
 

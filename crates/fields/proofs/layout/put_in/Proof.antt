@@ -2,17 +2,17 @@
 use mathlib.Core.Path.{_∙_}
 use native.Mathlib.Omega.{arith}
 use borrow.Author.Needs.{needs}
-use Rattle.fields.proofs.Gaps.{none-in, put-in}
+use Rattle.fields.proofs.PlaceLoops.{none-in, put-in}
 use Rattle.fields.proofs.layout.put_in.Statement.{statement}
 use Rattle.fields.proofs.layout.put_in.Tie as tie
 
 returns : tie.Need-returns
 returns c =
-    let at-open-gap = c .before .before in
-    let at-if1 = at-open-gap .before .before in
+    let at-open = c .before .before in
+    let at-if1 = at-open .before .before in
     let at-find = at-if1 .before in
     let start = at-find .before .before .before in
-    at-open-gap .open-gap .ensures ∙ put-in (start .args .parent) (start .args .child) (at-find .find .result) (start .args .t .now) (omega arith) (at-find .find .ensures) (at-if1 .if1 .taken)
+    at-open .open .ensures ∙ put-in (start .args .parent) (start .args .child) (at-find .find .result) (start .args .t .now) (omega arith) (at-find .find .ensures) (at-if1 .if1 .taken)
 
 returns-2 : tie.Need-returns-2
 returns-2 c =

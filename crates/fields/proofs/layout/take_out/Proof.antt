@@ -2,17 +2,17 @@
 use mathlib.Core.Path.{_∙_}
 use native.Mathlib.Omega.{arith}
 use borrow.Author.Needs.{needs}
-use Rattle.fields.proofs.Gaps.{none-out, taken-out}
+use Rattle.fields.proofs.PlaceLoops.{none-out, taken-out}
 use Rattle.fields.proofs.layout.take_out.Statement.{statement}
 use Rattle.fields.proofs.layout.take_out.Tie as tie
 
 returns : tie.Need-returns
 returns c =
-    let at-close-gap = c .before .before in
-    let at-if1 = at-close-gap .before .before in
+    let at-close = c .before .before in
+    let at-if1 = at-close .before .before in
     let at-find = at-if1 .before in
     let start = at-find .before .before .before in
-    at-close-gap .close-gap .ensures ∙ taken-out (start .args .b) (at-find .find .result) (start .args .t .now) (omega arith) (at-find .find .ensures) (at-if1 .if1 .taken)
+    at-close .close .ensures ∙ taken-out (start .args .b) (at-find .find .result) (start .args .t .now) (omega arith) (at-find .find .ensures) (at-if1 .if1 .taken)
 
 returns-2 : tie.Need-returns-2
 returns-2 c =

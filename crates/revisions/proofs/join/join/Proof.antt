@@ -9,12 +9,13 @@ use Rattle.revisions.proofs.join.join.Tie as tie
 
 sub-out : tie.Need-sub-out
 sub-out c =
-    let start = c .before .before .before .before .before .before .before in
+    let start = c .before .before .before .before .before .before .before .before .before in
     let o = ranges (start .args .d .now) (start .pre .1) .some-out in let e = c .out .ensures .0 in omega arith
 
 count-requires-3 : tie.Need-count-requires-3
 count-requires-3 c κs =
-    let at-count2 = c .before .before .before .before .before .before .before in
+    let at-out = c .before .before .before .before .before in
+    let at-count2 = at-out .before .before .before .before in
     let at-count = at-count2 .before .before in
     let start = at-count .before .before .before in
     let s = start .args in
@@ -32,17 +33,22 @@ returns c =
     let at-count3 = at-retire .before .before .before .before in
     let at-splice = at-count3 .before .before .before .before in
     let at-out = at-splice .before .before in
-    let at-count2 = at-out .before .before in
+    let at-queue-end = at-out .before .before in
+    let at-count2 = at-queue-end .before .before in
     let at-count = at-count2 .before .before in
     let start = at-count .before .before .before in
-    let s = start .args in
-    (at-count .count .ensures .0, join-done (s .d .now) (start .pre .0) _ _ _ (s .a .0) (s .b .0) (at-count2 .count2 .result) (at-count .count .result) (at-out .out .result) (at-count2 .count2 .ensures .0) (at-count .count .ensures .0) (at-out .out .ensures .0) (at-splice .splice .ensures) (at-count3 .count3 .ensures) (at-retire .retire .ensures))
+    let s = start .args in (
+      at-count .count .ensures .0,
+      join-done (s .d .now) (start .pre .0) _ _ _ (s .a .0) (s .b .0) (at-count2 .count2 .result) (at-count .count .result) (at-queue-end .queue-end .result) (at-out .out .result)
+          (at-count2 .count2 .ensures .0) (at-count .count .ensures .0) (at-queue-end .queue-end .ensures .0) (at-out .out .ensures .0) (at-splice .splice .ensures) (at-count3 .count3 .ensures) (at-retire .retire .ensures),
+    )
 
 pub join-spec : {M : Type 1} → statement M
 join-spec = tie.close (tie.spec
     (λ c κs. search needs)
     (λ c κs. search needs)
     (λ c. search needs)
+    (λ c κs. search needs)
     (λ c κs. search needs)
     sub-out
     (λ c κs. search needs)

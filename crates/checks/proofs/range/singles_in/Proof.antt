@@ -1,0 +1,25 @@
+-- `checks::range::singles_in` meets its contract: each part in its place. Assumes nothing.
+use borrow.Author.Needs.{needs}
+use Rattle.cells.specs.Parts.{offset, size, split}
+use Rattle.checks.proofs.Flags.{both}
+use Rattle.checks.proofs.range.singles_in.Statement.{statement}
+use Rattle.checks.proofs.range.singles_in.Tie as tie
+
+returns : tie.Need-returns
+unfolding offset size split
+returns c =
+    let at-closed = c .before in
+    let at-single = at-closed .before in
+    let at-counters = at-single .before in
+    both (at-counters .counters-in .ensures)
+    (both (at-single .bytes-below .ensures)
+    (both (at-closed .words-below .ensures)
+    (c .is-signed .ensures)))
+
+pub singles-in-spec : {M : Type 1} → statement M
+singles-in-spec = tie.close (tie.spec
+    (λ c κs. search needs)
+    (λ c κs. search needs)
+    (λ c κs. search needs)
+    (λ c κs. search needs)
+    returns)

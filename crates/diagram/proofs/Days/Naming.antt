@@ -1,0 +1,281 @@
+-- The numbers that revisions bear (02, U7): those of revisions out are apart, those handed in stand once in their order, and together they are the numbers given.
+use Prim.Native.Nat.{_+_, _<_, _≤_, suc, zero, ℕ}
+use mathlib.Core.Bool.{cond, false, false≢true, true}
+use mathlib.Core.Path.{_∙_, _≡_, ap, refl, sym}
+use mathlib.Core.Logic.{_⊎_, inl, inr}
+use mathlib.Core.Option.{Option, none, some}
+use mathlib.Core.List.{Memᴰ·append-left, Memᴰ·append-right, List·Memᴰ·cases-cons}
+use mathlib.Core.List.{List, List·Memᴰ·append-cases, List·Memᴰ·eq-of-singleton, List·Memᴰ·head, List·Memᴰ·not-nil, List·Memᴰ·tail, List·Nodup, [], _++_, _∷_, nodup-cons, nodup-nil}
+use native.Mathlib.Omega.{arith}
+use lib.Dec.{eqb, ltb}
+use lib.ListN.{length, length-append}
+use borrow.Author.Tests.{eq-eqb, eqb-false, eqb-true, le-ltb, lt-ltb, ltb-false, ltb-true, ne-eqb, not-false}
+use Rattle.lists.specs.Lists.{_∈_, changed, firstOf, restOf}
+use Rattle.lists.specs.Sums.{sumBelow}
+use Rattle.lists.proofs.Cases.{cases, either}
+use Rattle.lists.proofs.Changed.{changed-other, changed-same}
+use Rattle.lists.proofs.Sublists.{nodup-more}
+use Rattle.lists.proofs.Sums.{sum-changed, sum-same}
+use Rattle.diagram.specs.Sizes.{revisionLimit}
+use Rattle.diagram.specs.Numbering.{Numbering, handedIn, latest, next, started}
+use Rattle.diagram.specs.Day.{Day, IsOut, fresh, meant, numberOf, outCount}
+use Rattle.diagram.specs.Steps.{Accepted, Step, accepted, after, enter, forkAt, joinInto, notGiven, run, yield}
+use Rattle.diagram.proofs.Days.Moves.{CanFork, CanJoin, Moves, enters, forked-out, forksAt, joined-out, joinsInto, step-moves, yields}
+
+-- the latest of the revisions below m that bore n
+pub latest-bore : (of : ℕ → ℕ) (n m r : ℕ) → latest of n m ≡ some r → (r < m) × (of r ≡ n)
+latest-bore of n zero r e = let z : _≡_ {A = ℕ} 0 1 = cc in absurd (omega arith)
+latest-bore of n (suc m) r e =
+    cases (eqb (of m) n)
+    (λ q. let s : some m ≡ some r = rw q at e in let z : m ≡ r = cc in (omega arith, ap of (sym z) ∙ eqb-true (of m) n q))
+    (λ q. let k = latest-bore of n m r (rw q at e) in (omega (arith, k .0), k .1))
+
+latest-kept : (of : ℕ → ℕ) (m v n k : ℕ) → k ≤ m → latest (changed of m v) n k ≡ latest of n k
+latest-kept of m v n zero l = refl
+latest-kept of m v n (suc k) l = rw (ne-eqb k m (λ e. omega arith), latest-kept of m v n k (omega arith))
+
+pub latest-last : (of : ℕ → ℕ) (n m r s : ℕ) → latest of n m ≡ some s → r < m → of r ≡ n → r ≤ s
+latest-last of n zero r s e l q = absurd (omega arith)
+latest-last of n (suc m) r s e l q =
+    cases (eqb (of m) n)
+    (λ t. let a : some m ≡ some s = rw t at e in let z : m ≡ s = cc in omega arith)
+    (λ t. let d : r ≡ m → ⊥ = λ z. eqb-false (of m) n t (ap of (sym z) ∙ q) in latest-last of n m r s (rw t at e) (omega arith) q)
+
+-- what each number's latest bearer counts for, summed over the numbers, is what the revisions count for, where an earlier bearer counts for nothing
+abbrev pub countFor : (ℕ → ℕ) → Option ℕ → ℕ
+countFor f none = 0
+countFor f (some r) = f r
+
+none-counts : (g : ℕ) → sumBelow g (λ n. 0) ≡ 0
+none-counts zero = refl
+none-counts (suc g) = let a = none-counts g in omega arith
+
+pub sum-latest : (of f : ℕ → ℕ) (g m : ℕ) → ((r : ℕ) → r < m → of r < g) → ((s r : ℕ) → s < r → r < m → of s ≡ of r → f s ≡ 0) → sumBelow g (λ n. countFor f (latest of n m)) ≡ sumBelow m f
+sum-latest of f g zero low early = none-counts g
+sum-latest of f g (suc m) low early =
+    let was = sum-latest of f g m (λ r l. low r (omega arith)) (λ s r k l. early s r k (omega arith)) in
+    let moved = sum-changed g (of m) (λ n. countFor f (latest of n m)) (λ n. countFor f (latest of n (suc m))) (low m (omega arith)) (λ x l d. rw (ne-eqb (of m) x (λ q. d (sym q)))) in
+    let new : countFor f (latest of (of m) (suc m)) ≡ f m = rw (eq-eqb (of m) (of m) refl) in
+    let old = by (latest of (of m) m) refl in
+    omega arith
+  where
+    by : (q : Option ℕ) → latest of (of m) m ≡ q → countFor f q ≡ 0
+    by none e = refl
+    by (some s) e = let b = latest-bore of (of m) m s e in early s m (b .0) (omega arith) (b .1)
+
+pub record Named (y : Day) : Type 0 where
+  pub few : y .numbering .given ≤ revisionLimit
+  -- a number given out means a revision, and no other does; that of a revision out means it
+  pub used : (n : ℕ) → n < y .numbering .given → (r : ℕ) × (meant y n ≡ some r)
+  pub low : (r : ℕ) → r < y .revisions → numberOf y r < y .numbering .given
+  pub means : (r : ℕ) → IsOut y r → meant y (numberOf y r) ≡ some r
+  -- the numbers handed in: given out, each once, of no revision out
+  pub freed-low : (n : ℕ) → n ∈ y .numbering .freed → n < y .numbering .given
+  pub freed-once : List·Nodup (y .numbering .freed)
+  pub freed-in : (n r : ℕ) → n ∈ y .numbering .freed → IsOut y r → numberOf y r ≡ n → ⊥
+  -- and every number whose bearer is not out is among them
+  pub freed-all : (n r : ℕ) → meant y n ≡ some r → y .joined r ≡ true → n ∈ y .numbering .freed
+  pub counted : outCount y + length (y .numbering .freed) ≡ y .numbering .given
+
+-- what a number means
+module _ (y : Day) where
+  pub meant-low : (n r : ℕ) → meant y n ≡ some r → r < y .revisions
+  unfolding meant
+  meant-low n r e = latest-bore (y .numbering .of) n (y .revisions) r e .0
+
+  pub meant-number : (n r : ℕ) → meant y n ≡ some r → numberOf y r ≡ n
+  unfolding meant
+  meant-number n r e = latest-bore (y .numbering .of) n (y .revisions) r e .1
+
+  pub meant-given : (n r : ℕ) → meant y n ≡ some r → notGiven y r ≡ false
+  meant-given n r e = rw (lt-ltb r (y .revisions) (meant-low n r e))
+
+  -- no two revisions out bear one number
+  pub numbers-apart : Named y → (r s : ℕ) → IsOut y r → IsOut y s → numberOf y r ≡ numberOf y s → r ≡ s
+  numbers-apart N r s o p e = let a = N .means r o in let b : meant y (numberOf y r) ≡ some s = rw e (N .means s p) in cc
+
+  -- an earlier bearer of a revision's number is not out
+  pub earlier-in : Named y → (s r : ℕ) → s < r → r < y .revisions → numberOf y s ≡ numberOf y r → y .joined s ≡ true
+  unfolding meant
+  earlier-in N s r k l e =
+      cases (y .joined s) (λ q. q) (λ q.
+      absurd (let a = latest-last (y .numbering .of) (numberOf y s) (y .revisions) r s (N .means s (omega arith, q)) l (sym e) in omega arith))
+
+  -- a number that was not given out means nothing
+  pub not-meant : Named y → (n : ℕ) → y .numbering .given ≤ n → meant y n ≡ none
+  not-meant N n l = by (meant y n) refl
+    where
+      by : (q : Option ℕ) → meant y n ≡ q → q ≡ none
+      by none e = refl
+      by (some r) e = absurd (let a = N .low r (meant-low n r e) in let b = meant-number n r e in omega arith)
+
+limit-some : 0 < revisionLimit
+unfolding revisionLimit
+limit-some = omega arith
+
+pub named-fresh : Named fresh
+unfolding meant
+named-fresh = record {
+  few = limit-some;
+  used = λ n l. let z : n ≡ 0 = omega arith in (0, rw z);
+  low = λ r l. omega arith;
+  means = λ r o. let l = o .0 in let z : r ≡ 0 = omega arith in rw z;
+  freed-low = λ n i. absurd (List·Memᴰ·not-nil i);
+  freed-once = nodup-nil;
+  freed-in = λ n r i. absurd (List·Memᴰ·not-nil i);
+  freed-all = λ n r e j. absurd (false≢true j);
+  counted = refl;
+}
+
+-- what a fork needs of the number that it gives
+record Gives (y : Day) (n : ℕ) (N : Numbering) : Type 0 where
+  apart : (r : ℕ) → IsOut y r → numberOf y r ≡ n → ⊥
+  low : n < N .given
+  more : y .numbering .given ≤ N .given
+  few : N .given ≤ revisionLimit
+  old : (m : ℕ) → m < N .given → (m ≡ n → ⊥) → m < y .numbering .given
+  still : (m : ℕ) → m ∈ N .freed → (m ∈ y .numbering .freed) × (m ≡ n → ⊥)
+  kept : (m : ℕ) → m ∈ y .numbering .freed → (m ≡ n → ⊥) → m ∈ N .freed
+  once : List·Nodup (N .freed)
+  counted : suc (outCount y) + length (N .freed) ≡ N .given
+
+module _ (y : Day) (N : Named y) where
+  abbrev R : ℕ
+  R = y .revisions
+
+  abbrev f : ℕ → ℕ
+  f r = cond (y .joined r) 0 1
+
+  module _ (r : ℕ) (C : CanFork y r) where
+    never-used : ltb (y .numbering .given) revisionLimit ≡ true → Gives y (next (y .numbering)) (started (y .numbering) R)
+    never-used e =
+        let l = ltb-true (y .numbering .given) revisionLimit e in
+        rw e
+        (record {
+          apart = λ s o q. let k = N .low s (o .0) in omega arith;
+          low = omega arith;
+          more = omega arith;
+          few = l;
+          old = λ m k d. omega arith;
+          still = λ m i. (i, λ q. let k = N .freed-low m i in omega arith);
+          kept = λ m i d. i;
+          once = N .freed-once;
+          counted = let k = N .counted in omega arith;
+        })
+
+    longest-ago : (l : List ℕ) → y .numbering .freed ≡ l → ltb (y .numbering .given) revisionLimit ≡ false → Gives y (next (y .numbering)) (started (y .numbering) R)
+    longest-ago [] q e = let k = N .counted in let g = ltb-false (y .numbering .given) revisionLimit e in let z : length (y .numbering .freed) ≡ 0 = rw q in let o = C .room in absurd (omega arith)
+    longest-ago (x ∷ l) q e =
+        let once : List·Nodup (x ∷ l) = rw q at (N .freed-once) in
+        let in-x : x ∈ y .numbering .freed = rw q (List·Memᴰ·head refl) in
+        rw (e, q)
+        (record {
+          apart = λ s o p. N .freed-in x s in-x o p;
+          low = N .freed-low x in-x;
+          more = omega arith;
+          few = N .few;
+          old = λ m k d. k;
+          still = λ m i. (List·Memᴰ·tail i, λ p. nodup-cons .0 once .0 ∣ rw p at i ∣₁);
+          kept = λ m i d. either (List·Memᴰ·cases-cons i) (λ e. absurd (d e)) (λ j. j);
+          once = nodup-cons .0 once .1;
+          counted = let k = N .counted in let z : length (y .numbering .freed) ≡ suc (length l) = rw q in omega arith;
+        })
+
+    gives : Gives y (next (y .numbering)) (started (y .numbering) R)
+    gives = cases (ltb (y .numbering .given) revisionLimit) never-used (longest-ago (y .numbering .freed) refl)
+
+    -- no revision out bears the number that a fork gives
+    pub next-apart : (s : ℕ) → IsOut y s → numberOf y s ≡ next (y .numbering) → ⊥
+    next-apart = gives .apart
+
+    pub next-given : next (y .numbering) < revisionLimit
+    next-given = let a = gives .low in let b = gives .few in omega arith
+
+    -- the number of the new revision, and of the others
+    pub number-new : numberOf (forkAt y r) R ≡ next (y .numbering)
+    number-new = changed-same (y .numbering .of) R (next (y .numbering))
+
+    pub number-old : (s : ℕ) → s < R → numberOf (forkAt y r) s ≡ numberOf y s
+    number-old s l = changed-other (y .numbering .of) R (next (y .numbering)) s (λ e. omega arith)
+
+    -- the number given means the new revision, the others mean what they did
+    pub meant-new : meant (forkAt y r) (next (y .numbering)) ≡ some R
+    unfolding meant
+    meant-new = rw (number-new, eq-eqb (next (y .numbering)) (next (y .numbering)) refl)
+
+    pub meant-old : (n : ℕ) → (n ≡ next (y .numbering) → ⊥) → meant (forkAt y r) n ≡ meant y n
+    unfolding meant
+    meant-old n d = rw (number-new, ne-eqb (next (y .numbering)) n (λ e. d (sym e))) (latest-kept (y .numbering .of) R (next (y .numbering)) n R (omega arith))
+
+    pub fork-count : outCount (forkAt y r) ≡ suc (outCount y)
+    fork-count =
+        let s = sum-same R (λ x. cond (forkAt y r .joined x) 0 1) f (λ x l. rw (ne-eqb x R (λ e. omega arith))) in
+        rw (eq-eqb R R refl) (omega arith)
+
+    new-out : (n s : ℕ) → n ≡ next (y .numbering) → meant (forkAt y r) n ≡ some s → forkAt y r .joined s ≡ false
+    new-out n s q e =
+        let a : meant (forkAt y r) n ≡ some R = rw q meant-new in
+        let z : s ≡ R = cc in
+        rw (eq-eqb s R z)
+
+    named-fork : Named (forkAt y r)
+    named-fork = record {
+      few = gives .few;
+      used = λ n l. cases (eqb n (next (y .numbering)))
+          (λ e. (R, rw (eqb-true n (next (y .numbering)) e) meant-new))
+          (λ e. let d = eqb-false n (next (y .numbering)) e in let u = N .used n (gives .old n l d) in (u .0, meant-old n d ∙ u .1));
+      low = λ s l. cases (eqb s R)
+          (λ e. rw e (gives .low))
+          (λ e. let d = eqb-false s R e in let k = N .low s (omega arith) in let m = gives .more in rw e (omega arith));
+      means = λ s o. cases (eqb s R)
+          (λ e. rw (eqb-true s R e, number-new) meant-new)
+          (λ e. let was = forked-out y r s o e in rw (number-old s (was .0)) (meant-old (numberOf y s) (gives .apart s was) ∙ N .means s was));
+      freed-low = λ n i. let k = N .freed-low n (gives .still n i .0) in let m = gives .more in omega arith;
+      freed-once = gives .once;
+      freed-in = λ n s i o q. cases (eqb s R)
+          (λ e. gives .still n i .1 (sym q ∙ ap (numberOf (forkAt y r)) (eqb-true s R e) ∙ number-new))
+          (λ e. let was = forked-out y r s o e in N .freed-in n s (gives .still n i .0) was (sym (number-old s (was .0)) ∙ q));
+      freed-all = λ n s e j. cases (eqb n (next (y .numbering)))
+          (λ q. absurd (false≢true (sym (new-out n s (eqb-true n (next (y .numbering)) q) e) ∙ j)))
+          (λ q. let d = eqb-false n (next (y .numbering)) q in let m : meant y n ≡ some s = sym (meant-old n d) ∙ e in
+          gives .kept n (N .freed-all n s m (sym (changed-other (y .joined) R false s (λ z. let l = meant-low y n s m in omega arith)) ∙ j)) d);
+      counted = rw fork-count (gives .counted);
+    }
+
+  module _ (a b : ℕ) (H : CanJoin y a b) where
+    pub join-count : suc (outCount (joinInto y a b)) ≡ outCount y
+    join-count =
+        let s = sum-changed R b f (λ x. cond (joinInto y a b .joined x) 0 1) (H .out-b .0) (λ x l d. rw (ne-eqb x b d)) in
+        let at-b : _≡_ {A = ℕ} (cond (joinInto y a b .joined b) 0 1) 0 = rw (eq-eqb b b refl) in
+        let was : f b ≡ 1 = rw (H .out-b .1) in
+        omega arith
+
+    named-join : Named (joinInto y a b)
+    unfolding meant
+    named-join = record {
+      few = N .few;
+      used = N .used;
+      low = N .low;
+      means = λ s o. N .means s (joined-out y a b s o .0);
+      freed-low = λ n i. either (List·Memᴰ·append-cases (y .numbering .freed) i) (N .freed-low n) (λ j. rw (List·Memᴰ·eq-of-singleton j) (N .low b (H .out-b .0)));
+      freed-once = nodup-more (y .numbering .freed) (numberOf y b) (N .freed-once) (λ i. N .freed-in (numberOf y b) b i (H .out-b) refl);
+      freed-in = λ n s i o q.
+          let was = joined-out y a b s o in
+          either (List·Memᴰ·append-cases (y .numbering .freed) i) (λ j. N .freed-in n s j (was .0) q)
+          (λ j. was .1 (numbers-apart y N s b (was .0) (H .out-b) (q ∙ List·Memᴰ·eq-of-singleton j)));
+      freed-all = λ n s e j. cases (eqb s b)
+          (λ q. Memᴰ·append-right (y .numbering .freed) (List·Memᴰ·head (sym (meant-number y n s e) ∙ ap (numberOf y) (eqb-true s b q))))
+          (λ q. Memᴰ·append-left (numberOf y b ∷ []) (N .freed-all n s e (rw q at j)));
+      counted = let k = N .counted in let j = join-count in rw (length-append (y .numbering .freed) (numberOf y b ∷ [])) (omega arith);
+    }
+
+  pub named-moves : (z : Day) → Moves y z → Named z
+  unfolding meant
+  named-moves z (enters c r u E) = record { few = N .few; used = N .used; low = N .low; means = N .means; freed-low = N .freed-low; freed-once = N .freed-once; freed-in = N .freed-in; freed-all = N .freed-all; counted = N .counted }
+  named-moves z (yields c l) = by (y .openBy c)
+    where
+      by : (q : Option ℕ) → Named (yield y c q)
+      by none = N
+      by (some t) = record { few = N .few; used = N .used; low = N .low; means = N .means; freed-low = N .freed-low; freed-once = N .freed-once; freed-in = N .freed-in; freed-all = N .freed-all; counted = N .counted }
+  named-moves z (forksAt r C) = named-fork r C
+  named-moves z (joinsInto a b H) = named-join a b H

@@ -1,0 +1,110 @@
+-- Cells that stand for the day's machine answer as the day does.
+use Prim.Native.Nat.{_<_, ℕ}
+use mathlib.Core.Bool.{Bool·not-not, _&&_, false, not}
+use mathlib.Core.Path.{_∙_, _≡_, ap, refl, sym}
+use mathlib.Core.Option.{Option, none, some}
+use native.Mathlib.Omega.{arith}
+use lib.Dec.{eqb, ltb}
+use lib.ListN.{length}
+use borrow.Author.Tests.{eq-eqb, eqb-false, eqb-true, lt-ltb, ltb-true, ne-eqb, not-false}
+use Rattle.lists.specs.Lists.{_∈_}
+use Rattle.lists.proofs.Cases.{cases}
+use Rattle.lists.proofs.Sums.{any-same}
+use Rattle.diagram.specs.Sizes.{clientLimit, revisionLimit, updateLimit}
+use Rattle.diagram.specs.Day.{Day, IsOut, meant, numberOf, outCount}
+use Rattle.diagram.specs.Day as Days
+use Rattle.diagram.specs.Checks as Day
+use Rattle.machine.specs.Machine.{Follows, Machine, revisionOf}
+use Rattle.diagram.proofs.Days.Moves.{joinable}
+use Rattle.diagram.proofs.Days.Naming.{meant-low, meant-number}
+use Rattle.cells.specs.Sizes.{clients, closed, main, revisions, stateNever}
+use Rattle.cells.specs.Cells.{Cells, nextNumber}
+use Rattle.cells.specs.Checks as Asked
+use Rattle.following.specs.Follow.{CellsFollow, isGiven}
+use Rattle.following.proofs.Cells.Laid.{Laid, same-number}
+use Rattle.following.proofs.Cells.Ordered.{order-is, shown-few}
+use Rattle.following.proofs.Cells.Represents.{Represents, count-is, given-few, number-is, openCell, stateCell}
+
+module _ (y : Day) (m : Machine) (k : Cells) (D : Follows y m) (L : Laid y m) (h : Represents y m k) where
+  -- a number that is given out
+  low : (n r : ℕ) → meant y n ≡ some r → n < revisions
+  low n r e = let a = L .named .low r (meant-low y n r e) in let b = h .given-is in let c = given-few y m k h L in let q = meant-number y n r e in omega arith
+
+  -- a revision out has a number exactly if the number means it
+  means-test : (x n r : ℕ) → IsOut y x → meant y n ≡ some r → eqb (numberOf y x) n ≡ eqb x r
+  means-test x n r o e =
+      cases (eqb x r)
+      (λ q. eq-eqb (numberOf y x) n (ap (numberOf y) (eqb-true x r q) ∙ meant-number y n r e) ∙ sym q)
+      (λ q. ne-eqb (numberOf y x) n (λ z. let a : meant y n ≡ some x = rw (← z) (L .named .means x o) in eqb-false x r q (cc)) ∙ sym q)
+
+  opened-is : (c : ℕ) → c < clients → k .opened c ≡ openCell (numberOf y) (revisionOf (y .transaction) (y .openBy c))
+  opened-is c l = h .opened-is c l ∙ ap (openCell (numberOf y)) (D .same-openOn c)
+
+  open-out : (c t : ℕ) → y .openBy c ≡ some t → IsOut y (y .transaction t .revision)
+  open-out c t e = L .out _ (L .open-out c (y .transaction t .revision) (D .same-openOn c ∙ ap (revisionOf (y .transaction)) e))
+
+  open-low : (c t : ℕ) → y .openBy c ≡ some t → numberOf y (y .transaction t .revision) < revisions
+  open-low c t e = low _ _ (L .named .means _ (open-out c t e))
+
+  is-on : (c n r : ℕ) → c < clients → meant y n ≡ some r → eqb (k .opened c) n ≡ Day.isOn y (y .openBy c) r
+  is-on c n r l g = rw (opened-is c l) (by (y .openBy c) refl)
+    where
+      by : (q : Option ℕ) → y .openBy c ≡ q → eqb (openCell (numberOf y) (revisionOf (y .transaction) q)) n ≡ Day.isOn y q r
+      by none e = let b = low n r g in ne-eqb closed n (λ z. omega arith)
+      by (some t) e = means-test (y .transaction t .revision) n r (open-out c t e) g
+
+  elsewhere : (c n r : ℕ) → c < clients → meant y n ≡ some r → Asked.openElsewhere k c n ≡ Day.isElsewhere y (y .openBy c) r
+  elsewhere c n r l g = rw (opened-is c l) (by (y .openBy c) refl)
+    where
+      by : (q : Option ℕ) → y .openBy c ≡ q
+          → (not (eqb (openCell (numberOf y) (revisionOf (y .transaction) q)) closed) && not (eqb (openCell (numberOf y) (revisionOf (y .transaction) q)) n)) ≡ Day.isElsewhere y q r
+      by none e = refl
+      by (some t) e = let b = open-low c t e in rw (ne-eqb (numberOf y (y .transaction t .revision)) closed (λ z. omega arith), means-test (y .transaction t .revision) n r (open-out c t e) g)
+
+  given-out : (n : ℕ) → Asked.givenOut k n ≡ isGiven (meant y n)
+  given-out n = rw (h .state-is n) (by (meant y n) refl)
+    where
+      by : (q : Option ℕ) → meant y n ≡ q → (ltb n revisions && not (eqb (stateCell (y .joined) q) stateNever)) ≡ isGiven q
+      by none e = cases (ltb n revisions) (λ q. rw q) (λ q. rw q)
+      by (some r) e = rw (lt-ltb n revisions (low n r e)) (cases (y .joined r) (λ q. rw q) (λ q. rw q))
+
+  joined-is : (n r : ℕ) → meant y n ≡ some r → Asked.joined k n ≡ y .joined r
+  joined-is n r e = rw (h .state-is n, e) (cases (y .joined r) (λ q. rw q) (λ q. rw q))
+
+  joinable-is : (a b : ℕ) → IsOut y a → IsOut y b → Asked.joinable k (numberOf y a) (numberOf y b) ≡ not (Day.notJoinable y a b)
+  joinable-is a b oa ob =
+      let i = D .laid a oa in
+      let j = D .laid b ob in
+      rw (h .seen-is a b i j, D .same-joinable a b oa ob)
+      (cases (Day.notJoinable y a b)
+      (λ e. rw e (cases (not (eqb (numberOf y b) main) && not (eqb (numberOf y a) (numberOf y b))) (λ q. rw q) (λ q. rw q)))
+      (λ e. let p = joinable y a b e in rw (e, same-number y m L a b i j, ne-eqb a b (λ q. eqb-false b a (p .1) (sym q)), main-test b j, p .0)))
+    where
+      main-test : (x : ℕ) → x ∈ m .layout → eqb (numberOf y x) main ≡ eqb x main
+      main-test x j = ap (eqb (numberOf y x)) (sym (h .main-number)) ∙ same-number y m L x main j (h .main-out)
+
+  left : Day.noneLeft y ≡ false → nextNumber k ≡ Days.nextNumber y
+  unfolding Day.noneLeft Days.nextNumber
+  left e = number-is y m k h L (ltb-true (outCount y) revisionLimit (not-false _ e))
+
+  pub answers : CellsFollow y k
+  unfolding clientLimit updateLimit revisionLimit Day.unknownClient Day.openElsewhere Day.busyByOther Day.busy Day.logFull Day.noneLeft
+  answers = record {
+    same-order = λ r o. order-is y m k h L r (D .laid r o) ∙ D .same-shown r o;
+    whole-order = λ r o. rw (D .same-shown r o) at (shown-few y m k h L r (D .laid r o));
+    same-own = λ r o. h .own-is r (D .laid r o) ∙ D .same-own r o;
+    same-client = λ c. sym (Bool·not-not (ltb c clients));
+    same-given = given-out;
+    same-joined = joined-is;
+    same-elsewhere = elsewhere;
+    same-busyByOther = λ c n r g. any-same clients _ _ (λ x l. ap (λ t. not (eqb x c) && t) (is-on x n r l g));
+    same-busy = λ n r g. any-same clients _ _ (λ x l. is-on x n r l g);
+    same-stale = λ c r l o. ap not (h .caught-is c r l (D .laid r o) ∙ D .same-caughtUp c r o) ∙ Bool·not-not (Day.stale y c r);
+    same-full = rw (h .updates-is, D .same-updates);
+    same-left = rw (h .out-is);
+    same-seen = λ a b oa ob. h .seen-is a b (D .laid a oa) (D .laid b ob) ∙ D .same-joinable a b oa ob;
+    same-joinable = joinable-is;
+    same-updates = h .updates-is ∙ D .same-updates;
+    same-number = left;
+    same-gain = λ b o. count-is y m k h b (D .laid b o) ∙ ap length (D .same-own b o);
+  }

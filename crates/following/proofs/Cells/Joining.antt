@@ -1,0 +1,164 @@
+-- A join: the cells follow.
+use Prim.Native.Nat.{_-_, _<_, suc, zero, ℕ}
+use mathlib.Core.Path.{_∙_, _≡_, ap, refl, sym}
+use mathlib.Core.Option.{Option, none, some}
+use mathlib.Core.List.{List, List·Memᴰ·head, List·Nodup, Memᴰ·cast, [], _++_, _∷_, append-nil}
+use native.Mathlib.Nat.{add-zero}
+use native.Mathlib.Omega.{arith}
+use lib.Dec.{eqb}
+use lib.ListN.{length-set, take}
+use lib.Seq.{length-take-le}
+use borrow.Author.Tests.{eq-eqb, eqb-false, eqb-true, ne-eqb}
+use Rattle.lists.specs.Lists.{_∈_, named, remove}
+use Rattle.lists.proofs.Blocks.{flatBack-nodup, flatBack-one}
+use Rattle.lists.proofs.Cases.{cases}
+use Rattle.lists.proofs.Grown.{first-append, grown-longer, grown-take}
+use Rattle.lists.proofs.Places.{remove-back, remove-gone, remove-keep}
+use Rattle.lists.proofs.Renamed.{named-in, named-remove}
+use Rattle.diagram.specs.Day.{Day, meant, numberOf}
+use Rattle.diagram.specs.Steps.{joinInto}
+use Rattle.diagram.proofs.Days.Moves.{CanJoin}
+use Rattle.diagram.proofs.Days.Naming.{join-count, meant-number}
+use Rattle.machine.specs.Machine.{Machine, joinOn}
+use Rattle.cells.specs.Sizes.{clients, main, revisions}
+use Rattle.cells.specs.Cells.{Cells, chain, own}
+use Rattle.cells.specs.CellSteps.{joinCells}
+use Rattle.cells.proofs.Chain.{chain-first, kept-chain, splice, walk}
+use Rattle.cells.proofs.Places.{join-freed, join-outs, remove-length}
+use Rattle.following.proofs.Cells.Laid.{Laid, apart, same-number}
+use Rattle.following.proofs.Cells.Represents.{Represents, all-given, count-is, given-few, stateCell}
+
+module _ (y : Day) (m : Machine) (k : Cells) (h : Represents y m k) (L : Laid y m) (a b : ℕ) (i : a ∈ m .layout) (j : b ∈ m .layout) (H : CanJoin y a b) where
+  abbrev na : ℕ
+  na = numberOf y a
+
+  abbrev nb : ℕ
+  nb = numberOf y b
+
+  abbrev y′ : Day
+  y′ = joinInto y a b
+
+  abbrev k′ : Cells
+  k′ = joinCells k na nb
+
+  abbrev m′ : Machine
+  m′ = joinOn m a b
+
+  was : (x : ℕ) → x ∈ m′ .layout → x ∈ m .layout
+  was x = remove-back b x (m .layout)
+
+  not-b : (x : ℕ) → x ∈ m′ .layout → x ≡ b → ⊥
+  not-b x o e = remove-gone b (m .layout) (L .lone) (Memᴰ·cast (sym e) o)
+
+  join-layout : take (k .out - 1) (k′ .layout) ≡ named (numberOf y) (remove b (m .layout))
+  join-layout =
+      let o = all-given y m k h L in
+      let g = given-few y m k h L in
+      join-outs k na nb (h .places) (omega arith) (rw (h .layout-is) (named-in (numberOf y) (m .layout) b j)) ∙ ap (remove nb) (h .layout-is)
+      ∙ sym (named-remove (numberOf y) b (m .layout) (λ x o. apart y m L x b o j))
+
+  -- a number that means another revision than b keeps its state
+  other-state : (q : Option ℕ) → (q ≡ some b → ⊥) → stateCell (y .joined) q ≡ stateCell (y′ .joined) q
+  other-state none d = refl
+  other-state (some r) d = rw (ne-eqb r b (λ e. d (ap (λ z. some z) e)))
+
+  join-state : (n : ℕ) → k′ .state n ≡ stateCell (y′ .joined) (meant y′ n)
+  unfolding meant
+  join-state n =
+      cases (eqb n nb)
+      (λ e. rw (e, eqb-true n nb e, L .named .means b (L .out b j), eq-eqb b b refl))
+      (λ e. rw e (h .state-is n ∙ other-state (meant y n) (λ q. eqb-false n nb e (sym (meant-number y n b q)))))
+
+  b-none : k .count nb ≡ 0 → m .own b ≡ []
+  unfolding chain
+  b-none e = sym (h .own-is b j) ∙ ap (chain (k .link) (k .last nb)) e
+
+  -- b's own list, where it is not empty, and its first entry
+  module _ (n : ℕ) (e : k .count nb ≡ suc n) where
+    abbrev w : ℕ
+    w = walk (k .link) (k .last nb) n
+
+    b-own : chain (k .link) (k .last nb) (suc n) ≡ m .own b
+    b-own = ap (chain (k .link) (k .last nb)) (sym e) ∙ h .own-is b j
+
+    b-some : m .own b ≡ w ∷ chain (k .link) (k .last nb) n
+    b-some = sym b-own ∙ chain-first (k .link) (k .last nb) n
+
+    b-first : k .first nb ≡ w
+    b-first = h .first-is b j w (chain (k .link) (k .last nb) n) b-some
+
+    b-once : List·Nodup (chain (k .link) (k .last nb) (suc n))
+    b-once = rw b-own (flatBack-nodup (m .own) b (m .layout) j (L .once))
+
+    -- it stands in no other list
+    b-apart : (x : ℕ) → x ∈ m .layout → (x ≡ b → ⊥) → w ∈ own k (numberOf y x) → ⊥
+    b-apart x o d t = d (flatBack-one (m .own) (m .layout) (L .once) x b w o j (rw (h .own-is x o) at t) (rw b-some (List·Memᴰ·head refl)))
+
+    own-some : (x : ℕ) → x ∈ m′ .layout → own k′ (numberOf y x) ≡ m′ .own x
+    own-some x o =
+        rw (ne-eqb (k .count nb) 0 (λ z. omega arith))
+        (rw (same-number y m L x a (was x o) i)
+        (cases (eqb x a)
+        (λ q. rw (q, b-first, e) (splice (k .link) (k .last na) (k .count na) (k .last nb) n b-once (b-apart a i (λ z. H .not-self (sym z))) ∙ rw (b-own, h .own-is a i)))
+        (λ q. rw (q, b-first) (kept-chain (k .link) w (k .last na) (k .last (numberOf y x)) (k .count (numberOf y x)) (b-apart x (was x o) (not-b x o)) ∙ h .own-is x (was x o)))))
+
+  own-none : k .count nb ≡ 0 → (x : ℕ) → x ∈ m′ .layout → own k′ (numberOf y x) ≡ m′ .own x
+  own-none e x o =
+      rw (eq-eqb (k .count nb) 0 e, same-number y m L x a (was x o) i)
+      (cases (eqb x a) (λ q. rw (q, eqb-true x a q, e, add-zero, b-none e, append-nil) (h .own-is a i)) (λ q. rw q (h .own-is x (was x o))))
+
+  join-own : (x : ℕ) → x ∈ m′ .layout → own k′ (numberOf y x) ≡ m′ .own x
+  join-own x o = by (k .count nb) refl
+    where
+      by : (n : ℕ) → k .count nb ≡ n → own k′ (numberOf y x) ≡ m′ .own x
+      by zero e = own-none e x o
+      by (suc n) e = own-some n e x o
+
+  join-first : (x : ℕ) → x ∈ m′ .layout → (f : ℕ) (l : List ℕ) → m′ .own x ≡ f ∷ l → k′ .first (numberOf y x) ≡ f
+  join-first x o f l =
+      cases (eqb (k .count nb) 0)
+      (λ z. rw z (cases (eqb x a)
+      (λ q. rw (q, eqb-true x a q, b-none (eqb-true (k .count nb) 0 z), append-nil) (h .first-is a i f l))
+      (λ q. rw q (h .first-is x (was x o) f l))))
+      (λ z. rw (z, same-number y m L x a (was x o) i) (cases (eqb x a)
+      (λ q. rw (q, count-is y m k h a i) (first-append (m .own a) (m .own b) (k .first na) (k .first nb) (h .first-is a i) (h .first-is b j) f l))
+      (λ q. rw q (h .first-is x (was x o) f l))))
+
+  join-seen : (x z : ℕ) → x ∈ m′ .layout → z ∈ m′ .layout → k′ .seen (numberOf y x) (numberOf y z) ≡ m′ .joinable x z
+  join-seen x z o p =
+      rw (same-number y m L x a (was x o) i)
+      (cases (eqb x a) (λ e. rw (e, h .seen-is a z i (was z p), h .seen-is b z j (was z p))) (λ e. rw e (h .seen-is x z (was x o) (was z p))))
+
+  join-caught : (c x : ℕ) → c < clients → x ∈ m′ .layout → k′ .caught c (numberOf y x) ≡ m′ .caughtUp c x
+  join-caught c x l o =
+      rw (same-number y m L x a (was x o) i)
+      (cases (eqb x a) (λ e. rw (e, h .caught-is c a l i, h .caught-is c b l j)) (λ e. rw e (h .caught-is c x l (was x o))))
+
+  pub joins : Represents y′ m′ k′
+  unfolding meant
+  joins =
+      let given = all-given y m k h L in
+      let few = given-few y m k h L in
+      let count = join-count y (L .named) a b H in
+      let out = h .out-is in
+      record {
+        layout-is = join-layout;
+        places = let p = h .places in let q = remove-length nb (k .layout) in length-take-le revisions (remove nb (k .layout) ++ (0 ∷ [])) (omega arith);
+        out-is = omega arith;
+        main-out = remove-keep b main (m .layout) (λ e. H .not-main (sym e)) (h .main-out);
+        main-number = h .main-number;
+        given-is = h .given-is;
+        freed-is = join-freed k na nb (h .queue-places) (omega arith) given few ∙ ap (λ l. l ++ (nb ∷ [])) (h .freed-is);
+        queue-places = length-set (k .queue) (k .given - k .out) nb ∙ h .queue-places;
+        state-is = join-state;
+        own-is = join-own;
+        first-is = join-first;
+        inherited-is = λ x o u. rw (grown-take (m .own) a (m .own b) (k .base (numberOf y x)) main (h .base-few x (was x o))) (h .inherited-is x (was x o) u);
+        base-few = λ x o. let p = h .base-few x (was x o) in let q = grown-longer (m .own) a (m .own b) main in omega arith;
+        main-inherits = h .main-inherits;
+        seen-is = join-seen;
+        caught-is = join-caught;
+        opened-is = h .opened-is;
+        updates-is = h .updates-is;
+        updates-few = h .updates-few;
+      }

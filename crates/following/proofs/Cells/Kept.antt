@@ -1,0 +1,142 @@
+-- What is carried along a run, and that each accepted step keeps it.
+use Prim.Native.Nat.{_<_, ℕ}
+use mathlib.Core.Bool.{Bool, false, not, true}
+use mathlib.Core.Path.{_∙_, _≡_, refl, sym}
+use mathlib.Core.List.{List, List·Memᴰ·head, [], _++_, _∷_}
+use native.Mathlib.Omega.{arith}
+use lib.Dec.{eqb}
+use lib.ListN.{length-replicate}
+use borrow.Author.Tests.{eqb-false, eqb-true, lt-ltb, ltb-true, ne-eqb, not-false, not-true}
+use Rattle.lists.specs.Lists.{_∈_}
+use Rattle.lists.proofs.Cases.{and-true, cases}
+use Rattle.lists.proofs.Places.{remove-keep}
+use Rattle.diagram.specs.Sizes.{revisionLimit, updateLimit}
+use Rattle.diagram.specs.Numbering.{next}
+use Rattle.diagram.specs.Day.{Day, IsOut, fresh, meant, numberOf}
+use Rattle.diagram.specs.Checks.{busyByOther, logFull, openElsewhere, stale, unknownClient}
+use Rattle.machine.specs.Machine.{Machine, enterOn, freshMachine, joinOn, machineAfter}
+use Rattle.diagram.specs.Steps.{Event, Fork, Join, Step, Yield, accepted, after, enter, joinInto, noneOf, notGiven}
+use Rattle.diagram.proofs.Days.Moves.{CanFork, can-enter, can-fork, can-join, step-moves}
+use Rattle.diagram.proofs.Days.Naming.{Named, named-fresh, named-moves, next-apart, next-given}
+use Rattle.machine.proofs.Follow.Agrees.{Agree, agree-fresh}
+use Rattle.machine.proofs.Follow.Shown.{agree-after, follows}
+use Rattle.cells.specs.Sizes.{clients, main, revisions, updates}
+use Rattle.cells.specs.Cells.{Cells, chain, nextNumber}
+use Rattle.cells.specs.CellSteps.{freshCells}
+use Rattle.following.specs.Reached.{byNumber, stepCells}
+use Rattle.following.proofs.Cells.Bounded.{Bounded, close-bounded, fork-bounded, fresh-bounded, join-bounded, query-bounded, update-bounded}
+use Rattle.following.proofs.Cells.Entering.{queries, updates-on, yields}
+use Rattle.following.proofs.Cells.Forking.{forks}
+use Rattle.following.proofs.Cells.Joining.{joins}
+use Rattle.following.proofs.Cells.Laid.{Laid, apart, laid, number-low}
+use Rattle.following.proofs.Cells.Represents.{Represents, number-is, out-low}
+
+pub record Kept (y : Day) (m : Machine) (k : Cells) : Type 0 where
+  pub agree : Agree y m
+  pub named : Named y
+  pub represents : Represents y m k
+  pub bounded : Bounded k
+
+fresh-represents : Represents fresh freshMachine freshCells
+unfolding chain meant
+fresh-represents = record {
+  layout-is = refl;
+  places = length-replicate {A = ℕ} revisions 0;
+  out-is = refl;
+  main-out = List·Memᴰ·head refl;
+  main-number = refl;
+  given-is = refl;
+  freed-is = refl;
+  queue-places = length-replicate {A = ℕ} revisions 1;
+  state-is = λ r. cases (eqb r main) (λ e. rw (e, eqb-true r main e)) (λ e. let d = eqb-false r main e in rw (e, ne-eqb main r (λ q. d (sym q))));
+  own-is = λ r i. refl;
+  first-is = λ r i f l e. cc;
+  inherited-is = λ r i u. refl;
+  base-few = λ r i. omega arith;
+  main-inherits = refl;
+  seen-is = λ a b i j. refl;
+  caught-is = λ c r l i. rw (lt-ltb c clients l);
+  opened-is = λ c l. rw (lt-ltb c clients l);
+  updates-is = refl;
+  updates-few = omega arith;
+}
+
+pub fresh-kept : Kept fresh freshMachine freshCells
+fresh-kept = record { agree = agree-fresh; named = named-fresh; represents = fresh-represents; bounded = fresh-bounded }
+
+-- where no check has found anything, the last has not
+last-quiet : (bs : List Bool) (b : Bool) → noneOf (bs ++ (b ∷ [])) ≡ true → b ≡ false
+last-quiet [] b e = not-true b (and-true (not b) true e .0)
+last-quiet (x ∷ bs) b e = last-quiet bs b (and-true (not x) (noneOf (bs ++ (b ∷ []))) e .1)
+
+module _ (y : Day) (m : Machine) (k : Cells) (K : Kept y m k) where
+  abbrev A : Agree y m
+  A = K .agree
+
+  abbrev h : Represents y m k
+  h = K .represents
+
+  abbrev L : Laid y m
+  L = laid y m A (K .named)
+
+  there : (r : ℕ) → IsOut y r → r ∈ m .layout
+  there r o = follows y m A .laid r o
+
+  -- a revision out has a number of the table, and only the main revision has 0
+  pub low : (r : ℕ) → IsOut y r → numberOf y r < revisions
+  low r o = out-low y m k h L r (there r o)
+
+  pub not-main : (r : ℕ) → IsOut y r → (r ≡ main → ⊥) → 0 < numberOf y r
+  not-main r o d =
+      let e : numberOf y r ≡ main → ⊥ = λ q. d (apart y m L r main (there r o) (h .main-out) (q ∙ sym (h .main-number))) in
+      omega arith
+
+  pub some-given : 0 < k .given
+  some-given = let a = number-low y m L main (h .main-out) in let b = h .given-is in omega arith
+
+  -- an update is accepted only if the log has room; a fork gives a number that is not the main revision's
+  pub log-room : (c r : ℕ) → accepted y (Event c r true) ≡ true → k .updates < updates
+  unfolding accepted logFull updateLimit
+  log-room c r e =
+      let room = last-quiet (unknownClient c ∷ notGiven y r ∷ y .joined r ∷ openElsewhere y c r ∷ busyByOther y c r ∷ stale y c r ∷ []) (logFull y) e in
+      rw (h .updates-is, A .same-updates) (ltb-true (y .updates) updates (not-false _ room))
+
+  module _ (r : ℕ) (e : accepted y (Fork r) ≡ true) where
+    abbrev C : CanFork y r
+    C = can-fork y r e
+
+    pub next-is : nextNumber k ≡ next (y .numbering)
+    next-is = number-is y m k h L (C .room)
+
+    pub next-low : nextNumber k < revisions
+    unfolding revisionLimit
+    next-low = let a = next-given y (K .named) r C in let q = next-is in omega arith
+
+    pub next-some : nextNumber k ≡ 0 → ⊥
+    next-some z = next-apart y (K .named) r C main (L .out main (h .main-out)) (h .main-number ∙ sym z ∙ next-is)
+
+  represents-after : (s : Step) → accepted y s ≡ true → Represents (after y s) (machineAfter m s) (stepCells k (byNumber y s))
+  unfolding stepCells machineAfter after
+  represents-after (Event c r true) e = updates-on y m k h L c r (there r (can-enter y c r true e .out)) (log-room c r e)
+  represents-after (Event c r false) e = queries y m k h L c r (there r (can-enter y c r false e .out))
+  represents-after (Yield c) e = yields y m k h c (y .openBy c)
+  represents-after (Fork r) e = forks y m k h L r (there r (can-fork y r e .out)) (can-fork y r e)
+  represents-after (Join a b) e = let j = can-join y a b e in joins y m k h L a b (there a (j .out-a)) (there b (j .out-b)) j
+
+  bounded-after : (s : Step) → accepted y s ≡ true → Laid (after y s) (machineAfter m s) → Represents (after y s) (machineAfter m s) (stepCells k (byNumber y s)) → Bounded (stepCells k (byNumber y s))
+  unfolding stepCells machineAfter after
+  bounded-after (Event c r true) e L′ h′ = update-bounded k (K .bounded) (enter y c r true) (enterOn m c r true) L′ c r h′ (there r (can-enter y c r true e .out)) (log-room c r e)
+  bounded-after (Event c r false) e L′ h′ = query-bounded k (K .bounded) c (numberOf y r)
+  bounded-after (Yield c) e L′ h′ = close-bounded k (K .bounded) c
+  bounded-after (Fork r) e L′ h′ = fork-bounded k (K .bounded) (numberOf y r) (nextNumber k) (next-low r e)
+  bounded-after (Join a b) e L′ h′ =
+      let j = can-join y a b e in
+      join-bounded k (K .bounded) (joinInto y a b) (joinOn m a b) L′ a (numberOf y b) h′ (remove-keep b a (m .layout) (λ q. j .not-self (sym q)) (there a (j .out-a)))
+      (not-main b (j .out-b) (j .not-main)) (low b (j .out-b))
+
+  pub kept-after : (s : Step) → accepted y s ≡ true → Kept (after y s) (machineAfter m s) (stepCells k (byNumber y s))
+  kept-after s e =
+      let A′ = agree-after y m s e A in
+      let N′ = named-moves y (K .named) (after y s) (step-moves y s e) in
+      let h′ = represents-after s e in
+      record { agree = A′; named = N′; represents = h′; bounded = bounded-after s e (laid (after y s) (machineAfter m s) A′ N′) h′ }

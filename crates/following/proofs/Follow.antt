@@ -1,0 +1,70 @@
+-- For every run of accepted steps the cells, and the bytes, reached from fresh agree with the day.
+use Prim.Native.Nat.{ℕ}
+use mathlib.Core.Bool.{true}
+use mathlib.Core.Path.{_≡_, subst, sym}
+use mathlib.Core.List.{List, [], _∷_}
+use Rattle.diagram.specs.Day.{Day, fresh}
+use Rattle.machine.specs.Machine.{Machine, freshMachine, machineAfter, machineFrom}
+use Rattle.diagram.specs.Steps.{Accepted, AcceptedFrom, Step, accepted, after, run, runFrom}
+use Rattle.machine.proofs.Follow.Shown.{follows}
+use Rattle.cells.specs.Cells.{Cells}
+use Rattle.cells.specs.CellSteps.{freshCells}
+use Rattle.cells.specs.Decode.{cells}
+use Rattle.cells.specs.Steps.{freshBytes}
+use Rattle.following.specs.Follow.{BytesFollowDays, CellsFollow, CellsFollowDays, ChecksFollowDays}
+use Rattle.following.specs.Reached.{byNumber, bytesAfter, bytesFrom, cellsAfter, cellsFrom, stepBytes, stepCells}
+use Rattle.following.proofs.Cells.Answers.{answers}
+use Rattle.following.proofs.Cells.Kept.{Kept, fresh-kept, kept-after}
+use Rattle.following.proofs.Cells.Laid.{laid}
+use Rattle.following.proofs.Cells.Passing.{passing}
+use Rattle.following.proofs.Cells.Numbers.{numbers-follow}
+use Rattle.following.specs.Numbers.{NumbersFollowDays}
+use Rattle.following.proofs.Bytes.Ranged.{ranged}
+use Rattle.following.proofs.Bytes.Stored.{Stored, fresh-stored, step-stored}
+
+kept-follows : (y : Day) (m : Machine) (k : Cells) → Kept y m k → CellsFollow y k
+kept-follows y m k K = answers y m k (follows y m (K .agree)) (laid y m (K .agree) (K .named)) (K .represents)
+
+kept-from : (ss : List Step) (y : Day) (m : Machine) (k : Cells) → AcceptedFrom y ss → Kept y m k → Kept (runFrom y ss) (machineFrom m ss) (cellsFrom y k ss)
+unfolding runFrom machineFrom cellsFrom
+kept-from [] y m k P K = K
+kept-from (s ∷ ss) y m k P K = kept-from ss (after y s) (machineAfter m s) (stepCells k (byNumber y s)) (P .1) (kept-after y m k K s (P .0))
+
+kept-run : (ss : List Step) → Accepted ss → Kept (run ss) (machineFrom freshMachine ss) (cellsAfter ss)
+unfolding run cellsAfter
+kept-run ss P = kept-from ss fresh freshMachine freshCells P fresh-kept
+
+pub cells-follow : CellsFollowDays
+cells-follow ss P = kept-follows (run ss) (machineFrom freshMachine ss) (cellsAfter ss) (kept-run ss P)
+
+-- the bytes keep these cells
+stored-after : (y : Day) (m : Machine) (k : Cells) (d : List ℕ) (s : Step) → accepted y s ≡ true → Kept y m k → Stored d k → Stored (stepBytes d (byNumber y s)) (stepCells k (byNumber y s))
+stored-after y m k d s e K S =
+    let e′ = S .cells-are in
+    subst (λ z. Stored (stepBytes d (byNumber y s)) (stepCells z (byNumber y s))) e′ (step-stored y m d (subst (Kept y m) (sym e′) K) (S .size-is) (S .hidden) s e)
+
+stored-from : (ss : List Step) (y : Day) (m : Machine) (k : Cells) (d : List ℕ) → AcceptedFrom y ss → Kept y m k → Stored d k → Stored (bytesFrom y d ss) (cellsFrom y k ss)
+unfolding bytesFrom cellsFrom
+stored-from [] y m k d P K S = S
+stored-from (s ∷ ss) y m k d P K S = stored-from ss (after y s) (machineAfter m s) (stepCells k (byNumber y s)) (stepBytes d (byNumber y s)) (P .1) (kept-after y m k K s (P .0)) (stored-after y m k d s (P .0) K S)
+
+stored-run : (ss : List Step) → Accepted ss → Stored (bytesAfter ss) (cellsAfter ss)
+unfolding bytesAfter cellsAfter
+stored-run ss P = stored-from ss fresh freshMachine freshCells freshBytes P fresh-kept fresh-stored
+
+pub same-cells : (ss : List Step) → Accepted ss → cells (bytesAfter ss) ≡ cellsAfter ss
+same-cells ss P = stored-run ss P .cells-are
+
+pub bytes-follow : BytesFollowDays
+bytes-follow ss P =
+    let S = stored-run ss P in
+    let y = run ss in
+    let m = machineFrom freshMachine ss in
+    let K = subst (Kept y m) (sym (S .cells-are)) (kept-run ss P) in
+    record { size = S .size-is; ranged = ranged y m (bytesAfter ss) K (S .hidden); follow = kept-follows y m (cells (bytesAfter ss)) K }
+
+pub checks-follow : ChecksFollowDays
+checks-follow ss P = passing (run ss) (cells (bytesAfter ss)) (bytes-follow ss P .follow)
+
+pub numbers-follow-days : NumbersFollowDays
+numbers-follow-days ss P = numbers-follow (run ss) (cells (bytesAfter ss)) (bytes-follow ss P .follow)

@@ -1,0 +1,41 @@
+-- The same agreement over box numbers, as a table is asked: `meant` says which revision a number means on the day.
+use Prim.Native.Nat.{ℕ, _<_}
+use mathlib.Core.Bool.{false, not}
+use mathlib.Core.Path.{_≡_}
+use mathlib.Core.Option.{some}
+use mathlib.Core.List.{List}
+use lib.ListN.{length}
+use Rattle.diagram.specs.Effects
+use Rattle.diagram.specs.Day.{Day, meant}
+use Rattle.diagram.specs.Checks
+use Rattle.diagram.specs.Steps.{Step, Accepted, run}
+use Rattle.cells.specs.Sizes.{clients}
+use Rattle.cells.specs.Cells.{Cells}
+use Rattle.cells.specs.Order.{order}
+use Rattle.cells.specs.Checks as Asked
+use Rattle.cells.specs.Decode.{cells}
+use Rattle.following.specs.Reached.{bytesAfter}
+use Rattle.following.specs.Follow.{isGiven}
+
+-- number n, which means a revision r that is out
+pub record NumberOut (y : Day) (k : Cells) (n r : ℕ) : Type 0 where
+  pub same-order : order k n ≡ Effects.view (y .diagram) (y .terminal r)
+  pub same-gain : k .count n ≡ length (Effects.own (y .diagram) (y .terminal r))
+  pub same-stale : (c : ℕ) → c < clients → Asked.stale k c n ≡ Checks.stale y c r
+
+-- number n, which means revision r
+pub record Number (y : Day) (k : Cells) (n r : ℕ) : Type 0 where
+  pub same-joined : Asked.joined k n ≡ y .joined r
+  pub same-elsewhere : (c : ℕ) → c < clients → Asked.openElsewhere k c n ≡ Checks.openElsewhere y c r
+  pub same-busyByOther : (c : ℕ) → Asked.busyByOther k c n ≡ Checks.busyByOther y c r
+  pub same-busy : Asked.busy k n ≡ Checks.busy y r
+  pub out : y .joined r ≡ false → NumberOut y k n r
+
+pub record NumbersFollow (y : Day) (k : Cells) : Type 0 where
+  pub same-given : (n : ℕ) → Asked.givenOut k n ≡ isGiven (meant y n)
+  pub number : (n r : ℕ) → meant y n ≡ some r → Number y k n r
+  pub same-joinable : (n m a b : ℕ) → meant y n ≡ some a → meant y m ≡ some b → y .joined a ≡ false → y .joined b ≡ false
+      → Asked.joinable k n m ≡ not (Checks.notJoinable y a b)
+
+abbrev pub NumbersFollowDays : Type 0
+NumbersFollowDays = (ss : List Step) → Accepted ss → NumbersFollow (run ss) (cells (bytesAfter ss))

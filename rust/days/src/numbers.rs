@@ -1,0 +1,89 @@
+//! 02, U7: "A fork now takes a never-used number while there is one, else the number handed in longest
+//! ago. Code 10 is given exactly if 64 boxes are out."
+
+use std::collections::{BTreeMap, BTreeSet};
+
+use calls::{Answer, Call, Code, REVISIONS};
+
+/// The first call of a day that takes another number than it should, or finds a number never given,
+/// handed in or out where it is not, in words. `make` makes one call, on a table that was fresh.
+pub fn fault_of_numbers<D>(
+    mut day: D,
+    calls: &[Call],
+    make: impl Fn(&mut D, &Call) -> Answer,
+) -> Option<String> {
+    let mut history = History { out: BTreeSet::from([0]), handed_in: BTreeMap::new() };
+    calls.iter().enumerate().find_map(|(at, call)| {
+        let answer = make(&mut day, call);
+        let fault = history.fault(call, &answer);
+        history.learn(at, call, &answer);
+        fault.map(|fault| format!("`{call}`: gives {answer}, but {fault}"))
+    })
+}
+
+/// What the calls and their answers say, with no look at the table.
+struct History {
+    /// The numbers that are out.
+    out: BTreeSet<u8>,
+    /// Those that are not, but were: each with the place of the call that handed it in last.
+    handed_in: BTreeMap<u8, usize>,
+}
+
+impl History {
+    fn learn(&mut self, at: usize, call: &Call, answer: &Answer) {
+        match *call {
+            _ if answer.code != Code::Accepted => {}
+            Call::Fork { .. } => {
+                self.out.insert(answer.value as u8);
+                self.handed_in.remove(&(answer.value as u8));
+            }
+            Call::Join { joinee, .. } => {
+                self.out.remove(&joinee);
+                self.handed_in.insert(joinee, at);
+            }
+            _ => {}
+        }
+    }
+
+    /// The number that a fork takes; none if 64 revisions are out.
+    fn next(&self) -> Option<u8> {
+        let used = |number: &u8| self.out.contains(number) || self.handed_in.contains_key(number);
+        let longest_ago = || self.handed_in.iter().min_by_key(|(_, &at)| at);
+        (0..REVISIONS).find(|number| !used(number)).or(longest_ago().map(|(&number, _)| number))
+    }
+
+    fn fault(&self, call: &Call, answer: &Answer) -> Option<String> {
+        let never =
+            |number: &u8| !self.out.contains(number) && !self.handed_in.contains_key(number);
+        let named = named(call);
+        let right = match answer.code {
+            Code::NeverGiven => named.iter().any(never),
+            Code::Joined => named.iter().any(|number| self.handed_in.contains_key(number)),
+            Code::UnknownClient | Code::WrongBundle => true,
+            _ => named.iter().all(|number| self.out.contains(number)),
+        };
+        if !right {
+            return Some(format!("out are {:?}, handed in {:?}", self.out, self.handed_in));
+        }
+        let Call::Fork { .. } = call else { return None };
+        match (answer.code, self.next()) {
+            (Code::Accepted, Some(next)) if answer.value == u32::from(next) => None,
+            (Code::Accepted, next) => Some(format!("the next number is {next:?}")),
+            (Code::NoneLeft, Some(next)) => Some(format!("number {next} is left")),
+            _ => None,
+        }
+    }
+}
+
+/// The numbers of revisions that a call names.
+fn named(call: &Call) -> Vec<u8> {
+    match *call {
+        Call::Yield { .. } => vec![],
+        Call::Update { revision, .. } | Call::Query { revision, .. } => vec![revision],
+        Call::Bundle { revision, .. } | Call::List { revision, .. } => vec![revision],
+        Call::Fork { revision } | Call::Fill { revision } => vec![revision],
+        Call::Join { joiner, joinee } | Call::Preview { joiner, joinee, .. } => {
+            vec![joiner, joinee]
+        }
+    }
+}
