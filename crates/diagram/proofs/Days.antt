@@ -1,8 +1,8 @@
 -- The day after every run of accepted steps: its diagram has a layout, and its transactions are whole.
+pub mod Accepting
 pub mod Moves
 pub mod Naming
 pub mod Waiting
-pub mod Accepting
 pub mod Real
 pub mod Sound
 pub mod Outside

@@ -10,9 +10,8 @@ use lib.ListN.{length}
 use Rattle.lists.specs.Lists.{_∈_, _⊑_, flat, Only}
 use Rattle.diagram.specs.Diagram.{Vertex, event, Diagram, HasPath}
 use Rattle.diagram.specs.Effects.{view, number, numbers}
-use Rattle.diagram.specs.Day.{Day, fresh, IsOut}
-use Rattle.diagram.specs.Checks.{busy}
-use Rattle.diagram.specs.Steps.{Step, Event, after, run}
+use Rattle.diagram.specs.Day.{Day, fresh, IsOut, IsIdle}
+use Rattle.diagram.specs.Steps.{Step, Event, after, run, nextVertex}
 
 -- 01, "Words": "Event: a taken update or query", by its vertex
 pub data IsEvent (x : ℕ) : Diagram → Type 0 where
@@ -94,15 +93,15 @@ pub record Arbitration (ss : List Step) : Type 0 where
   pub in-order : (r : ℕ) → IsOut (run ss) r → view (run ss .diagram) (run ss .terminal r) ⊑ numbers (run ss .diagram) (flat (eventsOf (run ss)) order)
   -- "A taken query answers as its bib stands after the updates it sees, and no others": these are the view at the query
   pub queries : (before rest : List Step) (c r : ℕ) → ss ≡ before ++ (Event c r false ∷ rest)
-      → Shows (run ss) order (length (run before .diagram)) (view (after (run before) (Event c r false) .diagram) (length (run before .diagram)))
+      → Shows (run ss) order (nextVertex before) (view (after (run before) (Event c r false) .diagram) (nextVertex before))
   -- and so is what any vertex showed at any time of the run
   pub ever : (before rest : List Step) → ss ≡ before ++ rest → (x : ℕ) → x < length (run before .diagram) → Shows (run ss) order x (view (run before .diagram) x)
   -- "For a box that stays out, the list before a call begins the list after it."
   pub grows : ExtendsEach fresh ss
   -- "A vertex outside a transaction sees all its events or none, and any only if its yield came before the vertex."
   pub whole : (t x : ℕ) → t < run ss .transactions → x < length (run ss .diagram) → (x ∈ eventsOf (run ss) t → ⊥) → WholeAt (run ss) t x x
-  -- "A taken list shows its updates likewise": at any time, of a revision that is out and not busy
-  pub lists : (before rest : List Step) → ss ≡ before ++ rest → (r : ℕ) → IsOut (run before) r → busy (run before) r ≡ false
+  -- "A taken list shows its updates likewise": at any time, of a revision that is out and idle
+  pub lists : (before rest : List Step) → ss ≡ before ++ rest → (r : ℕ) → IsOut (run before) r → IsIdle (run before) r
       → (t : ℕ) → t < run before .transactions → WholeAt (run before) t (run before .terminal r) (length (run before .diagram))
   -- "Each event of a tablet's later transaction sees each event of its earlier ones."
   pub sessions : (s t e f : ℕ) → s < t → t < run ss .transactions → run ss .transaction s .client ≡ run ss .transaction t .client

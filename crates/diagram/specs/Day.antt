@@ -71,6 +71,13 @@ numberOf y r = y .numbering .of r
 abbrev pub IsOut : Day → ℕ → Type 0
 IsOut y r = (r < y .revisions) × (y .joined r ≡ false)
 
+-- 01, "Words": "Busy: a box on which some tablet has an open transaction"
+abbrev pub IsBusy : Day → ℕ → Type 0
+IsBusy y r = (c : ℕ) × (t : ℕ) × (y .openBy c ≡ some t) × (y .transaction t .revision ≡ r)
+
+abbrev pub IsIdle : Day → ℕ → Type 0
+IsIdle y r = IsBusy y r → ⊥
+
 -- how many are out
 abbrev pub outCount : Day → ℕ
 outCount y = sumBelow (y .revisions) (λ r. cond (y .joined r) 0 1)

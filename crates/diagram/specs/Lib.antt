@@ -15,4 +15,5 @@ pub mod Pool
 pub mod Counts
 pub mod Arbitration
 pub mod Witness
+pub mod Lawful
 pub mod Examples

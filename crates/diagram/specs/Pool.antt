@@ -6,7 +6,7 @@ use mathlib.Core.Logic.{_↔_}
 use mathlib.Core.List.{List, [], _∷_}
 use lib.Dec.{eqb}
 use Rattle.diagram.specs.Day.{Day, IsOut, fresh}
-use Rattle.diagram.specs.Checks.{notJoinable}
+use Rattle.diagram.specs.Construction.{Joinable}
 use Rattle.diagram.specs.Steps.{Step, Event, Yield, Fork, Join, after, run}
 
 -- whether the second server is in the set J of the first
@@ -35,6 +35,6 @@ poolFrom y J (s ∷ ss) = poolFrom (after y s) (poolAfter y J s) ss
 unfoldable pub pool : List Step → Pool
 pool ss = poolFrom fresh (λ a b. false) ss
 
--- code 11 is the pool's rule: "s2 ∈ J1"
+-- 01's join rule is the pool's: "s2 ∈ J1"
 abbrev pub ByPool : List Step → Type 0
-ByPool ss = (a b : ℕ) → IsOut (run ss) a → IsOut (run ss) b → (notJoinable (run ss) a b ≡ false) ↔ (pool ss a b ≡ true)
+ByPool ss = (a b : ℕ) → IsOut (run ss) a → IsOut (run ss) b → Joinable (run ss .diagram) (run ss .terminal a) (run ss .terminal b) ↔ (pool ss a b ≡ true)

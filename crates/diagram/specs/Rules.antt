@@ -1,17 +1,14 @@
--- Demand 2 on every run of accepted steps: the diagram is made by 002's steps with 01's join rule, the tests of codes 8 and 11 are
--- those about paths, and what is listed at a vertex is 002's composition of effects.
+-- Demand 2 on every run of accepted steps: the diagram is made by 002's steps with 01's join rule, and what is listed at a vertex is 002's
+-- composition of effects.
 use Prim.Native.Nat.{ℕ, _<_}
-use mathlib.Core.Bool.{true, false}
 use mathlib.Core.Path.{_≡_}
-use mathlib.Core.Logic.{_↔_}
 use mathlib.Core.List.{List}
 use lib.ListN.{length}
-use Rattle.diagram.specs.Diagram.{HasPath, Terminal, leads}
-use Rattle.diagram.specs.Construction.{Constructed, Joinable}
+use Rattle.diagram.specs.Diagram.{Terminal}
+use Rattle.diagram.specs.Construction.{Constructed}
 use Rattle.diagram.specs.RootPaths.{Composed}
 use Rattle.diagram.specs.Effects.{startVertex}
 use Rattle.diagram.specs.Day.{IsOut}
-use Rattle.diagram.specs.Checks.{notJoinable}
 use Rattle.diagram.specs.Steps.{Step, run}
 
 pub record ByRules (ss : List Step) : Type 0 where
@@ -20,9 +17,5 @@ pub record ByRules (ss : List Step) : Type 0 where
   -- 01, "Words": "Line end: the last vertex of a box that is out (002: terminal)": it is a terminal, of the revision that started at the start vertex kept
   pub terminals : (r : ℕ) → IsOut (run ss) r → Terminal (run ss .diagram) (run ss .terminal r)
   pub starts : (r : ℕ) → r < run ss .revisions → startVertex (run ss .diagram) (run ss .terminal r) ≡ run ss .startOf r
-  -- code 11: "its fork isn't seen, or its start is", with "joinee is box 0, is the joiner"
-  pub joins : (a b : ℕ) → IsOut (run ss) a → IsOut (run ss) b → (notJoinable (run ss) a b ≡ false) ↔ Joinable (run ss .diagram) (run ss .terminal a) (run ss .terminal b)
-  -- the test behind codes 8 and 11
-  pub paths : (x y : ℕ) → (leads (run ss .diagram) x y ≡ true) ↔ HasPath (run ss .diagram) x y
   -- 002, Definitions 8 and 9
   pub composed : (x : ℕ) → x < length (run ss .diagram) → Composed (run ss .diagram) x

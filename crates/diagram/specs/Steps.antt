@@ -133,7 +133,7 @@ after y (Yield c) = yield y c (y .openBy c)
 after y (Fork r) = forkAt y r
 after y (Join a b) = joinInto y a b
 
--- a run from a day, and from the fresh one; `Accepted`: each step is accepted when it comes
+-- a run from a day, and from the fresh one
 unfoldable pub runFrom : Day → List Step → Day
 runFrom y [] = y
 runFrom y (s ∷ ss) = runFrom (after y s) ss
@@ -141,6 +141,11 @@ runFrom y (s ∷ ss) = runFrom (after y s) ss
 unfoldable pub run : List Step → Day
 run ss = runFrom fresh ss
 
+-- the next vertex after some steps: that of an event which is entered then
+abbrev pub nextVertex : List Step → ℕ
+nextVertex ss = length (run ss .diagram)
+
+-- each step is accepted when it comes
 abbrev pub AcceptedFrom : Day → List Step → Type 0
 AcceptedFrom y [] = Unit {0}
 AcceptedFrom y (s ∷ ss) = (accepted y s ≡ true) × AcceptedFrom (after y s) ss

@@ -75,7 +75,7 @@ note-ran p x c r kind bib v ss many a R = record {
   kept = λ i l. R .kept i (omega arith) ∙ changed-other (p .entries) (p .day .updates) _ i (λ q. omega arith);
 }
 
-meant-noted : (p : PlainDay) (c r : ℕ) (kind : Kind) (bib v n : ℕ) → meant (noted p c r kind bib v .day) n ≡ meant (p .day) n
+pub meant-noted : (p : PlainDay) (c r : ℕ) (kind : Kind) (bib v n : ℕ) → meant (noted p c r kind bib v .day) n ≡ meant (p .day) n
 unfolding meant after
 meant-noted p c r kind bib v n = refl
 

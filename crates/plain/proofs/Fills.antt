@@ -1,5 +1,5 @@
 -- What fills tell adds up to the updates accepted, after every list of calls (02, U1).
-use Prim.Native.Nat.{ℕ, suc, _+_, _<_, _≤_}
+use Prim.Native.Nat.{ℕ, suc, _+_, _≤_}
 use mathlib.Core.Path.{_≡_, refl, _∙_, ap, sym}
 use mathlib.Core.Option.{Option, none, some}
 use mathlib.Core.List.{List, [], _∷_}
@@ -23,7 +23,8 @@ use Rattle.plain.specs.Fills.{countsOne, acceptedIn, codesOf, FillsAddUp
 use Rattle.plain.specs.Taken.{stepsAfter}
 use Rattle.plain.proofs.Bundles.{bundle-ends, bundle-ran}
 use Rattle.plain.proofs.Ends.{Ends, no, yes, was-taken, update-ends, query-ends, yield-ends, fork-ends, join-ends, show-ends, fill-ends, preview-ends}
-use Rattle.plain.proofs.LineUp.{lined-up, named}
+use Rattle.plain.proofs.LineUp.{named}
+use Rattle.plain.proofs.Steps.{all-accepted, same-day}
 
 -- how many updates a call adds: what it counts
 abbrev Adds : PlainDay → Call → Outcome → Type 0
@@ -92,7 +93,7 @@ unfolding meant
 over-numbers y N = sum-latest (y .numbering .of) (ownIfOut y) (y .numbering .given) (y .revisions) (N .low) (λ s r k l e. rw (earlier-in y N s r k l e))
 
 adds-up : (cs : List Call) → OwnAddsUp (dayAfter cs .day)
-adds-up cs = let L = lined-up cs in rw (L .steps) (own-adds-up (stepsAfter cs) (L .accepted))
+adds-up cs = rw (same-day cs) (own-adds-up (stepsAfter cs) (all-accepted cs))
 
 pub fills-add-up : (cs : List Call) → FillsAddUp cs
 fills-add-up cs = record {

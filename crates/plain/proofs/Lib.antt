@@ -2,9 +2,9 @@
 pub mod Edges
 pub mod Ends
 pub mod Bundles
+pub mod Steps
 pub mod Exactly
 pub mod Values
-pub mod Steps
 pub mod Previews
 pub mod LineUp
 pub mod Never

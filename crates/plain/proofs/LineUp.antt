@@ -11,18 +11,18 @@ use Rattle.diagram.proofs.Days.Naming.{Named, meant-low}
 use Rattle.diagram.proofs.Days.Moves.{step-moves}
 use Rattle.diagram.proofs.Graph.Visible.{visible}
 use Rattle.diagram.proofs.Graph.Tables.{tabulate-newest}
-use Rattle.diagram.proofs.Order.Growth.{Fine, extends, fine-fresh, tabulate-stays}
+use Rattle.diagram.proofs.Order.Growth.{Fine, busy-idle, extends, fine-fresh, tabulate-stays}
 use Rattle.diagram.proofs.Order.Inherited.{entry-is}
 use Rattle.diagram.proofs.Order.Rules.{by-rules}
 use Rattle.diagram.proofs.Order.Reuse.{by-numbers, takes}
 use Rattle.machine.proofs.Follow.Pool.{by-pool}
 use Rattle.diagram.proofs.Order.Runs.{accepted-first, along, fine-run, fine-step, older-from, run-step, named-run}
+use Rattle.diagram.proofs.Order.Lawful.{runs-exactly}
 use Rattle.diagram.proofs.Order.Theorem.{arbitration}
 use Rattle.diagram.proofs.Order.Witness.{witness}
 use Rattle.diagram.specs.Arbitration.{Arbitration, Extends, WholeAt}
-use Rattle.diagram.specs.Checks.{busy}
 use Rattle.diagram.specs.Construction.{entered}
-use Rattle.diagram.specs.Day.{Day, IsOut, meant}
+use Rattle.diagram.specs.Day.{Day, IsIdle, IsOut, meant}
 use Rattle.diagram.specs.Reuse.{Takes}
 use Rattle.diagram.specs.Effects.{entry, number, numberStep, view}
 use Rattle.diagram.specs.Steps as Steps
@@ -35,12 +35,12 @@ use Rattle.plain.proofs.Ends.{QueryTaken, ShowTaken, UpdateTaken, fork-
 use Rattle.plain.proofs.Exactly.{exactly}
 use Rattle.plain.proofs.Values.{fill-value, fork-none, fork-value, join-value}
 use Rattle.plain.proofs.Previews.{foresees}
-use Rattle.plain.proofs.Steps.{day-both, did, ran, steps-both}
-use Rattle.plain.specs.Taken.{bundleSteps, ifTaken, onRevision, stepOf, stepsAfter, stepsFrom, stepsOf}
+use Rattle.plain.proofs.Steps.{all-accepted, day-both, did, ran, same-day, steps-both}
+use Rattle.plain.specs.Taken.{bundleSteps, endOf, ifTaken, onRevision, stepOf, stepsAfter, stepsFrom, stepsOf}
 use Rattle.plain.specs.Answers.{called, dayAfter, dayFrom, shown, stepped}
 use Rattle.plain.specs.Calls.{Bundle, Call, Entry, Fill, Fork, Join, Query, Show, Update, Yield, Preview, Batch, entriesOf}
 use Rattle.plain.specs.Bundles.{AllTaken, Bundled, parts}
-use Rattle.plain.specs.LineUp.{AnsweredBy, GrowsEach, LineUp, ListedBy, Taken, endOf}
+use Rattle.plain.specs.LineUp.{AnsweredBy, GrowsEach, LineUp, ListedBy, Taken}
 use Rattle.plain.specs.Record.{PlainDay, freshDay, linesOf, noted, ofBib, pathResult, standingOf}
 use Rattle.updates.specs.Applied.{applied, freshStanding}
 use Rattle.updates.specs.Effect.{stateOf, valueIn}
@@ -64,14 +64,6 @@ ofBib-same f g bib (n ∷ ns) h = rw (h n (List·Memᴰ·head refl), ofBib-same 
 pub linesOf-same : (f g : ℕ → Entry) (ns : List ℕ) → ((n : ℕ) → n ∈ ns → f n ≡ g n) → linesOf f ns ≡ linesOf g ns
 linesOf-same f g [] h = refl
 linesOf-same f g (n ∷ ns) h = rw (h n (List·Memᴰ·head refl), linesOf-same f g ns (λ m i. h m (List·Memᴰ·tail i)))
-
--- a list of calls as a run of steps
-accepts : (cs : List Call) → Accepted (stepsAfter cs)
-accepts cs = ran cs freshDay .accepts
-
-same : (cs : List Call) → endOf cs ≡ run (stepsAfter cs)
-unfolding dayAfter run
-same cs = ran cs freshDay .same
 
 -- growth at each call: no step, one, or those of a bundle
 data Short : List Step → Type 0 where
@@ -126,19 +118,19 @@ grows-from (c ∷ cs) p F =
 
 -- the numbers of the revisions out are apart, after every list of calls
 pub named : (cs : List Call) → Named (endOf cs)
-named cs = rw (same cs) (named-run (stepsAfter cs) (accepts cs))
+named cs = rw (same-day cs) (named-run (stepsAfter cs) (all-accepted cs))
 
 taken-number : (before : List Call) (n : ℕ) → called (dayAfter before) (Fork n) .answer .code ≡ 0 → Takes (stepsAfter before) (called (dayAfter before) (Fork n) .answer .value)
 taken-number before n e =
     let h = was-taken (fork-ends (dayAfter before) n) e in
-    rw (h .is, same before) (takes (stepsAfter before) (accepts before) (h .step .revision) (subst (λ y. Steps.accepted y (Steps.Fork (h .step .revision)) ≡ true) (same before) (h .step .accepts)))
+    rw (h .is, same-day before) (takes (stepsAfter before) (all-accepted before) (h .step .revision) (subst (λ y. Steps.accepted y (Steps.Fork (h .step .revision)) ≡ true) (same-day before) (h .step .accepts)))
 
 module _ (cs : List Call) where
   abbrev A : Arbitration (stepsAfter cs)
-  A = arbitration (stepsAfter cs) (accepts cs)
+  A = arbitration (stepsAfter cs) (all-accepted cs)
 
   e : endOf cs ≡ run (stepsAfter cs)
-  e = same cs
+  e = same-day cs
 
   -- a call c within the list, and the day before it
   module _ (before : List Call) (c : Call) (rest : List Call) (T : Taken cs before c rest) where
@@ -163,7 +155,7 @@ module _ (cs : List Call) where
 
   queries : (before rest : List Call) (c n bib : ℕ) → Taken cs before (Query c n bib) rest → AnsweredBy cs (A .order) (length (endOf before .diagram)) bib (called (dayAfter before) (Query c n bib) .answer)
   unfolding after
-  queries before rest c n bib T = record { updates = shown; shown = rw (e, same before) (A .queries (stepsAfter before) more c r place); state = ap (λ o. o .answer .state) (h .is) ∙ ap stateOf stands; value = ap (λ o. o .answer .value) (h .is) ∙ ap valueIn stands }
+  queries before rest c n bib T = record { updates = shown; shown = rw (e, same-day before) (A .queries (stepsAfter before) more c r place); state = ap (λ o. o .answer .state) (h .is) ∙ ap stateOf stands; value = ap (λ o. o .answer .value) (h .is) ∙ ap valueIn stands }
     where
       q : PlainDay
       q = dayAfter before
@@ -187,23 +179,23 @@ module _ (cs : List Call) where
       place = taken-steps before (Query c n bib) rest T (Event c r false ∷ []) (ap (λ m. onRevision m (λ r. Event c r false ∷ [])) (h .step .means))
 
       through : Accepted (stepsAfter before ++ (Event c r false ∷ []))
-      through = accepted-first (stepsAfter before ++ (Event c r false ∷ [])) more (subst Accepted (place ∙ sym (append-assoc (stepsAfter before) (Event c r false ∷ []) more)) (accepts cs))
+      through = accepted-first (stepsAfter before ++ (Event c r false ∷ [])) more (subst Accepted (place ∙ sym (append-assoc (stepsAfter before) (Event c r false ∷ []) more)) (all-accepted cs))
 
       low : (n : ℕ) → n ∈ shown → n < y1 .updates
       low n i = subst (λ z. n < z .updates) (run-step (stepsAfter before) (Event c r false)) (view-low _ through (length (y1 .diagram)) n (subst (λ z. length (y1 .diagram) < length (z .diagram)) (sym (run-step (stepsAfter before) (Event c r false))) (omega arith)) (subst (λ z. n ∈ view (z .diagram) (length (y1 .diagram))) (sym (run-step (stepsAfter before) (Event c r false))) i))
 
       kept : (n : ℕ) → n ∈ shown → q .entries n ≡ dayAfter cs .entries n
-      kept n i = entries-stay before (Query c _ bib) rest T n (rw (same before) (low n i))
+      kept n i = entries-stay before (Query c _ bib) rest T n (rw (same-day before) (low n i))
 
       stands : pathResult (stepped q (Event c r false)) (length (q .day .diagram)) bib ≡ standingOf (dayAfter cs .entries) bib shown
-      stands = ap (λ y. standingOf (q .entries) bib (view (after y (Event c r false) .diagram) (length (y .diagram)))) (same before) ∙ ap (λ us. applied us freshStanding) (ofBib-same (q .entries) (dayAfter cs .entries) bib shown kept)
+      stands = ap (λ y. standingOf (q .entries) bib (view (after y (Event c r false) .diagram) (length (y .diagram)))) (same-day before) ∙ ap (λ us. applied us freshStanding) (ofBib-same (q .entries) (dayAfter cs .entries) bib shown kept)
 
   listed : (before rest : List Call) (n room r : ℕ) → Taken cs before (Show n room) rest → meant (endOf before) n ≡ some r → ListedBy cs (A .order) (endOf before .terminal r) (called (dayAfter before) (Show n room) .answer)
   listed before rest n room r T m = record {
     updates = updates;
-    shown = rw (e, same before) (A .ever (stepsAfter before) _ (after-steps before (Show n room) rest T) (y1 .terminal r) low);
+    shown = rw (e, same-day before) (A .ever (stepsAfter before) _ (after-steps before (Show n room) rest T) (y1 .terminal r) low);
     count = ap (λ o. o .answer .value) is;
-    are = ap (λ o. o .answer .lines) is ∙ linesOf-same (q .entries) (dayAfter cs .entries) updates (λ n i. entries-stay before (Show _ room) rest T n (rw (same before) (view-low (stepsAfter before) (accepts before) (y1 .terminal r) n low (rw (same before) at i))));
+    are = ap (λ o. o .answer .lines) is ∙ linesOf-same (q .entries) (dayAfter cs .entries) updates (λ n i. entries-stay before (Show _ room) rest T n (rw (same-day before) (view-low (stepsAfter before) (all-accepted before) (y1 .terminal r) n low (rw (same-day before) at i))));
   }
     where
       q : PlainDay
@@ -222,7 +214,7 @@ module _ (cs : List Call) where
       is = let z : h .revision ≡ r = cc (h .means) in h .is ∙ ap (λ s. shown q (view (q .day .diagram) (q .day .terminal s))) z
 
       low : y1 .terminal r < length (y1 .diagram)
-      low = fine-run (stepsAfter before) (accepts before) .sound .real .linked .bound r
+      low = fine-run (stepsAfter before) (all-accepted before) .sound .real .linked .bound r
 
   lists : (before rest : List Call) (n room r : ℕ) → Taken cs before (Show n room) rest → meant (endOf before) n ≡ some r
       → (t : ℕ) → t < endOf before .transactions → WholeAt (endOf before) t (endOf before .terminal r) (length (endOf before .diagram))
@@ -230,8 +222,8 @@ module _ (cs : List Call) where
       let h = was-taken (show-ends (dayAfter before) n room) (T .code) in
       let z : h .revision ≡ r = cc (h .means) in
       let out : IsOut (endOf before) r = (meant-low (endOf before) n r m, rw z at (h .out)) in
-      let idle : busy (endOf before) r ≡ false = rw z at (h .idle) in
-      rw (same before) (A .lists (stepsAfter before) _ (after-steps before (Show n room) rest T) r (rw (same before) at out) (rw (same before) at idle))
+      let idle : IsIdle (run (stepsAfter before)) r = busy-idle (run (stepsAfter before)) (fine-run (stepsAfter before) (all-accepted before)) r .0 (rw (z, same-day before) at (h .idle)) in
+      rw (same-day before) (A .lists (stepsAfter before) _ (after-steps before (Show n room) rest T) r (rw (same-day before) at out) idle)
 
   number-at : (before rest : List Call) (c r k bib v : ℕ) → Taken cs before (Update c r k bib v) rest
       → number (endOf cs .diagram) (length (endOf before .diagram)) ≡ some (called (dayAfter before) (Update c r k bib v) .answer .value)
@@ -304,15 +296,15 @@ module _ (cs : List Call) where
 
   pub lined-up : LineUp cs
   lined-up = record {
-    steps = same cs;
-    accepted = accepts cs;
-    witness = witness (stepsAfter cs) (accepts cs);
-    rules = by-rules (stepsAfter cs) (accepts cs);
-    pool = by-pool (stepsAfter cs) (accepts cs);
-    numbers-used = by-numbers (stepsAfter cs) (accepts cs);
+    steps = same-day cs;
+    lawful = runs-exactly (stepsAfter cs) .0 (all-accepted cs);
+    witness = witness (stepsAfter cs) (all-accepted cs);
+    rules = by-rules (stepsAfter cs) (all-accepted cs);
+    exactly = λ before rest c place. exactly before c;
+    pool = λ before rest place. by-pool (stepsAfter before) (all-accepted before);
+    numbers-used = by-numbers (stepsAfter cs) (all-accepted cs);
     takes = λ before rest n T. taken-number before n (T .code);
-    none-left = λ before rest n place. fork-none (dayAfter before) n (named before);
-    exactly = λ before rest c place. exactly (dayAfter before) c;
+    none-left = λ before rest n place. fork-none before n (named before);
     order = A .order;
     once = A .once;
     complete = λ t. rw e (A .complete t);
@@ -323,9 +315,9 @@ module _ (cs : List Call) where
     numbered = rw e (A .numbered);
     number-at = number-at;
     noted = noted-is;
-    forked = λ before rest n T. fork-value (dayAfter before) n (named before) (T .code);
-    gained = λ before rest n m a b T. join-value (dayAfter before) n m a b (T .code);
-    filled = λ before rest n r T. fill-value (dayAfter before) n r (T .code);
+    forked = λ before rest n T. fork-value before n (named before) (T .code);
+    gained = λ before rest n m a b T. join-value before n m a b (T .code);
+    filled = λ before rest n r T. fill-value before n r (T .code);
     unbundled = unbundled;
     bundles = bundles;
     after-seen = rw e (A .after-seen);

@@ -7,7 +7,7 @@ use mathlib.Core.List.{List, [], _∷_, append-nil}
 use lib.ListN.{length}
 use Rattle.lists.proofs.Changed.{changed-same}
 use Rattle.updates.specs.Effect.{stateOf, valueIn}
-use Rattle.diagram.specs.Diagram.{event, join}
+use Rattle.diagram.specs.Diagram.{event}
 use Rattle.diagram.specs.Day.{meant}
 use Rattle.diagram.specs.Effects.{view, viewStep}
 use Rattle.diagram.specs.Steps as Steps
@@ -19,6 +19,7 @@ use Rattle.plain.specs.Answers.{called, dayAfter, dayFrom, stepped}
 use Rattle.plain.specs.Previews.{Foresees, joinedDay}
 use Rattle.plain.proofs.Ends.{PreviewTaken, QueryTaken, preview-ends, query-ends, was-taken}
 use Rattle.plain.proofs.Steps.{day-both}
+use Rattle.plain.proofs.Values.{join-value}
 
 -- the day with the join is the day that the join leaves
 joined-is : (before : List Call) (n m : ℕ) → joinedDay before n m ≡ called (dayAfter before) (Join n m) .next
@@ -52,7 +53,7 @@ foresees before n m bib e = record {
   terminal = ends;
   state = state-is;
   value = value-is;
-  shown = ap (λ z. view (z .day .diagram) x) left ∙ tabulate-newest viewStep [] (join (p .day .terminal a) (p .day .terminal b)) (p .day .diagram);
+  gained = join-value before n m a b (ap (λ o. o .answer .code) (h .join .is)) (h .join .means) (h .join .step .means);
   query = λ c f.
       let g = query-reads q c n a bib (ap (λ z. meant (z .day) n) left ∙ h .join .means) f in
       (g .0 ∙ ap (λ z. stateOf (pathResult q z bib)) ends ∙ sym state-is, g .1 ∙ ap (λ z. valueIn (pathResult q z bib)) ends ∙ sym value-is);

@@ -7,14 +7,14 @@ use mathlib.Core.List.{List, [], _++_, _∷_, append-assoc}
 use native.Mathlib.Omega.{arith}
 use Rattle.diagram.proofs.Order.Runs.{accepted-both, run-both}
 use Rattle.diagram.specs.Day.{Day, meant}
-use Rattle.diagram.specs.Steps.{AcceptedFrom, Event, Step, accepted, after, runFrom, yield}
+use Rattle.diagram.specs.Steps.{Accepted, AcceptedFrom, Event, Step, accepted, after, run, runFrom, yield}
 use Rattle.lists.proofs.Changed.{changed-other}
 use Rattle.plain.proofs.Ends.{Ends, fill-ends, fork-ends, join-ends, no, query-ends, show-ends, update-ends, yes, yield-ends, preview-ends}
 use Rattle.plain.proofs.Bundles.{RanTo, bundle-ends, bundle-ran}
-use Rattle.plain.specs.Answers.{Outcome, called, dayFrom, stepped, taken}
+use Rattle.plain.specs.Answers.{Outcome, called, dayAfter, dayFrom, stepped, taken}
 use Rattle.plain.specs.Calls.{Answer, Bundle, Call, Fill, Fork, Join, Query, Show, Update, Yield, Preview, entriesOf}
-use Rattle.plain.specs.Taken.{bundleSteps, ifTaken, onRevision, stepOf, stepsFrom, stepsOf}
-use Rattle.plain.specs.Record.{PlainDay, noted}
+use Rattle.plain.specs.Taken.{bundleSteps, endOf, ifTaken, onRevision, stepOf, stepsAfter, stepsFrom, stepsOf}
+use Rattle.plain.specs.Record.{PlainDay, freshDay, noted}
 use Rattle.updates.specs.declared.kind.Kind.{Kind}
 use Rattle.diagram.specs.Steps as Steps
 
@@ -87,6 +87,14 @@ ran (c ∷ cs) p =
       same = r .same ∙ ap (λ y. runFrom y (stepsFrom (called p c .next) cs)) (d .same) ∙ sym (run-both (stepsOf p c) (stepsFrom (called p c .next) cs) (p .day));
       kept = λ n h. r .kept n (omega (arith, d .more)) ∙ d .kept n h;
     }
+
+-- a list of calls as a run of accepted steps
+pub all-accepted : (cs : List Call) → Accepted (stepsAfter cs)
+all-accepted cs = ran cs freshDay .accepts
+
+pub same-day : (cs : List Call) → endOf cs ≡ run (stepsAfter cs)
+unfolding dayAfter run
+same-day cs = ran cs freshDay .same
 
 -- in two parts
 pub day-both : (a b : List Call) (p : PlainDay) → dayFrom p (a ++ b) ≡ dayFrom (dayFrom p a) b

@@ -1,95 +1,143 @@
 -- What the values of a taken fork, join and fill are.
-use Prim.Native.Nat.{ℕ, suc, _≤_}
+use Prim.Native.Nat.{ℕ}
+use mathlib.Core.Bool.{true}
 use mathlib.Core.Logic.{_↔_}
-use mathlib.Core.Path.{_≡_, refl, sym, _∙_, ap, subst}
+use mathlib.Core.Path.{_≡_, refl, sym, _∙_, ap, ap₂, subst}
 use mathlib.Core.Option.{Option, none, some}
-use mathlib.Core.List.{[], _∷_}
+use mathlib.Core.List.{List, []}
 use native.Mathlib.Omega.{arith}
 use lib.Dec.{ltb}
 use lib.ListN.{length}
 use borrow.Author.Tests.{le-ltb, ltb-false}
-use Rattle.lists.specs.Lists.{changed}
 use Rattle.lists.proofs.Cases.{cases}
 use Rattle.lists.proofs.Changed.{changed-same}
-use Rattle.diagram.specs.Diagram.{Diagram, fork, join, start}
 use Rattle.diagram.specs.Sizes.{revisionLimit}
-use Rattle.diagram.specs.Day.{meant, nextNumber, outCount}
+use Rattle.diagram.specs.Day.{Day, IsIdle, IsOut, meant, nextNumber, outCount}
 use Rattle.diagram.specs.Checks.{busy, noneLeft}
-use Rattle.diagram.specs.Effects.{own, view, viewStep}
+use Rattle.diagram.specs.Effects.{own}
 use Rattle.diagram.specs.Steps as Steps
-use Rattle.diagram.specs.Steps.{after}
-use Rattle.diagram.proofs.Days.Moves.{CanFork, can-fork}
+use Rattle.diagram.specs.Steps.{accepted, after, run}
+use Rattle.diagram.specs.Arbitration.{Numbered}
+use Rattle.diagram.specs.Counts.{OwnUpdates, SeenSince}
+use Rattle.diagram.proofs.Days.Moves.{CanFork, can-fork, can-join}
 use Rattle.diagram.proofs.Days.Naming.{Named, meant-low, meant-new, meant-number, meant-old, next-apart}
-use Rattle.diagram.proofs.Graph.Tables.{tabulate-newest}
-use Rattle.plain.specs.Calls.{Fill, Fork, Join}
-use Rattle.plain.specs.Record.{PlainDay}
-use Rattle.plain.specs.Answers.{called, stepped, taken}
+use Rattle.diagram.proofs.Order.Growth.{Fine, busy-idle}
+use Rattle.diagram.proofs.Order.Runs.{fine-run, numbered-run}
+use Rattle.diagram.proofs.Order.Since.{fork-shows, join-gains, own-updates}
+use Rattle.plain.specs.Calls.{Call, Fill, Fork, Join}
+use Rattle.plain.specs.Answers.{called, dayAfter, stepped, taken, told}
 use Rattle.plain.specs.Allowed.{Meaning}
-use Rattle.plain.specs.LineUp.{Filled, Forked, Gained, Idle}
-use Rattle.plain.proofs.Ends.{fill-ends, fork-ends, join-ends, was-taken}
+use Rattle.plain.specs.Taken.{endOf, stepsAfter}
+use Rattle.plain.specs.Values.{Filled, Forked, Gained}
+use Rattle.plain.proofs.Ends.{FillTaken, JoinTaken, fill-ends, fork-ends, join-ends, was-taken}
+use Rattle.plain.proofs.Steps.{all-accepted, same-day}
 
--- a start vertex shows what the fork before it shows, and that what the terminal before it shows
-forked-view : (d : Diagram) (t : ℕ) → view (start (length d) ∷ fork t ∷ d) (suc (length d)) ≡ view d t
-forked-view d t = tabulate-newest viewStep [] (start (length d)) (fork t ∷ d) ∙ tabulate-newest viewStep [] (fork t) d
-
-forks : (p : PlainDay) (n r : ℕ) → Named (p .day) → CanFork (p .day) r → meant (p .day) n ≡ some r → Forked (p .day) n (taken (stepped p (Steps.Fork r)) (nextNumber (p .day)))
+forks : (before : List Call) (n r : ℕ) → Named (endOf before) → accepted (endOf before) (Steps.Fork r) ≡ true → meant (endOf before) n ≡ some r
+    → Forked (endOf before) n (taken (stepped (dayAfter before) (Steps.Fork r)) (nextNumber (endOf before)))
 unfolding nextNumber after
-forks p n r N C m = record {
-  unused = λ s q. cases (p .day .joined s) (λ e. e) (λ e. absurd (next-apart (p .day) N r C s (meant-low (p .day) _ s q, e) (meant-number (p .day) _ s q)));
-  others = λ k d. meant-old (p .day) N r C k d;
-  means = meant-new (p .day) N r C;
-  out = (omega arith, changed-same (p .day .joined) (p .day .revisions) _);
-  shows = λ s q.
-      let z : r ≡ s = cc m in
-      ap (view _) (changed-same (changed (p .day .terminal) r (length (p .day .diagram))) (p .day .revisions) _) ∙ forked-view (p .day .diagram) (p .day .terminal r) ∙ ap (λ t. view (p .day .diagram) (p .day .terminal t)) z;
+forks before n r N e m = record {
+  unused = λ s q. cases (y .joined s) (λ e. e) (λ e. absurd (next-apart y N r C s (meant-low y _ s q, e) (meant-number y _ s q)));
+  others = λ k d. meant-old y N r C k d;
+  means = meant-new y N r C;
+  out = (omega arith, changed-same (y .joined) (y .revisions) _);
+  shows = λ s q. subst (λ i. SeenSince (y .diagram) (y .terminal i) (after y (Steps.Fork r) .diagram) (after y (Steps.Fork r) .terminal (y .revisions)) []) (let z : r ≡ s = cc m in z) since;
 }
+  where
+    y : Day
+    y = endOf before
 
-pub fork-value : (p : PlainDay) (n : ℕ) → Named (p .day) → called p (Fork n) .answer .code ≡ 0 → Forked (p .day) n (called p (Fork n))
-fork-value p n N e =
-    let h = was-taken (fork-ends p n) e in
-    subst (Forked (p .day) n) (sym (h .is)) (forks p n (h .step .revision) N (can-fork (p .day) (h .step .revision) (h .step .accepts)) (h .step .means))
+    C : CanFork y r
+    C = can-fork y r e
+
+    since : SeenSince (y .diagram) (y .terminal r) (after y (Steps.Fork r) .diagram) (after y (Steps.Fork r) .terminal (y .revisions)) []
+    since =
+        subst (λ y. SeenSince (y .diagram) (y .terminal r) (after y (Steps.Fork r) .diagram) (after y (Steps.Fork r) .terminal (y .revisions)) []) (sym (same-day before))
+        (fork-shows (stepsAfter before) (all-accepted before) r (subst (λ y. accepted y (Steps.Fork r) ≡ true) (same-day before) e))
+
+pub fork-value : (before : List Call) (n : ℕ) → Named (endOf before) → called (dayAfter before) (Fork n) .answer .code ≡ 0 → Forked (endOf before) n (called (dayAfter before) (Fork n))
+fork-value before n N e =
+    let h = was-taken (fork-ends (dayAfter before) n) e in
+    subst (Forked (endOf before) n) (sym (h .is)) (forks before n (h .step .revision) N (h .step .accepts) (h .step .means))
 
 -- 10 of a fork
-pub fork-none : (p : PlainDay) (n : ℕ) → Named (p .day) → (called p (Fork n) .answer .code ≡ 10) ↔ (Meaning (p .day) n (Idle (p .day)) × (outCount (p .day) ≡ revisionLimit))
-unfolding called noneLeft
-fork-none p n N = (there, back)
+module _ (before : List Call) (n : ℕ) (N : Named (endOf before)) where
+  abbrev y : Day
+  y = endOf before
+
+  abbrev Full : Type 0
+  Full = Meaning y n (λ r. IsOut y r × IsIdle y r) × (outCount y ≡ revisionLimit)
+
+  fine : Fine y
+  fine = subst Fine (sym (same-day before)) (fine-run (stepsAfter before) (all-accepted before))
+
+  full : (r : ℕ) → called (dayAfter before) (Fork n) .answer .code ≡ 10 → meant y n ≡ some r → Full
+  unfolding called noneLeft
+  full r e m =
+      cases (y .joined r) (λ o. absurd (let z : _≡_ {A = ℕ} 4 10 = rw (m, o) at e in omega arith)) (λ o.
+      cases (busy y r) (λ b. absurd (let z : _≡_ {A = ℕ} 7 10 = rw (m, o, b) at e in omega arith)) (λ b.
+      cases (ltb (outCount y) revisionLimit) (λ l. absurd (let z : _≡_ {A = ℕ} 0 10 = rw (m, o, b, l) at e in omega arith)) (λ l.
+      (record { revision = r; means = m; holds = ((meant-low y n r m, o), busy-idle y fine r .0 b) }, let k = ltb-false (outCount y) revisionLimit l in let a = N .counted in let t = N .few in omega arith))))
+
+  there : called (dayAfter before) (Fork n) .answer .code ≡ 10 → Full
+  unfolding called
+  there e = by (meant y n) refl
+    where
+      by : (q : Option ℕ) → meant y n ≡ q → Full
+      by none m = absurd (let z : _≡_ {A = ℕ} 3 10 = rw m at e in omega arith)
+      by (some r) m = full r e m
+
+  back : Full → called (dayAfter before) (Fork n) .answer .code ≡ 10
+  unfolding called noneLeft
+  back (M, q) = rw (M .means, M .holds .0 .1, busy-idle y fine (M .revision) .1 (M .holds .1), le-ltb (outCount y) revisionLimit (omega arith))
+
+  pub fork-none : (called (dayAfter before) (Fork n) .answer .code ≡ 10) ↔ Full
+  fork-none = (there, back)
+
+pub join-value : (before : List Call) (n m a b : ℕ) → called (dayAfter before) (Join n m) .answer .code ≡ 0 → meant (endOf before) n ≡ some a → meant (endOf before) m ≡ some b
+    → Gained (endOf before) a b (called (dayAfter before) (Join n m))
+join-value before n m a b e na mb = subst (Gained y a b) (sym is) (record { updates = _; gained = gains; brought = brings; value = refl })
   where
-    most : outCount (p .day) ≤ revisionLimit
-    most = let a = N .counted in let b = N .few in omega arith
+    y : Day
+    y = endOf before
 
-    idle : (r : ℕ) → called p (Fork n) .answer .code ≡ 10 → meant (p .day) n ≡ some r → Meaning (p .day) n (Idle (p .day)) × (outCount (p .day) ≡ revisionLimit)
-    idle r e m =
-        cases (p .day .joined r) (λ o. absurd (let z : _≡_ {A = ℕ} 4 10 = rw (m, o) at e in omega arith)) (λ o.
-        cases (busy (p .day) r) (λ b. absurd (let z : _≡_ {A = ℕ} 7 10 = rw (m, o, b) at e in omega arith)) (λ b.
-        cases (ltb (outCount (p .day)) revisionLimit) (λ l. absurd (let z : _≡_ {A = ℕ} 0 10 = rw (m, o, b, l) at e in omega arith)) (λ l.
-        (record { revision = r; means = m; holds = (o, b) }, let k = ltb-false (outCount (p .day)) revisionLimit l in let t = most in omega arith))))
+    h : JoinTaken (dayAfter before) n m (called (dayAfter before) (Join n m))
+    h = was-taken (join-ends (dayAfter before) n m) e
 
-    there : called p (Fork n) .answer .code ≡ 10 → Meaning (p .day) n (Idle (p .day)) × (outCount (p .day) ≡ revisionLimit)
-    there e = by (meant (p .day) n) refl
-      where
-        by : (q : Option ℕ) → meant (p .day) n ≡ q → Meaning (p .day) n (Idle (p .day)) × (outCount (p .day) ≡ revisionLimit)
-        by none m = absurd (let z : _≡_ {A = ℕ} 3 10 = rw m at e in omega arith)
-        by (some r) m = idle r e m
+    x : h .joiner ≡ a
+    x = cc (h .means)
 
-    back : Meaning (p .day) n (Idle (p .day)) × (outCount (p .day) ≡ revisionLimit) → called p (Fork n) .answer .code ≡ 10
-    back (M, q) = rw (M .means, M .holds .0, M .holds .1, le-ltb (outCount (p .day)) revisionLimit (omega arith))
+    z : h .step .revision ≡ b
+    z = cc (h .step .means)
 
-joins : (p : PlainDay) (a b : ℕ) → Gained (p .day) a b (taken (stepped p (Steps.Join a b)) (length (own (p .day .diagram) (p .day .terminal b))))
-unfolding after
-joins p a b = record {
-  brought = ap (view _) (changed-same (p .day .terminal) a _) ∙ tabulate-newest viewStep [] (join (p .day .terminal a) (p .day .terminal b)) (p .day .diagram);
-  value = refl;
-}
+    is : called (dayAfter before) (Join n m) ≡ taken (stepped (dayAfter before) (Steps.Join a b)) (length (own (y .diagram) (y .terminal b)))
+    is = h .is ∙ ap₂ (λ i j. taken (stepped (dayAfter before) (Steps.Join i j)) (length (own (y .diagram) (y .terminal j)))) x z
 
-pub join-value : (p : PlainDay) (n m a b : ℕ) → called p (Join n m) .answer .code ≡ 0 → meant (p .day) n ≡ some a → meant (p .day) m ≡ some b → Gained (p .day) a b (called p (Join n m))
-join-value p n m a b e na mb =
-    let h = was-taken (join-ends p n m) e in
-    let x : h .joiner ≡ a = cc (h .means) in
-    let z : h .step .revision ≡ b = cc (h .step .means) in
-    subst (Gained (p .day) a b) (sym (h .is)) (rw (x, z) (joins p a b))
+    accepts : accepted (run (stepsAfter before)) (Steps.Join a b) ≡ true
+    accepts = subst (λ y. accepted y (Steps.Join a b) ≡ true) (same-day before) (rw (x, z) at (h .step .accepts))
 
-pub fill-value : (p : PlainDay) (n r : ℕ) → called p (Fill n) .answer .code ≡ 0 → meant (p .day) n ≡ some r → Filled (p .day) r (called p (Fill n) .answer)
-fill-value p n r e m =
-    let h = was-taken (fill-ends p n) e in
-    let z : h .revision ≡ r = cc (h .means) in
-    rw (h .is) (record { own-updates = ap (λ s. length (own (p .day .diagram) (p .day .terminal s))) z; all = refl })
+    gains : SeenSince (y .diagram) (y .terminal a) (after y (Steps.Join a b) .diagram) (after y (Steps.Join a b) .terminal a) (own (y .diagram) (y .terminal b))
+    gains = subst (λ y. SeenSince (y .diagram) (y .terminal a) (after y (Steps.Join a b) .diagram) (after y (Steps.Join a b) .terminal a) (own (y .diagram) (y .terminal b))) (sym (same-day before)) (join-gains (stepsAfter before) (all-accepted before) a b accepts)
+
+    brings : OwnUpdates y b (own (y .diagram) (y .terminal b))
+    brings = subst (λ y. OwnUpdates y b (own (y .diagram) (y .terminal b))) (sym (same-day before)) (own-updates (stepsAfter before) (all-accepted before) b (can-join (run (stepsAfter before)) a b accepts .out-b))
+
+pub fill-value : (before : List Call) (n r : ℕ) → called (dayAfter before) (Fill n) .answer .code ≡ 0 → meant (endOf before) n ≡ some r → Filled (endOf before) r (called (dayAfter before) (Fill n) .answer)
+fill-value before n r e m = rw is (record { updates = _; own-updates = brings; value = refl; all = subst (λ y. Numbered (y .diagram) (y .updates)) (sym (same-day before)) (numbered-run (stepsAfter before) (all-accepted before)) })
+  where
+    y : Day
+    y = endOf before
+
+    h : FillTaken (dayAfter before) n (called (dayAfter before) (Fill n))
+    h = was-taken (fill-ends (dayAfter before) n) e
+
+    z : h .revision ≡ r
+    z = cc (h .means)
+
+    is : called (dayAfter before) (Fill n) ≡ told (dayAfter before) (length (own (y .diagram) (y .terminal r))) (y .updates)
+    is = h .is ∙ ap (λ s. told (dayAfter before) (length (own (y .diagram) (y .terminal s))) (y .updates)) z
+
+    out : IsOut y r
+    out = (meant-low y n r m, rw z at (h .out))
+
+    brings : OwnUpdates y r (own (y .diagram) (y .terminal r))
+    brings = subst (λ y. OwnUpdates y r (own (y .diagram) (y .terminal r))) (sym (same-day before)) (own-updates (stepsAfter before) (all-accepted before) r (rw (same-day before) at out))

@@ -1,48 +1,64 @@
 -- Demand 2 for each call: 00, "A step is taken exactly if that paper's construction and transaction rules, for joins its server pool's rule, and our
--- stated limits allow it". What allows a call, without the order in which its checks run. `accepted` (crate diagram) is what allows a step of the day.
-use Prim.Native.Nat.{ℕ, _*_, _≤_}
+-- stated limits allow it". No test and no code is named here. The rules are `MayFollow` (crate diagram, specs/Lawful): the run of the steps taken so
+-- far, with this one, keeps 002's rules within 01's sizes. The rest are limits of 01 and 02.
+use Prim.Native.Nat.{ℕ, _*_, _<_, _≤_}
 use mathlib.Core.Bool.{true, false}
 use mathlib.Core.Path.{_≡_}
 use mathlib.Core.Option.{some}
+use mathlib.Core.List.{List, [], _∷_, _++_}
 use lib.ListN.{length}
-use Rattle.updates.specs.declared.kind.Kind.{Kind}
-use Rattle.updates.specs.declared.kind.KindCheck.the-variants.{Known}
-use Rattle.updates.specs.Kinds.{kindCheck, badBib}
+use Rattle.bundles.specs.declared.entry.Entry.{Entry}
 use Rattle.diagram.specs.Effects.{view}
-use Rattle.diagram.specs.Day.{Day, meant}
-use Rattle.diagram.specs.Checks.{busy}
+use Rattle.diagram.specs.Day.{Day, IsOut, IsIdle, meant}
 use Rattle.diagram.specs.Steps as Steps
-use Rattle.diagram.specs.Steps.{Event, accepted}
-use Rattle.plain.specs.Calls.{Call, Update, Query, Yield, Fork, Join, Show, Fill, Bundle, Preview, entriesOf, isWrongBatch}
-use Rattle.plain.specs.Record.{PlainDay}
-use Rattle.plain.specs.Bundles.{AllTaken, parts}
+use Rattle.diagram.specs.Steps.{Event}
+use Rattle.diagram.specs.Lawful.{MayFollow, EachMayFollow}
+use Rattle.plain.specs.Calls.{Call, Update, Query, Yield, Fork, Join, Show, Fill, Bundle, Preview, Batch, Records, Entries, entriesOf}
+use Rattle.plain.specs.Taken.{endOf, stepsAfter, bundleSteps}
 
--- number n was given out, and something holds of the revision that it means
+-- 3: number n was given out, and something holds of the revision that it means
 pub record Meaning (y : Day) (n : ℕ) (Holds : ℕ → Type 0) : Type 0 where
   pub revision : ℕ
   pub means : meant y n ≡ some revision
   pub holds : Holds revision
 
-abbrev pub Accepts : PlainDay → Steps.Step → Type 0
-Accepts p s = accepted (p .day) s ≡ true
+-- 5: "bib above 999, or update kind not 1 to 4"
+abbrev pub IsBib : ℕ → Type 0
+IsBib bib = bib < 1000
 
--- 5: "update kind not 1 to 4"
 abbrev pub IsKind : ℕ → Type 0
-IsKind k = (kind : Kind) × (kindCheck k ≡ Known kind)
+IsKind k = (1 ≤ k) × (k ≤ 4)
 
-abbrev pub JoinAllowed : PlainDay → ℕ → ℕ → Type 0
-JoinAllowed p n m = Meaning (p .day) n (λ a. Meaning (p .day) m (λ b. Accepts p (Steps.Join a b)))
+abbrev pub AreEntries : List Entry → Type 0
+AreEntries [] = Unit {0}
+AreEntries (e ∷ es) = IsBib (e .bib) × IsKind (e .kind) × AreEntries es
 
-abbrev pub Allowed : PlainDay → Call → Type 0
-Allowed p (Update c n k bib v) = Meaning (p .day) n (λ r. Accepts p (Event c r true)) × (badBib bib ≡ false) × IsKind k
-Allowed p (Query c n bib) = Meaning (p .day) n (λ r. Accepts p (Event c r false)) × (badBib bib ≡ false)
-Allowed p (Yield c) = Accepts p (Steps.Yield c)
-Allowed p (Fork n) = Meaning (p .day) n (λ r. Accepts p (Steps.Fork r))
-Allowed p (Join n m) = JoinAllowed p n m
--- the box is out and idle, and the sheet has room
-Allowed p (Show n room) =
-    Meaning (p .day) n (λ r. (p .day .joined r ≡ false) × (busy (p .day) r ≡ false) × (12 * length (view (p .day .diagram) (p .day .terminal r)) ≤ room))
-Allowed p (Fill n) = Meaning (p .day) n (λ r. p .day .joined r ≡ false)
--- a right bundle, whose updates and yield are taken one by one
-Allowed p (Bundle c n batch) = (isWrongBatch batch ≡ false) × AllTaken p (parts c n (entriesOf batch))
-Allowed p (Preview n m bib) = JoinAllowed p n m × (badBib bib ≡ false)
+-- 14: "if the count is 0 or above 64 or the bytes aren't a multiple of 12"
+abbrev pub IsBatch : Batch → Type 0
+IsBatch (Records bytes) = (n : ℕ) × (length bytes ≡ 12 * n) × (1 ≤ n) × (n ≤ 64)
+IsBatch (Entries es) = (1 ≤ length es) × (length es ≤ 64)
+
+-- a revision that can be listed: it is out and idle, and the sheet has room. 002 has no lists: 4, 7 and 12 of one are limits of 01
+pub record CanShow (y : Day) (r room : ℕ) : Type 0 where
+  pub out : IsOut y r
+  pub idle : IsIdle y r
+  pub fits : 12 * length (view (y .diagram) (y .terminal r)) ≤ room
+
+abbrev pub JoinAllowed : List Call → ℕ → ℕ → Type 0
+JoinAllowed before n m = Meaning (endOf before) n (λ a. Meaning (endOf before) m (λ b. MayFollow (stepsAfter before) (Steps.Join a b)))
+
+-- what allows a call after the calls `before`
+abbrev pub Allowed : List Call → Call → Type 0
+Allowed before (Update c n k bib v) = Meaning (endOf before) n (λ r. MayFollow (stepsAfter before) (Event c r true)) × IsBib bib × IsKind k
+Allowed before (Query c n bib) = Meaning (endOf before) n (λ r. MayFollow (stepsAfter before) (Event c r false)) × IsBib bib
+Allowed before (Yield c) = MayFollow (stepsAfter before) (Steps.Yield c)
+Allowed before (Fork n) = Meaning (endOf before) n (λ r. MayFollow (stepsAfter before) (Steps.Fork r))
+Allowed before (Join n m) = JoinAllowed before n m
+Allowed before (Show n room) = Meaning (endOf before) n (λ r. CanShow (endOf before) r room)
+-- 02, U1: of a box that is out, busy or not
+Allowed before (Fill n) = Meaning (endOf before) n (IsOut (endOf before))
+-- 02, U4: its updates and its yield may follow, one after another
+Allowed before (Bundle c n batch) =
+    IsBatch batch × AreEntries (entriesOf batch) × Meaning (endOf before) n (λ r. EachMayFollow (stepsAfter before ++ bundleSteps c r (entriesOf batch)))
+-- 02, U6: where the join is allowed, and the bib is one
+Allowed before (Preview n m bib) = JoinAllowed before n m × IsBib bib

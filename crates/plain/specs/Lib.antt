@@ -7,6 +7,7 @@ pub mod Edges
 pub mod Taken
 pub mod Bundles
 pub mod Allowed
+pub mod Values
 pub mod Previews
 pub mod LineUp
 pub mod Fills

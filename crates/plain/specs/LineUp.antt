@@ -2,10 +2,9 @@
 -- whole list of calls, with one line-up for it, and not a claim for each call." The words `Sees`, `Shows`, `WholeAt` and
 -- `Extends` are those of the day of revisions: paths in the day's own diagram.
 use Prim.Native.Nat.{ℕ, _<_}
-use mathlib.Core.Bool.{true, false}
 use mathlib.Core.Path.{_≡_}
 use mathlib.Core.Logic.{_↔_}
-use mathlib.Core.Option.{none, some}
+use mathlib.Core.Option.{some}
 use mathlib.Core.List.{List, [], _∷_, _++_, List·Nodup}
 use lib.ListN.{length}
 use Rattle.lists.specs.Lists.{_∈_, _⊑_, flat}
@@ -13,27 +12,24 @@ use Rattle.updates.specs.declared.kind.Kind.{Kind}
 use Rattle.updates.specs.declared.kind.KindCheck.the-variants.{Known}
 use Rattle.updates.specs.Kinds.{kindCheck}
 use Rattle.updates.specs.Effect.{stateOf, valueIn}
-use Rattle.diagram.specs.Effects.{own, view, number, numbers}
+use Rattle.diagram.specs.Effects.{view, number, numbers}
 use Rattle.diagram.specs.Sizes.{revisionLimit}
-use Rattle.diagram.specs.Day.{Day, IsOut, meant, outCount}
-use Rattle.diagram.specs.Steps.{Accepted, run}
-use Rattle.diagram.specs.Checks.{busy}
+use Rattle.diagram.specs.Day.{IsOut, IsIdle, meant, outCount}
+use Rattle.diagram.specs.Steps.{run}
 use Rattle.diagram.specs.Rules.{ByRules}
 use Rattle.diagram.specs.Reuse.{ByNumbers, Takes}
 use Rattle.diagram.specs.Pool.{ByPool}
 use Rattle.diagram.specs.Witness.{Witness}
+use Rattle.diagram.specs.Lawful.{EachMayFollow}
 use Rattle.diagram.specs.Arbitration.{IsEvent, eventsOf, Numbered, Sees, SeesTransaction, Shows, WholeAt, Extends}
 use Rattle.plain.specs.Calls.{Call, Update, Query, Fork, Join, Show, Fill, Bundle, Answer, Preview, Batch, entriesOf}
 use Rattle.plain.specs.Record.{PlainDay, freshDay, standingOf, linesOf}
-use Rattle.plain.specs.Answers.{Outcome, called, dayAfter}
-use Rattle.plain.specs.Taken.{stepsAfter}
+use Rattle.plain.specs.Answers.{called, dayAfter}
+use Rattle.plain.specs.Taken.{endOf, stepsAfter}
 use Rattle.plain.specs.Bundles.{Bundled, parts}
 use Rattle.plain.specs.Allowed.{Allowed, Meaning}
+use Rattle.plain.specs.Values.{Forked, Gained, Filled}
 use Rattle.plain.specs.Previews.{Foresees}
-
--- the day of revisions after a list of calls
-abbrev pub endOf : List Call → Day
-endOf cs = dayAfter cs .day
 
 -- call c, taken between `before` and `rest`
 pub record Taken (cs before : List Call) (c : Call) (rest : List Call) : Type 0 where
@@ -54,49 +50,27 @@ pub record ListedBy (cs : List Call) (order : List ℕ) (x : ℕ) (answer : Answ
   pub count : answer .value ≡ length updates
   pub are : answer .lines ≡ linesOf (dayAfter cs .entries) updates
 
--- a fork from day y: its value meant no revision that was out, and from then on means the new one, which is out and shows what the forked one
--- shows; every other number means what it did
-pub record Forked (y : Day) (n : ℕ) (o : Outcome) : Type 0 where
-  pub unused : (r : ℕ) → meant y (o .answer .value) ≡ some r → y .joined r ≡ true
-  pub others : (k : ℕ) → (k ≡ o .answer .value → ⊥) → meant (o .next .day) k ≡ meant y k
-  pub means : meant (o .next .day) (o .answer .value) ≡ some (y .revisions)
-  pub out : IsOut (o .next .day) (y .revisions)
-  pub shows : (r : ℕ) → meant y n ≡ some r → view (o .next .day .diagram) (o .next .day .terminal (y .revisions)) ≡ view (y .diagram) (y .terminal r)
-
--- a join of b into a from day y: what a shows grows by b's own updates, as many as the value says
-pub record Gained (y : Day) (a b : ℕ) (o : Outcome) : Type 0 where
-  pub brought : view (o .next .day .diagram) (o .next .day .terminal a) ≡ view (y .diagram) (y .terminal a) ++ own (y .diagram) (y .terminal b)
-  pub value : o .answer .value ≡ length (own (y .diagram) (y .terminal b))
-
--- a fill of r on day y: "its own updates", and "the number taken by the whole table"
-pub record Filled (y : Day) (r : ℕ) (answer : Answer) : Type 0 where
-  pub own-updates : answer .value ≡ length (own (y .diagram) (y .terminal r))
-  pub all : answer .total ≡ y .updates
-
--- a revision that is out and not busy
-abbrev pub Idle : Day → ℕ → Type 0
-Idle y r = (y .joined r ≡ false) × (busy y r ≡ false)
-
 -- "For a box that stays out, the list before a call begins the list after it."
 abbrev pub GrowsEach : PlainDay → List Call → Type 0
 GrowsEach p [] = Unit {0}
 GrowsEach p (c ∷ cs) = Extends (p .day) (called p c .next .day) × GrowsEach (called p c .next) cs
 
 pub record LineUp (cs : List Call) : Type 0 where
-  -- the calls that are taken are the steps of the day, and its diagram is a witness for their events and yields
+  -- the calls that are taken are the steps of the day, each may follow those before it, and its diagram is a witness for their events and yields
   pub steps : endOf cs ≡ run (stepsAfter cs)
-  pub accepted : Accepted (stepsAfter cs)
+  pub lawful : EachMayFollow (stepsAfter cs)
   pub witness : Witness (stepsAfter cs)
-  -- demand 2: they go by the rules of 002 and 01, and what a vertex lists are the effects along its root-path
+  -- demand 2: each call "is taken exactly if that paper's construction and transaction rules, .. and our stated limits allow it"; "for joins its server
+  -- pool's rule": at every place the join rule of the construction is the pool's
+  pub exactly : (before rest : List Call) (c : Call) → cs ≡ before ++ (c ∷ rest) → (called (dayAfter before) c .answer .code ≡ 0) ↔ Allowed before c
+  pub pool : (before rest : List Call) → cs ≡ before ++ rest → ByPool (stepsAfter before)
+  -- and what a vertex lists are the effects along its root-path
   pub rules : ByRules (stepsAfter cs)
-  pub pool : ByPool (stepsAfter cs)
   -- 02, U7: the numbers by the history; what a fork gives by its rule; and 10, where no lower code applies, "exactly if 64 boxes are out"
   pub numbers-used : ByNumbers (stepsAfter cs)
   pub takes : (before rest : List Call) (n : ℕ) → Taken cs before (Fork n) rest → Takes (stepsAfter before) (called (dayAfter before) (Fork n) .answer .value)
   pub none-left : (before rest : List Call) (n : ℕ) → cs ≡ before ++ (Fork n ∷ rest)
-      → (called (dayAfter before) (Fork n) .answer .code ≡ 10) ↔ (Meaning (endOf before) n (Idle (endOf before)) × (outCount (endOf before) ≡ revisionLimit))
-  -- demand 2: each call "is taken exactly if" the rules and limits allow it
-  pub exactly : (before rest : List Call) (c : Call) → cs ≡ before ++ (c ∷ rest) → (called (dayAfter before) c .answer .code ≡ 0) ↔ Allowed (dayAfter before) c
+      → (called (dayAfter before) (Fork n) .answer .code ≡ 10) ↔ (Meaning (endOf before) n (λ r. IsOut (endOf before) r × IsIdle (endOf before) r) × (outCount (endOf before) ≡ revisionLimit))
   -- "A line-up has every transaction once, open ones and those of queries alone too."
   pub order : List ℕ
   pub once : List·Nodup order

@@ -6,11 +6,11 @@ use mathlib.Core.Option.{some}
 use mathlib.Core.List.{List, [], _∷_, _++_}
 use lib.ListN.{length}
 use Rattle.updates.specs.Effect.{stateOf, valueIn}
-use Rattle.diagram.specs.Effects.{own, view}
 use Rattle.diagram.specs.Day.{meant}
 use Rattle.plain.specs.Calls.{Call, Query, Join, Answer}
 use Rattle.plain.specs.Record.{PlainDay, pathResult}
 use Rattle.plain.specs.Answers.{called, dayAfter}
+use Rattle.plain.specs.Values.{Gained}
 
 -- the day that a join taken after some calls would leave, and its join vertex: the next vertex of the day before it
 abbrev pub joinedDay : List Call → ℕ → ℕ → PlainDay
@@ -31,9 +31,8 @@ pub record Foresees (before : List Call) (n m bib : ℕ) (answer : Answer) : Typ
   pub terminal : joinedDay before n m .day .terminal joiner ≡ joinVertex before
   pub state : answer .state ≡ stateOf (pathResult (joinedDay before n m) (joinVertex before) bib)
   pub value : answer .value ≡ valueIn (pathResult (joinedDay before n m) (joinVertex before) bib)
-  -- what is shown there: the updates visible at the joiner, then the joinee's own
-  pub shown : view (joinedDay before n m .day .diagram) (joinVertex before)
-      ≡ view (dayAfter before .day .diagram) (dayAfter before .day .terminal joiner) ++ own (dayAfter before .day .diagram) (dayAfter before .day .terminal joinee)
+  -- what the joiner would gain
+  pub gained : Gained (dayAfter before .day) joiner joinee (called (dayAfter before) (Join n m))
   -- so a query of the joiner that is taken right after that join, whoever asks, would answer the same
   pub query : (c : ℕ) → called (joinedDay before n m) (Query c n bib) .answer .code ≡ 0
       → (called (joinedDay before n m) (Query c n bib) .answer .state ≡ answer .state) × (called (joinedDay before n m) (Query c n bib) .answer .value ≡ answer .value)

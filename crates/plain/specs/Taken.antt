@@ -4,12 +4,12 @@ use mathlib.Core.Bool.{false, true}
 use mathlib.Core.Option.{Option, none, some}
 use mathlib.Core.List.{List, [], _∷_, _++_}
 use Rattle.bundles.specs.declared.entry.Entry.{Entry}
-use Rattle.diagram.specs.Day.{meant}
+use Rattle.diagram.specs.Day.{Day, meant}
 use Rattle.diagram.specs.Steps as Steps
 use Rattle.diagram.specs.Steps.{Step, Event}
 use Rattle.plain.specs.Calls.{Call, Update, Query, Yield, Fork, Join, Show, Fill, Bundle, Preview, entriesOf}
 use Rattle.plain.specs.Record.{PlainDay, freshDay}
-use Rattle.plain.specs.Answers.{called}
+use Rattle.plain.specs.Answers.{called, dayAfter}
 
 -- the step that a call is, where its numbers mean revisions
 abbrev pub onRevision : Option ℕ → (ℕ → List Step) → List Step
@@ -46,3 +46,7 @@ stepsFrom p (c ∷ cs) = stepsOf p c ++ stepsFrom (called p c .next) cs
 
 abbrev pub stepsAfter : List Call → List Step
 stepsAfter cs = stepsFrom freshDay cs
+
+-- the day of revisions after a list of calls
+abbrev pub endOf : List Call → Day
+endOf cs = dayAfter cs .day

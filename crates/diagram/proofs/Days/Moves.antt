@@ -1,18 +1,20 @@
--- What is known when a step is accepted, read off its checks.
+-- What is known when a step is accepted, read off its checks. Each fact is proved from what its check would say if it failed, so that it does not
+-- depend on how the check is written.
 use Prim.Native.Nat.{ℕ, suc, _<_}
-use mathlib.Core.Bool.{Bool, true, false, false≢true, not, _&&_}
-use mathlib.Core.Path.{_≡_, refl, sym}
+use mathlib.Core.Bool.{Bool, true, false, false≢true, true≢false, or-true}
+use mathlib.Core.Path.{_≡_, _∙_, refl, sym}
 use mathlib.Core.Option.{Option, none, some}
 use native.Mathlib.Omega.{arith}
 use lib.Dec.{eqb}
-use borrow.Author.Tests.{eqb-true, eqb-false, ne-eqb, ltb-true, not-true, not-false}
-use Rattle.lists.proofs.Cases.{cases, or-false, and-true}
-use Rattle.lists.proofs.Sums.{any-none}
+use borrow.Author.Tests.{eqb-true, eqb-false, ne-eqb, ltb-true, not-false}
+use Rattle.lists.proofs.Cases.{cases}
+use Rattle.lists.proofs.Sums.{any-at}
 use Rattle.diagram.specs.Sizes.{clientLimit, revisionLimit}
 use Rattle.diagram.specs.Diagram.{leads}
 use Rattle.diagram.specs.Day.{Day, IsOut, outCount}
 use Rattle.diagram.specs.Checks.{unknownClient, isOn, openElsewhere, busyByOther, busy, stale, noneLeft, notJoinable}
 use Rattle.diagram.specs.Steps.{Step, Event, Yield, Fork, Join, notGiven, accepted, enter, yield, forkAt, joinInto, after}
+use Rattle.diagram.proofs.Days.Accepting.{event-given, event-tests, fork-given, fork-tests, join-given, join-tests, ruled-out, yield-test}
 
 -- a number given out that is not the last one
 pub not-last : (s n : ℕ) → s < suc n → eqb s n ≡ false → s < n
@@ -63,95 +65,71 @@ pub yield-updates : (y : Day) (c : ℕ) (o : Option ℕ) → yield y c o .update
 yield-updates y c none = refl
 yield-updates y c (some t) = refl
 
--- the first of some tests does not apply, and none of the others
-pub none-of : (b rest : Bool) → (not b && rest) ≡ true → (b ≡ false) × (rest ≡ true)
-none-of b rest e = let p = and-true (not b) rest e in (not-true b (p .0), p .1)
-
 module _ (y : Day) where
-  pub given : (r : ℕ) → notGiven y r ≡ false → r < y .revisions
-  given r e = ltb-true r (y .revisions) (not-false _ e)
+  given : (r : ℕ) → notGiven y r ≡ false → r < y .revisions
+  given r e = let l = ltb-true _ (y .revisions) (not-false _ e) in omega arith
 
   known : (c : ℕ) → unknownClient c ≡ false → c < clientLimit
   unfolding unknownClient
-  known c e = ltb-true c clientLimit (not-false _ e)
+  known c e = let l = ltb-true _ clientLimit (not-false _ e) in omega arith
 
   same-revision : (c r : ℕ) → openElsewhere y c r ≡ false → (t : ℕ) → y .openBy c ≡ some t → y .transaction t .revision ≡ r
   unfolding openElsewhere
-  same-revision c r e t q =
-      let f : not (eqb (y .transaction t .revision) r) ≡ false = rw q at e in
-      eqb-true _ _ (not-false _ f)
+  same-revision c r e t q = cases (eqb (y .transaction t .revision) r) (λ k. eqb-true _ r k) (λ k. absurd (true≢false (simp (q, k) at e)))
 
   idle-for : (c r : ℕ) → busyByOther y c r ≡ false → Idle y (λ o. o ≡ c → ⊥) r
   unfolding busyByOther
-  idle-for c r e o h n =
-      let f = any-none clientLimit (λ o. not (eqb o c) && isOn y (y .openBy o) r) e o h in
-      rw (ne-eqb o c n) at f
+  idle-for c r e o h n = ruled-out (isOn y (y .openBy o) r) (λ q. false≢true (sym e ∙ any-at clientLimit _ o h (simp (ne-eqb o c n, q))))
 
   pub idle-all : (r : ℕ) → busy y r ≡ false → Idle y (λ o. Unit {0}) r
   unfolding busy
-  idle-all r e o h n = any-none clientLimit (λ o. isOn y (y .openBy o) r) e o h
+  idle-all r e o h n = ruled-out (isOn y (y .openBy o) r) (λ q. false≢true (sym e ∙ any-at clientLimit _ o h (simp q)))
 
   caught-up : (c r : ℕ) → stale y c r ≡ false → (l : ℕ) → y .lastEvent c ≡ some l → leads (y .diagram) l (y .terminal r) ≡ true
   unfolding stale
-  caught-up c r e l q =
-      let f : not (leads (y .diagram) l (y .terminal r)) ≡ false = rw q at e in
-      not-false _ f
+  caught-up c r e l q = cases (leads (y .diagram) l (y .terminal r)) (λ k. k) (λ k. absurd (true≢false (simp (q, k) at e)))
 
   -- the four parts of code 11
   pub joinable : (a b : ℕ) → notJoinable y a b ≡ false
       → (eqb b 0 ≡ false) × (eqb b a ≡ false) × (leads (y .diagram) (y .forkOf b) (y .terminal a) ≡ true) × (leads (y .diagram) (y .startOf b) (y .terminal a) ≡ false)
   unfolding notJoinable
-  joinable a b e =
-      let p = or-false (eqb b 0) _ e in
-      let q = or-false (eqb b a) _ (p .1) in
-      let s = or-false (not (leads (y .diagram) (y .forkOf b) (y .terminal a))) _ (q .1) in
-      (p .0, q .0, not-false _ (s .0), s .1)
+  joinable a b e = (
+    ruled-out (eqb b 0) (λ q. true≢false (simp q at e)),
+    ruled-out (eqb b a) (λ q. true≢false (simp (q, or-true) at e)),
+    cases (leads (y .diagram) (y .forkOf b) (y .terminal a)) (λ q. q) (λ q. absurd (true≢false (simp (q, or-true) at e))),
+    ruled-out (leads (y .diagram) (y .startOf b) (y .terminal a)) (λ q. true≢false (simp (q, or-true) at e)),
+  )
 
   pub can-enter : (c r : ℕ) (u : Bool) → accepted y (Event c r u) ≡ true → CanEnter y c r
-  unfolding accepted
   can-enter c r u e =
-      let e2 = none-of (unknownClient c) _ e in
-      let e3 = none-of (notGiven y r) _ (e2 .1) in
-      let e4 = none-of (y .joined r) _ (e3 .1) in
-      let e6 = none-of (openElsewhere y c r) _ (e4 .1) in
-      let e7 = none-of (busyByOther y c r) _ (e6 .1) in
-      let e8 = none-of (stale y c r) _ (e7 .1) in
+      let t = event-tests y c r u e in
       record {
-        client-ok = known c (e2 .0);
-        out = (given r (e3 .0), e4 .0);
-        same-revision = same-revision c r (e6 .0);
-        idle = idle-for c r (e7 .0);
-        caught-up = caught-up c r (e8 .0);
+        client-ok = known c (t .0);
+        out = (given r (event-given y c r u e), t .1);
+        same-revision = same-revision c r (t .2);
+        idle = idle-for c r (t .3);
+        caught-up = caught-up c r (t .4);
       }
 
   pub can-yield : (c : ℕ) → accepted y (Yield c) ≡ true → c < clientLimit
-  unfolding accepted
-  can-yield c e = known c (none-of (unknownClient c) _ e .0)
+  can-yield c e = known c (yield-test y c e)
 
   pub can-fork : (r : ℕ) → accepted y (Fork r) ≡ true → CanFork y r
-  unfolding accepted noneLeft
+  unfolding noneLeft
   can-fork r e =
-      let e3 = none-of (notGiven y r) _ e in
-      let e4 = none-of (y .joined r) _ (e3 .1) in
-      let e7 = none-of (busy y r) _ (e4 .1) in
-      let left = none-of (noneLeft y) _ (e7 .1) in
-      record { out = (given r (e3 .0), e4 .0); idle = idle-all r (e7 .0); room = (let l = ltb-true _ revisionLimit (not-false _ (left .0)) in omega arith) }
+      let t = fork-tests y r e in
+      record { out = (given r (fork-given y r e), t .0); idle = idle-all r (t .1); room = (let l = ltb-true _ revisionLimit (not-false _ (t .2)) in omega arith) }
 
   pub can-join : (a b : ℕ) → accepted y (Join a b) ≡ true → CanJoin y a b
-  unfolding accepted
   can-join a b e =
-      let a3 = none-of (notGiven y a) _ e in
-      let b3 = none-of (notGiven y b) _ (a3 .1) in
-      let a4 = none-of (y .joined a) _ (b3 .1) in
-      let b4 = none-of (y .joined b) _ (a4 .1) in
-      let a7 = none-of (busy y a) _ (b4 .1) in
-      let b7 = none-of (busy y b) _ (a7 .1) in
-      let q = joinable a b (none-of (notJoinable y a b) _ (b7 .1) .0) in
+      let g = join-given y a b e in
+      let t = join-tests y a b e in
+      let q = joinable a b (t .4) in
       record {
-        out-a = (given a (a3 .0), a4 .0);
-        out-b = (given b (b3 .0), b4 .0);
-        idle-a = idle-all a (a7 .0);
-        idle-b = idle-all b (b7 .0);
+        out-a = (given a (g .0), t .0);
+        out-b = (given b (g .1), t .1);
+        idle-a = idle-all a (t .2);
+        idle-b = idle-all b (t .3);
         not-main = eqb-false b 0 (q .0);
         not-self = eqb-false b a (q .1);
         fork-seen = q .2;

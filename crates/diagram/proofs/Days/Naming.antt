@@ -2,25 +2,24 @@
 use Prim.Native.Nat.{_+_, _<_, _≤_, suc, zero, ℕ}
 use mathlib.Core.Bool.{cond, false, false≢true, true}
 use mathlib.Core.Path.{_∙_, _≡_, ap, refl, sym}
-use mathlib.Core.Logic.{_⊎_, inl, inr}
 use mathlib.Core.Option.{Option, none, some}
 use mathlib.Core.List.{Memᴰ·append-left, Memᴰ·append-right, List·Memᴰ·cases-cons}
-use mathlib.Core.List.{List, List·Memᴰ·append-cases, List·Memᴰ·eq-of-singleton, List·Memᴰ·head, List·Memᴰ·not-nil, List·Memᴰ·tail, List·Nodup, [], _++_, _∷_, nodup-cons, nodup-nil}
+use mathlib.Core.List.{List, List·Memᴰ·append-cases, List·Memᴰ·eq-of-singleton, List·Memᴰ·head, List·Memᴰ·not-nil, List·Memᴰ·tail, List·Nodup, [], _∷_, nodup-cons, nodup-nil}
 use native.Mathlib.Omega.{arith}
 use lib.Dec.{eqb, ltb}
 use lib.ListN.{length, length-append}
-use borrow.Author.Tests.{eq-eqb, eqb-false, eqb-true, le-ltb, lt-ltb, ltb-false, ltb-true, ne-eqb, not-false}
-use Rattle.lists.specs.Lists.{_∈_, changed, firstOf, restOf}
+use borrow.Author.Tests.{eq-eqb, eqb-false, eqb-true, lt-ltb, ltb-false, ltb-true, ne-eqb}
+use Rattle.lists.specs.Lists.{_∈_, changed}
 use Rattle.lists.specs.Sums.{sumBelow}
 use Rattle.lists.proofs.Cases.{cases, either}
 use Rattle.lists.proofs.Changed.{changed-other, changed-same}
 use Rattle.lists.proofs.Sublists.{nodup-more}
 use Rattle.lists.proofs.Sums.{sum-changed, sum-same}
 use Rattle.diagram.specs.Sizes.{revisionLimit}
-use Rattle.diagram.specs.Numbering.{Numbering, handedIn, latest, next, started}
+use Rattle.diagram.specs.Numbering.{Numbering, latest, next, started}
 use Rattle.diagram.specs.Day.{Day, IsOut, fresh, meant, numberOf, outCount}
-use Rattle.diagram.specs.Steps.{Accepted, Step, accepted, after, enter, forkAt, joinInto, notGiven, run, yield}
-use Rattle.diagram.proofs.Days.Moves.{CanFork, CanJoin, Moves, enters, forked-out, forksAt, joined-out, joinsInto, step-moves, yields}
+use Rattle.diagram.specs.Steps.{forkAt, joinInto, notGiven, yield}
+use Rattle.diagram.proofs.Days.Moves.{CanFork, CanJoin, Moves, enters, forked-out, forksAt, joined-out, joinsInto, yields}
 
 -- the latest of the revisions below m that bore n
 pub latest-bore : (of : ℕ → ℕ) (n m r : ℕ) → latest of n m ≡ some r → (r < m) × (of r ≡ n)

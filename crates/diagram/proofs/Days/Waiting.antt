@@ -1,5 +1,5 @@
 -- The numbers that wait to be used again are those of the revisions handed in, in the order of their hand-ins, that no later revision bears.
-use Prim.Native.Nat.{_<_, _≤_, ℕ}
+use Prim.Native.Nat.{_<_, ℕ}
 use mathlib.Core.Bool.{Bool, _&&_, _||_, false, not, true}
 use mathlib.Core.Path.{_∙_, _≡_, ap, ap₂, refl, subst, sym}
 use mathlib.Core.Option.{Option, none, some}

@@ -4,7 +4,7 @@ use mathlib.Core.Bool.{Bool, false, false≢true, true}
 use mathlib.Core.Path.{_∙_, _≡_, ap, refl, subst, sym}
 use mathlib.Core.Logic.{_↔_, _⊎_, inl, inr}
 use mathlib.Core.Option.{Option, none, some}
-use mathlib.Core.List.{List, List·Memᴰ, List·Memᴰ·eq-of-singleton, List·Memᴰ·not-nil, Memᴰ·append-left}
+use mathlib.Core.List.{List, List·Memᴰ, List·Memᴰ·eq-of-singleton, List·Memᴰ·head, List·Memᴰ·not-nil, Memᴰ·append-left}
 use mathlib.Core.List.{Memᴰ·append-right, [], _++_, _∷_}
 use native.Mathlib.Omega.{arith}
 use lib.ListN.{length}
@@ -29,13 +29,13 @@ use Rattle.lists.proofs.Cases.{cases, split}
 use Rattle.lists.specs.Lists.{changed}
 
 -- an s- or j-edge is an edge
-s-any : (v : Vertex) (x : ℕ) → List·Memᴰ x (s-sources v) → List·Memᴰ x (sources v)
+pub s-any : (v : Vertex) (x : ℕ) → List·Memᴰ x (s-sources v) → List·Memᴰ x (sources v)
 s-any v x i = Memᴰ·append-left (j-sources v) (Memᴰ·append-left (f-sources v) i)
 
 j-any : (v : Vertex) (x : ℕ) → List·Memᴰ x (j-sources v) → List·Memᴰ x (sources v)
 j-any v x i = Memᴰ·append-right (s-sources v ++ f-sources v) i
 
-edge-any : {from : Vertex → List ℕ} → ((v : Vertex) (x : ℕ) → List·Memᴰ x (from v) → List·Memᴰ x (sources v)) → {x y : ℕ} {d : Diagram} → Edge from x y d → Edge sources x y d
+pub edge-any : {from : Vertex → List ℕ} → ((v : Vertex) (x : ℕ) → List·Memᴰ x (from v) → List·Memᴰ x (sources v)) → {x y : ℕ} {d : Diagram} → Edge from x y d → Edge sources x y d
 edge-any f (newest {v} {d} e i) = newest e (f v _ i)
 edge-any f (older e) = older (edge-any f e)
 
@@ -59,6 +59,8 @@ pub record Made (y : Day) : Type 0 where
   pub starts : (r : ℕ) → r < y .revisions → startVertex (y .diagram) (y .terminal r) ≡ y .startOf r
   pub distinct : (r s : ℕ) → r < y .revisions → s < y .revisions → y .startOf r ≡ y .startOf s → r ≡ s
   pub terminals : (r : ℕ) → IsOut y r → Terminal (y .diagram) (y .terminal r)
+  -- the last vertex of a joined revision is no terminal
+  pub ended : (r : ℕ) → y .joined r ≡ true → (z : ℕ) × Edge j-sources (y .terminal r) z (y .diagram)
 
 made-fresh : Made fresh
 unfolding tabulate
@@ -67,6 +69,7 @@ made-fresh = record {
   starts = λ r h. refl;
   distinct = λ r s h k e. let a : r < 1 = h in let b : s < 1 = k in omega arith;
   terminals = λ r o. terminal-newest (one-more {v = root} (λ p i. absurd (List·Memᴰ·not-nil i)) no-vertex);
+  ended = λ r e. absurd (false≢true e);
 }
 
 module _ (y : Day) (F : Fine y) (M : Made y) where
@@ -80,7 +83,7 @@ module _ (y : Day) (F : Fine y) (M : Made y) where
   ordered = F .sound .real .linked .ordered
 
   -- no two revisions have one terminal
-  apart : (r s : ℕ) → r < y .revisions → s < y .revisions → (r ≡ s → ⊥) → List·Memᴰ (y .terminal r) (y .terminal s ∷ []) → ⊥
+  pub apart : (r s : ℕ) → r < y .revisions → s < y .revisions → (r ≡ s → ⊥) → List·Memᴰ (y .terminal r) (y .terminal s ∷ []) → ⊥
   apart r s h k n i =
       n (M .distinct r s h k (sym (M .starts r h) ∙ ap (startVertex d) (List·Memᴰ·eq-of-singleton i) ∙ M .starts s k))
 
@@ -98,6 +101,13 @@ module _ (y : Day) (F : Fine y) (M : Made y) where
         (λ e. rw e (terminal-newest o))
         (λ e. rw e (terminal-older (λ i. apart s r (os .0) hr (eqb-false s r e) (rw q at i)) n (M .terminals s os)))
 
+  -- a vertex that goes on from a revision that is out ends none
+  ended-on : (v : Vertex) (r : ℕ) → y .joined r ≡ false → (s : ℕ) → y .joined s ≡ true → (z : ℕ) × Edge j-sources (changed (y .terminal) r (length d) s) z (v ∷ d)
+  ended-on v r o s h =
+      cases (eqb s r)
+      (λ e. absurd (false≢true (sym o ∙ ap (y .joined) (sym (eqb-true s r e)) ∙ h)))
+      (λ e. rw e (let k = M .ended s h in (k .0, older (k .1))))
+
   one-source : (v : Vertex) (r : ℕ) → r < y .revisions → sources v ≡ y .terminal r ∷ [] → Ordered (v ∷ d)
   one-source v r h q = one-more {v = v} {d = d} (λ p i. rw (List·Memᴰ·eq-of-singleton (rw q at i)) (low r)) ordered
 
@@ -107,13 +117,14 @@ module _ (y : Day) (F : Fine y) (M : Made y) where
     starts = starts-on v r (E .out .0) refl;
     distinct = M .distinct;
     terminals = λ s o. terminals-on v r (E .out .0) refl (one-source v r (E .out .0) refl) refl s o (λ i. List·Memᴰ·not-nil i);
+    ended = ended-on v r (E .out .1);
   }
     where
       v : Vertex
       v = event (y .terminal r) c (newUpdate y u)
 
   made-close : (c t : ℕ) → Made (close y c t)
-  made-close c t = record { constructed = M .constructed; starts = M .starts; distinct = M .distinct; terminals = M .terminals }
+  made-close c t = record { constructed = M .constructed; starts = M .starts; distinct = M .distinct; terminals = M .terminals; ended = M .ended }
 
   made-fork : (r : ℕ) → CanFork y r → Made (forkAt y r)
   made-fork r N = record {
@@ -121,6 +132,7 @@ module _ (y : Day) (F : Fine y) (M : Made y) where
     distinct = distinct′;
     starts = λ s h. cases (eqb s n) (λ e. rw e (tabulate-newest startStep 0 sv (fv ∷ d))) (λ e. rw e (starts′ s (not-last s n h e)));
     terminals = λ s o. cases (eqb s n) (λ e. rw e (terminal-newest ordered2)) (λ e. rw e (terminals′ s (forked-out y r s o e)));
+    ended = λ s h. cases (eqb s n) (λ e. let f : false ≡ true = rw e at h in absurd (false≢true f)) (λ e. let k = ended-on fv r (N .out .1) s (rw e at h) in rw e (k .0, older (k .1)));
   }
     where
       n : ℕ
@@ -191,6 +203,7 @@ module _ (y : Day) (F : Fine y) (M : Made y) where
     starts = starts-on jv a (H .out-a .0) refl;
     distinct = M .distinct;
     terminals = λ s o. let p = joined-out y a b s o in terminals-on jv a (H .out-a .0) refl two-sources refl s (p .0) (apart s b (p .0 .0) (H .out-b .0) (p .1));
+    ended = λ s h. cases (eqb s b) (λ e. let z = eqb-true s b e in rw (z, ne-eqb b a (H .not-self)) (length d, newest refl (List·Memᴰ·head refl))) (λ e. ended-on jv a (H .out-a .1) s (rw e at h));
   }
     where
       jv : Vertex

@@ -2,27 +2,30 @@
 use Prim.Native.Nat.{_<_, _≤_, ℕ}
 use mathlib.Core.Bool.{false, false≢true, true}
 use mathlib.Core.Path.{_∙_, _≡_, refl, sym}
-use mathlib.Core.Logic.{inl, inr}
+use mathlib.Core.Logic.{_↔_, inl, inr}
 use mathlib.Core.Option.{Option, none, some}
 use mathlib.Core.List.{List, [], _++_, _∷_, append-nil}
 use native.Mathlib.Omega.{arith}
 use lib.ListN.{length}
 use lib.Dec.{eqb}
-use borrow.Author.Tests.{eqb-true, ne-eqb}
+use borrow.Author.Tests.{eqb-false, eqb-true, ne-eqb}
 use Rattle.diagram.proofs.Days.Entering.{sound-enter}
 use Rattle.diagram.proofs.Days.Forking.{sound-fork}
 use Rattle.diagram.proofs.Days.Joining.{sound-join}
-use Rattle.diagram.proofs.Days.Moves.{Moves, enters, joinsInto, forksAt, yields}
+use Rattle.diagram.proofs.Days.Moves.{Moves, enters, idle-all, joinsInto, forksAt, yields}
 use Rattle.diagram.proofs.Days.Sound.{SeenWhole, Sound, link, sound-fresh}
 use Rattle.diagram.proofs.Days.Yielding.{sound-yield}
 use Rattle.diagram.proofs.Graph.Paths.{leads-path, path-leads}
 use Rattle.diagram.proofs.Graph.Tables.{tabulate-newest, tabulate-older}
 use Rattle.diagram.specs.Arbitration.{Extends, WholeAt, eventsOf}
-use Rattle.diagram.specs.Day.{Day, fresh}
+use Rattle.diagram.specs.Day.{Day, IsIdle, fresh}
+use Rattle.diagram.specs.Checks.{busy, isOn}
+use Rattle.diagram.specs.Sizes.{clientLimit}
 use Rattle.diagram.specs.Diagram.{Diagram, Vertex, event, fork, join, leads, start}
 use Rattle.diagram.specs.Effects.{entry, own, tabulate, view, viewStep}
 use Rattle.diagram.specs.Steps.{newUpdate, yield}
 use Rattle.lists.proofs.Cases.{cases}
+use Rattle.lists.proofs.Sums.{any-never}
 use Rattle.lists.specs.Lists.{_∈_}
 
 -- a day that is sound, with its layout
@@ -39,6 +42,24 @@ fine-moves y z F (joinsInto a b H) = record { layout = _; hold = _; sound = soun
 
 unfoldable pub fine-fresh : Fine fresh
 fine-fresh = record { layout = 0 ∷ []; hold = λ x. []; sound = sound-fresh }
+
+-- the test of code 7 is 01's "busy"
+pub busy-idle : (y : Day) → Fine y → (r : ℕ) → (busy y r ≡ false) ↔ IsIdle y r
+unfolding busy
+busy-idle y F r = (there, back)
+  where
+    there : busy y r ≡ false → IsIdle y r
+    there e (c, t, q, z) =
+        let f = idle-all y r e c (F .sound .runs c t q .client-ok) tt in
+        let g : eqb (y .transaction t .revision) r ≡ false = rw q at f in
+        eqb-false _ r g z
+
+    back : IsIdle y r → busy y r ≡ false
+    back i = any-never clientLimit _ (λ o h. by o (y .openBy o) refl)
+      where
+        by : (o : ℕ) (p : Option ℕ) → y .openBy o ≡ p → isOn y p r ≡ false
+        by o none q = refl
+        by o (some t) q = cases (eqb (y .transaction t .revision) r) (λ e. absurd (i (o, t, q, eqb-true _ r e))) (λ e. e)
 
 -- a revision's list grows only at its end
 pub extends : (y z : Day) → Fine y → Moves y z → Extends y z

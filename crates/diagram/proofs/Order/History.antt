@@ -10,6 +10,7 @@ use native.Mathlib.Omega.{arith}
 use lib.ListN.{length}
 use lib.Dec.{eqb}
 use borrow.Author.Tests.{eq-eqb, eqb-false, eqb-true}
+use Rattle.diagram.proofs.Days.Moves.{can-enter}
 use Rattle.diagram.proofs.Days.Sound.{Sound, some≢none}
 use Rattle.diagram.proofs.Order.Growth.{Fine}
 use Rattle.diagram.specs.Arbitration.{eventsOf}
@@ -58,6 +59,22 @@ module _ (y : Day) (F : Fine y) where
       by (some s) = cases (eqb t s) (λ e. rw (e, eqb-true t s e)) (λ e. rw e)
   keeps-client (Fork r) a t h = refl
   keeps-client (Join p q) a t h = refl
+
+  -- and its revision
+  pub keeps-revision : (s : Step) → accepted y s ≡ true → (t : ℕ) → t < y .transactions → after y s .transaction t .revision ≡ y .transaction t .revision
+  unfolding after
+  keeps-revision (Event c r u) a t h = cases (eqb t (into c)) (λ e. rw e (mine (y .openBy c) refl (eqb-true t (into c) e))) (λ e. rw e)
+    where
+      mine : (o : Option ℕ) → y .openBy c ≡ o → t ≡ entersInto y o → r ≡ y .transaction t .revision
+      mine none q e = absurd (omega arith)
+      mine (some s) q e = sym (ap (λ i. y .transaction i .revision) e ∙ can-enter y c r u a .same-revision s q)
+  keeps-revision (Yield c) a t h = by (y .openBy c)
+    where
+      by : (o : Option ℕ) → yield y c o .transaction t .revision ≡ y .transaction t .revision
+      by none = refl
+      by (some s) = cases (eqb t s) (λ e. rw (e, eqb-true t s e)) (λ e. rw e)
+  keeps-revision (Fork r) a t h = refl
+  keeps-revision (Join p q) a t h = refl
 
   pub keeps-event : (s : Step) (t : ℕ) → t < y .transactions → (e : ℕ) → e ∈ eventsOf y t → e ∈ eventsOf (after y s) t
   unfolding after
@@ -111,6 +128,10 @@ module _ (y : Day) (F : Fine y) where
   pub into-client : (c r : ℕ) (u : Bool) → after y (Event c r u) .transaction (into c) .client ≡ c
   unfolding after
   into-client c r u = ap (λ w. w .client) (changed-same (y .transaction) (into c) _)
+
+  pub into-revision : (c r : ℕ) (u : Bool) → after y (Event c r u) .transaction (into c) .revision ≡ r
+  unfolding after
+  into-revision c r u = ap (λ w. w .revision) (changed-same (y .transaction) (into c) _)
 
   pub into-open : (c r : ℕ) (u : Bool) → after y (Event c r u) .openBy c ≡ some (into c)
   unfolding after

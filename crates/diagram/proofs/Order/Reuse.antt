@@ -1,21 +1,19 @@
 -- On every run of accepted steps the numbers that revisions bear go by 02, U7.
 use Prim.Native.Nat.{_<_, _≤_, suc, zero, ℕ}
-use mathlib.Core.Bool.{false, false≢true, true}
+use mathlib.Core.Bool.{true}
 use mathlib.Core.Path.{_∙_, _≡_, ap, refl, subst, sym}
 use mathlib.Core.Option.{Option, none, some}
 use mathlib.Core.List.{List, List·Memᴰ·not-nil, [], _++_, _∷_}
 use native.Mathlib.Omega.{arith}
 use lib.Dec.{eqb, ltb}
-use borrow.Author.Tests.{eqb-false, lt-ltb, ltb-false, ltb-true, not-true}
+use borrow.Author.Tests.{eqb-false, ltb-false, ltb-true}
 use Rattle.lists.proofs.Cases.{cases}
 use Rattle.lists.proofs.Changed.{changed-other}
 use Rattle.diagram.specs.Sizes.{revisionLimit}
 use Rattle.diagram.specs.Numbering.{latest, next}
-use Rattle.diagram.specs.Day.{Day, IsOut, fresh, meant, nextNumber, numberOf, outCount}
-use Rattle.diagram.specs.Checks.{busy, noneLeft}
-use Rattle.diagram.specs.Steps.{Accepted, AcceptedFrom, Event, Fork, Join, Step, Yield, accepted, after, forkAt, run, runFrom, yield}
+use Rattle.diagram.specs.Day.{Day, fresh, meant, nextNumber, numberOf, outCount}
+use Rattle.diagram.specs.Steps.{Accepted, Event, Fork, Join, Step, Yield, accepted, after, forkAt, run, runFrom, yield}
 use Rattle.diagram.specs.Reuse.{Bears, ByNumbers, Takes, Used, longest-ago, never-used, waiting}
-use Rattle.diagram.proofs.Days.Accepting.{accept-fork}
 use Rattle.diagram.proofs.Days.Moves.{can-fork}
 use Rattle.diagram.proofs.Days.Naming.{Named, latest-bore, latest-last, meant-low, meant-number, named-fresh, number-new}
 use Rattle.diagram.proofs.Days.Sound.{some≢none}
@@ -96,15 +94,6 @@ module _ (ss : List Step) (A : Accepted ss) where
   few : outCount y ≤ revisionLimit
   few = let a = N .counted in let b = N .few in omega arith
 
-  full : (r : ℕ) → IsOut y r → busy y r ≡ false → accepted y (Fork r) ≡ false → outCount y ≡ revisionLimit
-  unfolding noneLeft
-  full r o i e = cases (noneLeft y)
-      (λ t. let k = ltb-false _ revisionLimit (not-true _ t) in let l = few in omega arith)
-      (λ t. absurd (false≢true (sym e ∙ accept-fork y r (rw (lt-ltb r (y .revisions) (o .0))) (o .1) i t)))
-
-  refused : (r : ℕ) → outCount y ≡ revisionLimit → accepted y (Fork r) ≡ false
-  refused r q = cases (accepted y (Fork r)) (λ e. absurd (let k = can-fork y r e .room in omega arith)) (λ e. e)
-
 -- each fork of a run
 forked : (ss : List Step) → Accepted ss → (before rest : List Step) (r : ℕ) → ss ≡ before ++ (Fork r ∷ rest) → Takes before (numberOf (run ss) (run before .revisions))
 unfolding runFrom after nextNumber
@@ -127,5 +116,4 @@ by-numbers ss A = record {
   given = λ n. (used ss A n, λ u. let k = N ss A .low (u .0) (u .1) in let z = u .2 in omega arith);
   freed = waits-run ss A;
   most = few ss A;
-  none-left = λ r o i. (full ss A r o i, refused ss A r);
 }

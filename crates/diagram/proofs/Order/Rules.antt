@@ -1,11 +1,9 @@
 -- Every run of accepted steps goes by the rules of 002 and 01.
 use mathlib.Core.List.{List}
-use Rattle.diagram.proofs.Graph.Paths.{leads-iff-path}
 use Rattle.diagram.proofs.Graph.RootPaths.{composed-at}
-use Rattle.diagram.proofs.Order.Constructed.{joinable-iff, made-run}
-use Rattle.diagram.proofs.Order.Runs.{fine-run}
+use Rattle.diagram.proofs.Order.Constructed.{made-run}
 use Rattle.diagram.specs.Rules.{ByRules}
-use Rattle.diagram.specs.Steps.{Accepted, Step, run}
+use Rattle.diagram.specs.Steps.{Accepted, Step}
 
 pub by-rules : (ss : List Step) → Accepted ss → ByRules ss
 by-rules ss A =
@@ -14,7 +12,5 @@ by-rules ss A =
       constructed = made .constructed;
       terminals = made .terminals;
       starts = made .starts;
-      joins = joinable-iff ss A;
-      paths = λ x y. leads-iff-path (run ss .diagram) x y (fine-run ss A .sound .real .linked .ordered);
       composed = composed-at (made .constructed);
     }

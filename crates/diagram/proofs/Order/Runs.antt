@@ -45,6 +45,10 @@ unfolding runFrom
 accepted-both [] b y A B = B
 accepted-both (s ∷ a) b y A B = (A .0, accepted-both a b (after y s) (A .1) B)
 
+pub accepted-more : (ss : List Step) (s : Step) → Accepted ss → accepted (run ss) s ≡ true → Accepted (ss ++ (s ∷ []))
+unfolding run
+accepted-more ss s A e = accepted-both ss (s ∷ []) fresh A (e, tt)
+
 -- what each step keeps holds after every run
 pub along : (P : Day → Type 0) → ((y : Day) (s : Step) → accepted y s ≡ true → P y → P (after y s)) → (ss : List Step) (y : Day) → AcceptedFrom y ss → P y → P (runFrom y ss)
 unfolding runFrom

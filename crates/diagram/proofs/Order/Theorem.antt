@@ -17,15 +17,14 @@ use Rattle.diagram.proofs.Graph.Events.{ownEvents, viewEventStep, viewE
 use Rattle.diagram.proofs.Graph.Paths.{leads-path}
 use Rattle.diagram.proofs.Graph.Tables.{tabulate-newest, tabulate-older}
 use Rattle.diagram.proofs.Graph.Visible.{self, view-numbers, view-paths, visible}
-use Rattle.diagram.proofs.Order.Growth.{Fine, Older, extends, fine-fresh, older-length, view-stays, whole-of}
+use Rattle.diagram.proofs.Order.Growth.{Fine, Older, busy-idle, extends, fine-fresh, older-length, view-stays, whole-of}
 use Rattle.diagram.proofs.Order.Inherited.{entry-is, numbers-nodup, numbers-sub}
 use Rattle.diagram.proofs.Order.Numbered.{number-event}
 use Rattle.diagram.proofs.Order.Runs.{accepted-first, accepted-rest, fine-run, fine-step, numbered-run, older-from, run-append, run-step}
 use Rattle.diagram.specs.Arbitration.{Arbitration, ExtendsEach, IsEvent, Numbered, Sees, SeesTransaction, Shows, WholeAt, eventsOf}
 use Rattle.diagram.specs.Arbitration.{newest-is, older-is}
-use Rattle.diagram.specs.Checks.{busy}
 use Rattle.diagram.specs.Construction.{entered}
-use Rattle.diagram.specs.Day.{Day, IsOut, fresh}
+use Rattle.diagram.specs.Day.{Day, IsIdle, IsOut, fresh}
 use Rattle.diagram.specs.Diagram.{Diagram, event}
 use Rattle.diagram.specs.Effects.{entry, number, numbers, view}
 use Rattle.diagram.specs.Steps.{Accepted, AcceptedFrom, Event, Step, after, run}
@@ -38,8 +37,8 @@ grows-from : (ss : List Step) (y : Day) → Fine y → AcceptedFrom y ss → Ext
 grows-from [] y F A = tt
 grows-from (s ∷ ss) y F A = (extends y (after y s) F (step-moves y s (A .0)), grows-from ss (after y s) (fine-step y s (A .0) F) (A .1))
 
--- a revision that is not busy shows a transaction whole or not at all
-whole-idle : (y : Day) → Fine y → (t r : ℕ) → t < y .transactions → IsOut y r → busy y r ≡ false → WholeAt y t (y .terminal r) (length (y .diagram))
+-- a revision that is idle shows a transaction whole or not at all
+whole-idle : (y : Day) → Fine y → (t r : ℕ) → t < y .transactions → IsOut y r → IsIdle y r → WholeAt y t (y .terminal r) (length (y .diagram))
 whole-idle y F t r h o b = pick (mem? (y .terminal r) (eventsOf y t))
   where
     low : y .terminal r < length (y .diagram)
@@ -47,7 +46,7 @@ whole-idle y F t r h o b = pick (mem? (y .terminal r) (eventsOf y t))
 
     pick : (y .terminal r ∈ eventsOf y t) ⊎ (y .terminal r ∈ eventsOf y t → ⊥) → WholeAt y t (y .terminal r) (length (y .diagram))
     pick (inl i) =
-        let p = idle-past y (F .layout) (F .hold) (F .sound) r t o (idle-all y r b) h i in
+        let p = idle-past y (F .layout) (F .hold) (F .sound) r t o (idle-all y r (busy-idle y F r .1 b)) h i in
         inr (λ e j. leads-path (y .diagram) e (y .terminal r) (p .3 e j), record { at = p .0; is = p .1; soon = p .2 })
     pick (inr n) = either (whole-of y F t (y .terminal r) h low n) (λ k. inl k) (λ k. inr (k .0, record { at = k .1 .at; is = k .1 .is; soon = omega (arith, k .1 .soon, low) }))
 
@@ -141,7 +140,7 @@ module _ (ss : List Step) (A : Accepted ss) (F : Fine (run ss)) where
       subst (λ z. Shows y order (length (run before .diagram)) (view (z .diagram) (length (run before .diagram)))) q
       (ever (before ++ (Event c r false ∷ [])) rest w (length (run before .diagram)) (subst (λ z. length (run before .diagram) < length (z .diagram)) (sym q) k))
 
-  lists : (before rest : List Step) → ss ≡ before ++ rest → (r : ℕ) → IsOut (run before) r → busy (run before) r ≡ false
+  lists : (before rest : List Step) → ss ≡ before ++ rest → (r : ℕ) → IsOut (run before) r → IsIdle (run before) r
       → (t : ℕ) → t < run before .transactions → WholeAt (run before) t (run before .terminal r) (length (run before .diagram))
   lists before rest e r o b t h = whole-idle (run before) (fine-run before (accepted-first before rest (subst Accepted e A))) t r h o b
 

@@ -12,23 +12,23 @@ use Rattle.diagram.proofs.Days.Sound.{event-low, same-some, some≢none
 use Rattle.diagram.proofs.Graph.Paths.{leads-path, leads-trans, leads-up, path-older}
 use Rattle.diagram.proofs.Order.Constructed.{made-run}
 use Rattle.diagram.proofs.Order.Growth.{Fine, Older, fine-fresh, next, same}
-use Rattle.diagram.proofs.Order.History.{closes, into, into-client, into-has, into-low, into-open, keeps-client, keeps-event}
+use Rattle.diagram.proofs.Order.History.{closes, into, into-client, into-has, into-low, into-open, into-revision, keeps-client, keeps-event, keeps-revision}
 use Rattle.diagram.proofs.Order.History.{more-transactions, open-or-shut, stays-closed, stays-last, stays-open}
 use Rattle.diagram.proofs.Order.Runs.{accepted-first, accepted-rest, along, fine-run, fine-step, older-from, run-append}
 use Rattle.diagram.specs.Arbitration.{eventsOf}
 use Rattle.diagram.specs.Day.{Day, Transaction, fresh}
 use Rattle.diagram.specs.Diagram.{Diagram, Edge, HasPath, Terminal, Vertex, newest, older, s-sources}
 use Rattle.diagram.specs.Steps.{Accepted, AcceptedFrom, Event, Step, Yield, accepted, after, entersInto, run, runFrom}
-use Rattle.diagram.specs.Witness.{EnteredIn, NoEvent, NoYield, Witness}
+use Rattle.diagram.specs.Witness.{ByTransactions, EnteredIn, NoEvent, NoYield, Witness}
 use Rattle.lists.proofs.Changed.{changed-same}
 use Rattle.lists.specs.Lists.{_∈_}
 
-entered-step : (x c t : ℕ) (y : Day) (s : Step) → accepted y s ≡ true → Fine y × EnteredIn y x c t → Fine (after y s) × EnteredIn (after y s) x c t
-entered-step x c t y s a (F, E) = (fine-step y s a F, record { known = omega (arith, E .known, more-transactions y F s); has = keeps-event y F s t (E .known) x (E .has); own = keeps-client y F s a t (E .known) ∙ E .own })
+entered-step : (x c r t : ℕ) (y : Day) (s : Step) → accepted y s ≡ true → Fine y × EnteredIn y x c r t → Fine (after y s) × EnteredIn (after y s) x c r t
+entered-step x c r t y s a (F, E) = (fine-step y s a F, record { known = omega (arith, E .known, more-transactions y F s); has = keeps-event y F s t (E .known) x (E .has); own = keeps-client y F s a t (E .known) ∙ E .own; on = keeps-revision y F s a t (E .known) ∙ E .on })
 
 -- an event stays in its transaction
-entered-on : (ss : List Step) (y : Day) → AcceptedFrom y ss → Fine y → (x c t : ℕ) → EnteredIn y x c t → EnteredIn (runFrom y ss) x c t
-entered-on ss y A F x c t E = along (λ z. Fine z × EnteredIn z x c t) (entered-step x c t) ss y A (F, E) .1
+entered-on : (ss : List Step) (y : Day) → AcceptedFrom y ss → Fine y → (x c r t : ℕ) → EnteredIn y x c r t → EnteredIn (runFrom y ss) x c r t
+entered-on ss y A F x c r t E = along (λ z. Fine z × EnteredIn z x c r t) (entered-step x c r t) ss y A (F, E) .1
 
 -- an open transaction is open after a run without a yield
 open-on : (ss : List Step) (y : Day) → AcceptedFrom y ss → Fine y → (c t : ℕ) → y .openBy c ≡ some t → NoYield c ss → runFrom y ss .openBy c ≡ some t
@@ -135,11 +135,14 @@ module _ (ss before rest : List Step) (A : Accepted ss) (c r : ℕ) (u : Bool) (
   opened = into-open y0 F0 c r u
 
   -- at the end of the run
-  is-in : EnteredIn (run ss) x c goesInto
-  is-in = rw ends (entered-on rest y1 (B .1) F1 x c goesInto (record { known = into-low y0 F0 c r u; has = into-has y0 F0 c r u; own = into-client y0 F0 c r u }))
+  is-in : EnteredIn (run ss) x c r goesInto
+  is-in = rw ends (entered-on rest y1 (B .1) F1 x c r goesInto (record { known = into-low y0 F0 c r u; has = into-has y0 F0 c r u; own = into-client y0 F0 c r u; on = into-revision y0 F0 c r u }))
 
   is-open : NoYield c rest → run ss .openBy c ≡ some goesInto
   is-open n = ap (λ z. z .openBy c) ends ∙ open-on rest y1 (B .1) F1 c goesInto opened n
+
+  pub has-open : NoYield c rest → (t : ℕ) × (run ss .openBy c ≡ some t)
+  has-open n = (goesInto, is-open n)
 
   is-shut : List·Memᴰ (Yield c) rest → ShutAt (run ss) goesInto
   is-shut i = let s = shut-by rest y1 (B .1) F1 c goesInto opened i in (s .0, ap (λ z. z .transaction goesInto .closed) ends ∙ s .1)
@@ -148,7 +151,7 @@ module _ (ss before rest : List Step) (A : Accepted ss) (c r : ℕ) (u : Bool) (
   unfolding after
   is-last n = ap (λ z. z .lastEvent c) ends ∙ last-on rest y1 (B .1) F1 c x (changed-same (y0 .lastEvent) c (some x)) n
 
-  recorded : (t : ℕ) × EnteredIn (run ss) x c t × ((run ss .transaction t .closed ≡ none) ↔ NoYield c rest)
+  recorded : (t : ℕ) × EnteredIn (run ss) x c r t × ((run ss .transaction t .closed ≡ none) ↔ NoYield c rest)
   recorded = (goesInto, is-in, (λ q i. some≢none (run ss .transaction goesInto .closed) (is-shut i .1) q, λ n. fine-run ss A .sound .runs c goesInto (is-open n) .unshut))
 
   last-open : NoEvent c rest → NoYield c rest → Terminal (run ss .diagram) x
@@ -186,11 +189,11 @@ module _ (ss before middle rest : List Step) (A : Accepted ss) (c r q : ℕ) (u 
   abbrev t : ℕ
   t = goesInto first before middle A2 c r u refl
 
-  was-in : EnteredIn y2 (length (run before .diagram)) c t
+  was-in : EnteredIn y2 (length (run before .diagram)) c r t
   was-in = is-in first before middle A2 c r u refl
 
-  together : (t : ℕ) × EnteredIn (run ss) (length (run before .diagram)) c t × ((z ∈ eventsOf (run ss) t) ↔ NoYield c middle)
-  together = (t, rw ends2 (entered-on (Event c q w ∷ rest) y2 B2 F2 (length (run before .diagram)) c t was-in), (apart, joint))
+  together : (t : ℕ) × EnteredIn (run ss) (length (run before .diagram)) c r t × ((z ∈ eventsOf (run ss) t) ↔ NoYield c middle)
+  together = (t, rw ends2 (entered-on (Event c q w ∷ rest) y2 B2 F2 (length (run before .diagram)) c r t was-in), (apart, joint))
     where
       apart : z ∈ eventsOf (run ss) t → NoYield c middle
       apart i y =
@@ -223,6 +226,13 @@ module _ (ss before middle rest : List Step) (A : Accepted ss) (c r q : ℕ) (u 
       let p = F2 .sound .sessions .last-sees t (length (run before .diagram)) (was-in .known) (was-in .has) in
       path-on grown (leads-path _ (length (run before .diagram)) z (leads-up _ (y2 .diagram) (length (run before .diagram)) (y2 .terminal q) (List·Memᴰ·head refl) (leads-trans (F2 .sound .real .linked .ordered) (length (run before .diagram)) (p .0) (y2 .terminal q) (p .2) (can .caught-up (p .0) (ap (y2 .lastEvent) (sym (was-in .own)) ∙ p .1)))))
 
+pub points : (ss : List Step) → Accepted ss → ByTransactions ss
+points ss A = record {
+  successive = λ before middle rest c r q u w e. successive ss before middle rest A c r q u w e;
+  last-open = λ before rest c r u e. last-open ss before rest A c r u e;
+  in-sequence = λ before middle rest c r q u w e i. in-sequence ss before middle rest A c r q u w e;
+}
+
 -- the theorem: a run's diagram is a witness for its events and yields
 pub witness : (ss : List Step) → Accepted ss → Witness ss
 unfolding run
@@ -230,7 +240,8 @@ witness ss A = record {
   recorded = λ before rest c r u e. recorded ss before rest A c r u e;
   together = λ before middle rest c r q u w e. together ss before middle rest A c r q u w e;
   yielded = λ t n p. let k = yield-from ss fresh A fine-fresh t n refl p in record { before = k .before; rest = k .rest; client = k .client; is = k .is; was-open = k .was-open; at = k .at };
-  successive = λ before middle rest c r q u w e. successive ss before middle rest A c r q u w e;
-  last-open = λ before rest c r u e. last-open ss before rest A c r u e;
-  in-sequence = λ before middle rest c r q u w e. in-sequence ss before middle rest A c r q u w e;
+  opened = λ c t.
+      let S = fine-run ss A .sound in
+      (λ q. let R = S .runs c t q in (R .known, R .client, R .unshut), λ h. subst (λ k. run ss .openBy k ≡ some t) (h .1) (S .unshut t (h .0) (h .2)));
+  points = points ss A;
 }

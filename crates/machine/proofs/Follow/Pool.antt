@@ -1,4 +1,4 @@
--- The marks of the machine are the sets J of the server pool, and so the pool's rule is code 11.
+-- The marks of the machine are the sets J of the server pool, and so the pool's rule is 01's join rule.
 use Prim.Native.Nat.{ℕ, suc}
 use mathlib.Core.Bool.{false, not}
 use mathlib.Core.Path.{_≡_, refl, sym, _∙_, ap}
@@ -8,6 +8,7 @@ use borrow.Author.Tests.{not-true}
 use Rattle.diagram.specs.Day.{Day, fresh}
 use Rattle.diagram.specs.Checks.{notJoinable}
 use Rattle.diagram.specs.Pool.{ByPool, Pool, forkPool, joinPool, pool, poolAfter, poolFrom}
+use Rattle.diagram.proofs.Order.Constructed.{joinable-iff}
 use Rattle.diagram.specs.Steps.{Accepted, Event, Fork, Join, Step, Yield, after, run, yield}
 use Rattle.machine.specs.Machine.{Machine, freshMachine, machineAfter, machineFrom}
 use Rattle.machine.proofs.Follow.Shown.{follows-run}
@@ -40,4 +41,5 @@ pub by-pool : (ss : List Step) → Accepted ss → ByPool ss
 unfolding pool
 by-pool ss A a b oa ob =
     let same : pool ss a b ≡ not (notJoinable (run ss) a b) = sym (ap (λ (M : Pool). M a b) (marks-from ss fresh freshMachine (λ a b. false) refl refl)) ∙ follows-run ss A .same-joinable a b oa ob in
-    (λ e. same ∙ ap not e, λ e. not-true (notJoinable (run ss) a b) (sym same ∙ e))
+    let rule = joinable-iff ss A a b oa ob in
+    (λ J. same ∙ ap not (rule .1 J), λ e. rule .0 (not-true (notJoinable (run ss) a b) (sym same ∙ e)))

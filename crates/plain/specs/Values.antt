@@ -1,0 +1,36 @@
+-- 01, "Values when taken: .. fork, the new number; join, the count of updates the joiner gained", and 02, U1, fill, by the paths of the day.
+use Prim.Native.Nat.{ℕ}
+use mathlib.Core.Bool.{true}
+use mathlib.Core.Path.{_≡_}
+use mathlib.Core.Option.{some}
+use mathlib.Core.List.{List, []}
+use lib.ListN.{length}
+use Rattle.diagram.specs.Day.{Day, IsOut, meant}
+use Rattle.diagram.specs.Arbitration.{Numbered}
+use Rattle.diagram.specs.Counts.{OwnUpdates, SeenSince}
+use Rattle.plain.specs.Calls.{Answer}
+use Rattle.plain.specs.Answers.{Outcome}
+
+-- a fork from day y: its value meant no revision that was out, and from then on means the new one, which is out, shows what the forked one shows and
+-- sees no update besides; every other number means what it did
+pub record Forked (y : Day) (n : ℕ) (o : Outcome) : Type 0 where
+  pub unused : (r : ℕ) → meant y (o .answer .value) ≡ some r → y .joined r ≡ true
+  pub others : (k : ℕ) → (k ≡ o .answer .value → ⊥) → meant (o .next .day) k ≡ meant y k
+  pub means : meant (o .next .day) (o .answer .value) ≡ some (y .revisions)
+  pub out : IsOut (o .next .day) (y .revisions)
+  pub shows : (r : ℕ) → meant y n ≡ some r → SeenSince (y .diagram) (y .terminal r) (o .next .day .diagram) (o .next .day .terminal (y .revisions)) []
+
+-- a join of b into a from day y: the updates that a sees now and did not see, as many as the value says, which are b's own
+pub record Gained (y : Day) (a b : ℕ) (o : Outcome) : Type 0 where
+  pub updates : List ℕ
+  pub gained : SeenSince (y .diagram) (y .terminal a) (o .next .day .diagram) (o .next .day .terminal a) updates
+  pub brought : OwnUpdates y b updates
+  pub value : o .answer .value ≡ length updates
+
+-- a fill of r on day y: "its own updates: those it took itself plus those of boxes joined into it", and "the number taken by the whole table": as many as
+-- there are updates in the diagram
+pub record Filled (y : Day) (r : ℕ) (answer : Answer) : Type 0 where
+  pub updates : List ℕ
+  pub own-updates : OwnUpdates y r updates
+  pub value : answer .value ≡ length updates
+  pub all : Numbered (y .diagram) (answer .total)
