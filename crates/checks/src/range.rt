@@ -8,7 +8,6 @@ ghost use Rattle.cells.specs.Sizes.{bytes};
 ghost use Rattle.cells.specs.Parts.{countersPart, queuePart, signaturePart, split};
 ghost use Rattle.cells.specs.Range.{bytesBelow, countersIn, inRange, placesIn, queueIn, recordsIn, signed, singlesIn, wordsBelow};
 ghost use Rattle.checks.specs.Answers.{rangeCheck};
-use fields::numbers::byte_at;
 use fields::read;
 use fields::table::BASE;
 use fields::table::CLOSED_UPDATES;
@@ -29,31 +28,36 @@ pub enum RangeCheck {
     Damaged,
 }
 
-// n bytes from `at` on, each below a limit.
-fn bytes_below(d: &[u8], at: usize, n: usize, limit: usize) -> bool
+// n bytes from `at` on, each below a limit. The comparison is of bytes, so that many are compared at a time.
+fn bytes_below(d: &[u8], at: usize, n: usize, limit: u8) -> bool
     requires { ⌜ at + n ≤ length (now d) ⌝ }
     ensures { λ r. ⌜ r ≡ bytesBelow n limit (midOf at n (now (d .entry))) ⌝ }
 {
     let mut ok = true;
     let mut i: usize = 0;
     while i < n {
-        ok = ok & (byte_at(d, at + i) < limit);
+        ok = ok & (d[at + i] < limit);
         i += 1;
     }
     ok
 }
 
+// A word of its two bytes.
+fn word(low: u8, high: u8) -> u16
+    ensures { λ r. ⌜ r ≡ low + 256 * high ⌝ }
+{
+    low as u16 + 256 * (high as u16)
+}
+
 // n words from `at` on, each below a limit.
-fn words_below(d: &[u8], at: usize, n: usize, limit: usize) -> bool
+fn words_below(d: &[u8], at: usize, n: usize, limit: u16) -> bool
     requires { ⌜ at + 2 * n ≤ length (now d) ⌝ }
     ensures { λ r. ⌜ r ≡ wordsBelow n limit (midOf at (2 * n) (now (d .entry))) ⌝ }
 {
     let mut ok = true;
     let mut i: usize = 0;
     while i < n {
-        let low = byte_at(d, at + 2 * i);
-        let high = byte_at(d, at + (2 * i + 1));
-        ok = ok & (low + 256 * high < limit);
+        ok = ok & (word(d[at + 2 * i], d[at + (2 * i + 1)]) < limit);
         i += 1;
     }
     ok
@@ -92,12 +96,12 @@ fn records_in(d: &[u8]) -> bool
     requires { ⌜ length (now d) ≡ bytes ⌝ }
     ensures { λ r. ⌜ r ≡ recordsIn (split (now (d .entry))) ⌝ }
 {
-    let state = bytes_below(d, STATE, Table::REVISIONS, Table::STATE_LIMIT);
-    let used = bytes_below(d, USED, Table::REVISIONS, Table::USED_LIMIT);
-    let last = words_below(d, LAST, Table::REVISIONS, Table::UPDATES);
-    let first = words_below(d, FIRST, Table::REVISIONS, Table::UPDATES);
-    let count = words_below(d, COUNT, Table::REVISIONS, Table::UPDATES_LIMIT);
-    let base = words_below(d, BASE, Table::REVISIONS, Table::UPDATES_LIMIT);
+    let state = bytes_below(d, STATE, Table::REVISIONS, Table::STATE_LIMIT as u8);
+    let used = bytes_below(d, USED, Table::REVISIONS, Table::USED_LIMIT as u8);
+    let last = words_below(d, LAST, Table::REVISIONS, Table::UPDATES as u16);
+    let first = words_below(d, FIRST, Table::REVISIONS, Table::UPDATES as u16);
+    let count = words_below(d, COUNT, Table::REVISIONS, Table::UPDATES_LIMIT as u16);
+    let base = words_below(d, BASE, Table::REVISIONS, Table::UPDATES_LIMIT as u16);
     state & (used & (last & (first & (count & base))))
 }
 
@@ -109,8 +113,8 @@ fn queue_in(d: &[u8]) -> bool
     let mut ok = true;
     let mut i: usize = 0;
     while i < Table::REVISIONS {
-        let n = byte_at(d, QUEUE + i);
-        ok = ok & ((0 < n) & (n < Table::REVISIONS));
+        let n = d[QUEUE + i];
+        ok = ok & ((0 < n) & (n < Table::REVISIONS as u8));
         i += 1;
     }
     ok
@@ -121,9 +125,9 @@ fn places_in(d: &[u8]) -> bool
     requires { ⌜ length (now d) ≡ bytes ⌝ }
     ensures { λ r. ⌜ r ≡ placesIn (split (now (d .entry))) ⌝ }
 {
-    let layout = bytes_below(d, LAYOUT, Table::REVISIONS, Table::REVISIONS);
+    let layout = bytes_below(d, LAYOUT, Table::REVISIONS, Table::REVISIONS as u8);
     let queue = queue_in(d);
-    let opened = bytes_below(d, OPENED, Table::CLIENTS, Table::REVISIONS_LIMIT);
+    let opened = bytes_below(d, OPENED, Table::CLIENTS, Table::REVISIONS_LIMIT as u8);
     layout & (queue & opened)
 }
 
@@ -133,8 +137,8 @@ fn singles_in(d: &[u8]) -> bool
     ensures { λ r. ⌜ r ≡ singlesIn (split (now (d .entry))) ⌝ }
 {
     let counters = counters_in(d);
-    let single = bytes_below(d, SINGLE, 1, Table::SINGLE_LIMIT);
-    let closed = words_below(d, CLOSED_UPDATES, 1, Table::UPDATES_LIMIT);
+    let single = bytes_below(d, SINGLE, 1, Table::SINGLE_LIMIT as u8);
+    let closed = words_below(d, CLOSED_UPDATES, 1, Table::UPDATES_LIMIT as u16);
     counters & (single & (closed & is_signed(d)))
 }
 

@@ -1,6 +1,6 @@
 -- `checks::range::bytes_below` meets its contract: the flag says whether the bytes before `i` are below the limit. Assumes nothing.
 use Prim.Native.Nat.{_-_, _≤_}
-use mathlib.Core.Path.{_≡_, _∙_, ap, refl}
+use mathlib.Core.Path.{_≡_, ap, refl}
 use native.Mathlib.Omega.{arith}
 use lib.Dec.{ltb}
 use borrow.Author.Needs.{needs}
@@ -27,14 +27,14 @@ loop-again : tie.Need-loop-again Inv-loop μ-loop
 loop-again c =
     let at-loop = c .before .before in
     let l = at-loop .loop in
-    let a = at-loop .before .before .args in
+    let a = at-loop .before .args in
     let t = midOf (a .at) (a .n) (a .d .now) in
-    (omega arith, every-next (λ j. ltb (byte t j) (a .limit)) (l .i) (l .inv .1) (ap (λ v. ltb v (a .limit)) (c .byte-at .ensures .0 ∙ mid-byte (a .d .now) (a .at) (a .n) (l .i) (omega arith))))
+    (omega arith, every-next (λ j. ltb (byte t j) (a .limit)) (l .i) (l .inv .1) (ap (λ v. ltb v (a .limit)) (mid-byte (a .d .now) (a .at) (a .n) (l .i) (omega arith))))
 
 returns : tie.Need-returns Inv-loop μ-loop
 returns c =
     let l = c .before .loop in
-    let e : l .i ≡ c .before .before .before .args .n = omega arith in
+    let e : l .i ≡ c .before .before .args .n = omega arith in
     rw e at (l .inv .1)
 
 pub bytes-below-spec : {M : Type 1} → statement M
@@ -43,7 +43,7 @@ bytes-below-spec = tie.close (tie.spec
     μ-loop
     loop-holds
     (λ c. search needs)
-    (λ c κs. search needs)
+    (λ c. search needs)
     (λ c. search needs)
     (λ c. search needs)
     loop-again

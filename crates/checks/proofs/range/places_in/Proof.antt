@@ -14,7 +14,9 @@ returns c =
 
 pub places-in-spec : {M : Type 1} → statement M
 places-in-spec = tie.close (tie.spec
+    (λ c. search needs)
     (λ c κs. search needs)
     (λ c κs. search needs)
+    (λ c. search needs)
     (λ c κs. search needs)
     returns)

@@ -1,7 +1,7 @@
 -- `checks::range::queue_in` meets its contract: the flag says whether the places before `i` are in range. Assumes nothing.
 use Prim.Native.Nat.{_-_, _≤_}
 use mathlib.Core.Bool.{_&&_}
-use mathlib.Core.Path.{_≡_, _∙_, ap, refl}
+use mathlib.Core.Path.{_≡_, ap, refl}
 use native.Mathlib.Omega.{arith}
 use lib.Dec.{ltb}
 use borrow.Author.Needs.{needs}
@@ -28,8 +28,8 @@ unfolding offset size
 loop-again c =
     let at-loop = c .before .before in
     let l = at-loop .loop in
-    let d = at-loop .before .before .args .d .now in
-    (omega arith, every-next (λ j. ltb 0 (byte (split d queuePart) j) && ltb (byte (split d queuePart) j) 64) (l .i) (l .inv .1) (ap (λ v. ltb 0 v && ltb v 64) (c .byte-at .ensures .0 ∙ part-byte d queuePart (l .i) (omega arith))))
+    let d = at-loop .before .args .d .now in
+    (omega arith, every-next (λ j. ltb 0 (byte (split d queuePart) j) && ltb (byte (split d queuePart) j) 64) (l .i) (l .inv .1) (ap (λ v. ltb 0 v && ltb v 64) (part-byte d queuePart (l .i) (omega arith))))
 
 returns : tie.Need-returns Inv-loop μ-loop
 returns c =
@@ -43,7 +43,8 @@ queue-in-spec = tie.close (tie.spec
     μ-loop
     loop-holds
     (λ c. search needs)
-    (λ c κs. search needs)
+    (λ c. search needs)
+    (λ c. search needs)
     (λ c. search needs)
     (λ c. search needs)
     loop-again

@@ -19,7 +19,9 @@ returns c =
 pub singles-in-spec : {M : Type 1} → statement M
 singles-in-spec = tie.close (tie.spec
     (λ c κs. search needs)
+    (λ c. search needs)
     (λ c κs. search needs)
+    (λ c. search needs)
     (λ c κs. search needs)
     (λ c κs. search needs)
     returns)

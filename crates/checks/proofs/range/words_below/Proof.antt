@@ -26,13 +26,13 @@ loop-holds c = (search needs, refl)
 loop-again : tie.Need-loop-again Inv-loop μ-loop
 unfolding word
 loop-again c =
-    let at-loop = c .before .before .before in
+    let at-loop = c .before .before .before .before in
     let l = at-loop .loop in
     let a = at-loop .before .before .args in
     let t = midOf (a .at) (2 * a .n) (a .d .now) in
     let low = mid-byte (a .d .now) (a .at) (2 * a .n) (2 * l .i) (omega arith) in
     let high = mid-byte (a .d .now) (a .at) (2 * a .n) (2 * l .i + 1) (omega arith) in
-    let v : c .before .byte-at .result + 256 * c .byte-at2 .result ≡ word t (l .i) = cc (low, high) in
+    let v : c .word .result ≡ word t (l .i) = cc (low, high) in
     (omega arith, every-next (λ j. ltb (word t j) (a .limit)) (l .i) (l .inv .1) (ap (λ v. ltb v (a .limit)) v))
 
 returns : tie.Need-returns Inv-loop μ-loop
@@ -48,13 +48,12 @@ words-below-spec = tie.close (tie.spec
     loop-holds
     (λ c. search needs)
     (λ c. search needs)
+    (λ c. search needs)
+    (λ c. search needs)
+    (λ c. search needs)
+    (λ c. search needs)
+    (λ c. search needs)
     (λ c κs. search needs)
-    (λ c. search needs)
-    (λ c. search needs)
-    (λ c. search needs)
-    (λ c κs. search needs)
-    (λ c. search needs)
-    (λ c. search needs)
     (λ c. search needs)
     (λ c. search needs)
     loop-again
