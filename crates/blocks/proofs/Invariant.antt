@@ -1,7 +1,7 @@
 -- The invariant of the layout, and that an event, a fork and a join keep it.
 use Prim.Native.Nat.{ℕ}
-use mathlib.Core.Bool.{Bool, _||_, cond, false, false≢true, true}
-use mathlib.Core.Path.{_∙_, _≡_, refl, sym}
+use mathlib.Core.Bool.{Bool, false, true}
+use mathlib.Core.Path.{_≡_, refl, sym}
 use mathlib.Core.Logic.{_⊎_, inl, inr, ∥∥₁-elim}
 use mathlib.Core.HLevel.{⊥-prop}
 use mathlib.Core.List.{List, List·Memᴰ·append-cases, List·Memᴰ·cases-cons, List·Memᴰ·eq-of-singleton, List·Memᴰ·head, List·Memᴰ·tail}
@@ -14,12 +14,14 @@ use borrow.Author.Tests.{eqb-false, eqb-true}
 use Rattle.blocks.proofs.Joining.{Any, blocks-same, carry-grown, carry-left, grow-inh, grow-seen, covered-b, join-good, untouched-any}
 use Rattle.blocks.proofs.Joining.{other-l, other-m, other-r, row}
 use Rattle.blocks.proofs.Transfer.{Transfer, blocks-append, carry-all, good-seen, good-tail}
-use Rattle.blocks.specs.Blocks.{Contents, Good, Inv, Ok, blocks, forkContents, forkJ, grow, joinJ, seen}
-use Rattle.lists.proofs.Cases.{either, or-cases, split}
+use Rattle.blocks.specs.Blocks.{Contents, Good, Inv, Ok, blocks, forkContents, grow, seen}
+use Rattle.lists.proofs.Cases.{cases, either, or-cases, split}
 use Rattle.lists.proofs.Changed.{changed-other, changed-same}
 use Rattle.lists.proofs.Places.{in-front}
 use Rattle.lists.proofs.Sublists.{nodup-apart, skip-one, ∈-⊑, ⊑-right, ⊑-⊆}
-use Rattle.lists.specs.Lists.{_∈_, _⊆_, _⊑_}
+use Rattle.lists.specs.Lists.{_∈_, _⊑_}
+use Rattle.lists.specs.Arranged.{_⊆_}
+use Rattle.lists.specs.Pool.{forkPool, joinPool}
 
 -- an update
 module _ (r : List ℕ) (b : ℕ) (l : List ℕ) (s : Contents) (J : ℕ → ℕ → Bool) (n : ℕ) (inv : Inv (r ++ (b ∷ l)) s J) (fresh : n ∈ blocks s (r ++ (b ∷ l)) → ⊥) where
@@ -55,7 +57,7 @@ module _ (r : List ℕ) (b : ℕ) (l : List ℕ) (s : Contents) (J : ℕ → ℕ
   }
 
 -- a fork: c comes in right of p
-module _ (r : List ℕ) (p : ℕ) (l : List ℕ) (s : Contents) (J : ℕ → ℕ → Bool) (c : ℕ) (inv : Inv (r ++ (p ∷ l)) s J) (fresh : c ∈ (r ++ (p ∷ l)) → ⊥) (unasked : (x : ℕ) → J x c ≡ false) where
+module _ (r : List ℕ) (p : ℕ) (l : List ℕ) (s : Contents) (J : ℕ → ℕ → Bool) (c : ℕ) (inv : Inv (r ++ (p ∷ l)) s J) (fresh : c ∈ (r ++ (p ∷ l)) → ⊥) where
   abbrev ft : Contents
   ft = forkContents s p c
 
@@ -100,10 +102,6 @@ module _ (r : List ℕ) (p : ℕ) (l : List ℕ) (s : Contents) (J : ℕ → ℕ
       pick (inl j) = Memᴰ·append-left (p ∷ l) j
       pick (inr j) = low (List·Memᴰ·cases-cons j)
 
-  -- nobody could join c before it was there
-  not-c : (x y : ℕ) → J x y ≡ true → y ≡ c → ⊥
-  not-c x y e q = false≢true (sym (unasked x) ∙ rw q at e)
-
   kept-pair : (x y : ℕ) → x ∈ (r ++ (p ∷ l)) → y ∈ (r ++ (p ∷ l)) → J x y ≡ true → ((y ∷ x ∷ []) ⊑ (r ++ (c ∷ p ∷ l))) × (ft y .inherited ⊆ seen (ft x))
   kept-pair x y i k e = let h = inv .joins x y i k e in (Sublistᴰ·trans (h .0) grown, rw (old-same x i, old-same y k) (h .1))
 
@@ -120,22 +118,15 @@ module _ (r : List ℕ) (p : ℕ) (l : List ℕ) (s : Contents) (J : ℕ → ℕ
   new-pair : ((c ∷ p ∷ []) ⊑ (r ++ (c ∷ p ∷ l))) × (ft c .inherited ⊆ seen (ft p))
   new-pair = (Sublistᴰ·trans (Sublistᴰ·cons-cons refl (Sublistᴰ·cons-cons refl (Sublistᴰ·nil-sublist l))) (⊑-right r (c ∷ p ∷ l)), rw (c-is, old-same p p-out) (λ n i. i))
 
-  fork-joins : (x y : ℕ) → x ∈ (r ++ (c ∷ p ∷ l)) → y ∈ (r ++ (c ∷ p ∷ l)) → forkJ J p c x y ≡ true → ((y ∷ x ∷ []) ⊑ (r ++ (c ∷ p ∷ l))) × (ft y .inherited ⊆ seen (ft x))
-  fork-joins x y i k e = at-c (split (eqb x c))
-    where
-      by-p : x ≡ p → (J p y ≡ true) ⊎ (eqb y c ≡ true) → ((y ∷ x ∷ []) ⊑ (r ++ (c ∷ p ∷ l))) × (ft y .inherited ⊆ seen (ft x))
-      by-p q (inl h) = rw q (kept-pair p y p-out (out y k (not-c p y h)) h)
-      by-p q (inr h) = rw (q, eqb-true y c h) new-pair
+  fork-joins : (x y : ℕ) → x ∈ (r ++ (c ∷ p ∷ l)) → y ∈ (r ++ (c ∷ p ∷ l)) → forkPool J p c x y ≡ true → ((y ∷ x ∷ []) ⊑ (r ++ (c ∷ p ∷ l))) × (ft y .inherited ⊆ seen (ft x))
+  fork-joins x y i k e =
+      cases (eqb y c)
+      (λ q. rw (eqb-true y c q, eqb-true x p (rw q at e)) new-pair)
+      (λ q.
+      let j = out y k (eqb-false y c q) in
+      cases (eqb x c) (λ h. rw (eqb-true x c h) (c-pair y j (rw (q, h) at e))) (λ h. kept-pair x y (out x i (eqb-false x c h)) j (rw (q, h) at e)))
 
-      at-p : (x ≡ c → ⊥) → cond (eqb x p) (J p y || eqb y c) (J x y) ≡ true → (eqb x p ≡ true) ⊎ (eqb x p ≡ false) → ((y ∷ x ∷ []) ⊑ (r ++ (c ∷ p ∷ l))) × (ft y .inherited ⊆ seen (ft x))
-      at-p h f (inl q) = by-p (eqb-true x p q) (or-cases (J p y) (eqb y c) (rw q at f))
-      at-p h f (inr q) = let f′ : J x y ≡ true = rw q at f in kept-pair x y (out x i h) (out y k (not-c x y f′)) f′
-
-      at-c : (eqb x c ≡ true) ⊎ (eqb x c ≡ false) → ((y ∷ x ∷ []) ⊑ (r ++ (c ∷ p ∷ l))) × (ft y .inherited ⊆ seen (ft x))
-      at-c (inl q) = let f : J p y ≡ true = rw q at e in rw (eqb-true x c q) (c-pair y (out y k (not-c p y f)) f)
-      at-c (inr q) = at-p (eqb-false x c q) (rw q at e) (split (eqb x p))
-
-  pub fork-inv : Inv (r ++ (c ∷ p ∷ l)) ft (forkJ J p c)
+  pub fork-inv : Inv (r ++ (c ∷ p ∷ l)) ft (forkPool J p c)
   fork-inv = record {
     distinct = Perm·nodup (Perm·symm (perm-middle r (p ∷ l))) (nodup-cons .1 (λ i. ∥∥₁-elim i ⊥-prop fresh, inv .distinct));
     once = rw fork-blocks (inv .once);
@@ -175,7 +166,7 @@ module _ (r : List ℕ) (b : ℕ) (m : List ℕ) (a : ℕ) (l : List ℕ) (s : C
   b-out : b ∈ (r ++ (b ∷ (m ++ (a ∷ l))))
   b-out = Memᴰ·append-right r (List·Memᴰ·head refl)
 
-  join-joins : (x y : ℕ) → x ∈ (r ++ (m ++ (a ∷ l))) → y ∈ (r ++ (m ++ (a ∷ l))) → joinJ J a b x y ≡ true → ((y ∷ x ∷ []) ⊑ (r ++ (m ++ (a ∷ l)))) × (jt y .inherited ⊆ seen (jt x))
+  join-joins : (x y : ℕ) → x ∈ (r ++ (m ++ (a ∷ l))) → y ∈ (r ++ (m ++ (a ∷ l))) → joinPool J a b x y ≡ true → ((y ∷ x ∷ []) ⊑ (r ++ (m ++ (a ∷ l)))) × (jt y .inherited ⊆ seen (jt x))
   join-joins x y i k e = at-a (split (eqb x a))
     where
       kept : J x y ≡ true → ((y ∷ x ∷ []) ⊑ (r ++ (m ++ (a ∷ l)))) × (jt y .inherited ⊆ seen (jt x))
@@ -200,7 +191,7 @@ module _ (r : List ℕ) (b : ℕ) (m : List ℕ) (a : ℕ) (l : List ℕ) (s : C
       at-a (inl q) = by-a (eqb-true x a q) (or-cases (J a y) (J b y) (rw q at e))
       at-a (inr q) = kept (rw q at e)
 
-  pub join-inv : Inv (r ++ (m ++ (a ∷ l))) jt (joinJ J a b)
+  pub join-inv : Inv (r ++ (m ++ (a ∷ l))) jt (joinPool J a b)
   join-inv = record {
     distinct = Nodup·sublist ∣ fewer ∣₁ (inv .distinct);
     once = join-once;

@@ -12,7 +12,8 @@ use Rattle.blocks.specs.Blocks.{Contents, Good, blocks, grow, seen}
 use Rattle.lists.proofs.Cases.{cases}
 use Rattle.lists.proofs.Changed.{changed-other, changed-same}
 use Rattle.lists.proofs.Sublists.{apart-++, nodup-apart, parts, skip-mid, skip-right, ⊆-++, ⊑-left, ⊑-⊆}
-use Rattle.lists.specs.Lists.{Apart, _∈_, _⊆_, _⊑_}
+use Rattle.lists.specs.Lists.{_∈_, _⊑_}
+use Rattle.lists.specs.Arranged.{Apart, _⊆_}
 
 pub grow-inh : (s : Contents) (a : ℕ) (more : List ℕ) (x : ℕ) → grow s a more x .inherited ≡ s x .inherited
 grow-inh s a more x = cases (eqb x a) (λ e. rw (e, eqb-true x a e)) (λ e. rw e)

@@ -14,7 +14,8 @@ use Rattle.blocks.specs.Blocks.{Contents, Held, Inv, blocks, grow, seen}
 use Rattle.lists.proofs.Cases.{cases}
 use Rattle.lists.proofs.Places.{in-front}
 use Rattle.lists.proofs.Sublists.{sub-both, ⊑-left}
-use Rattle.lists.specs.Lists.{_∈_, _⊆_, _⊑_}
+use Rattle.lists.specs.Lists.{_∈_, _⊑_}
+use Rattle.lists.specs.Arranged.{_⊆_}
 
 pub held-order : (layout : List ℕ) (s : Contents) (J : ℕ → ℕ → Bool) (w : List ℕ) → Inv layout s J → Held layout s w → w ⊑ blocks s layout
 held-order layout s J w inv h = Sublistᴰ·trans (h .2) (good-seen s layout (inv .good) (h .0) (h .1))

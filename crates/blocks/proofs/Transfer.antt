@@ -7,7 +7,8 @@ use mathlib.Core.List.{Sublistᴰ·trans, [], _++_, _∷_, append-assoc, append-
 use Rattle.blocks.specs.Blocks.{Contents, Good, Ok, blocks, seen}
 use Rattle.lists.proofs.Cases.{either}
 use Rattle.lists.proofs.Sublists.{parts, ⊑-left}
-use Rattle.lists.specs.Lists.{_∈_, _⊆_, _⊑_}
+use Rattle.lists.specs.Lists.{_∈_, _⊑_}
+use Rattle.lists.specs.Arranged.{_⊆_}
 
 pub blocks-append : (s : Contents) (r l : List ℕ) → blocks s (r ++ l) ≡ blocks s l ++ blocks s r
 blocks-append s [] l = sym (append-nil (blocks s l))

@@ -1,12 +1,13 @@
+-- No claim rests on this file: it serves the proofs.
 -- A row of blocks, one for each revision in a layout, and what may be done to it: fork one, join one into another.
 -- The layout is kept right to left: what stands left of a revision is the rest of the list behind it.
 use Prim.Native.Nat.{ℕ}
-use mathlib.Core.Bool.{Bool, true, cond, _||_}
+use mathlib.Core.Bool.{Bool, true}
 use mathlib.Core.Path.{_≡_}
 use mathlib.Core.Logic.{_⊎_}
 use mathlib.Core.List.{List, [], _∷_, _++_, List·Nodup}
-use lib.Dec.{eqb}
-use Rattle.lists.specs.Lists.{_∈_, _⊆_, _⊑_, changed, flatBack}
+use Rattle.lists.specs.Lists.{_∈_, _⊑_, changed}
+use Rattle.lists.specs.Arranged.{_⊆_, flatBack}
 
 -- what a revision began with, and its own block
 pub record Content : Type 0 where
@@ -51,10 +52,3 @@ grow s a more = changed s a (record { inherited = s a .inherited; own = s a .own
 -- c is forked from p
 abbrev pub forkContents : Contents → ℕ → ℕ → Contents
 forkContents s p c = changed s c (record { inherited = seen (s p); own = [] })
-
-abbrev pub forkJ : (ℕ → ℕ → Bool) → ℕ → ℕ → ℕ → ℕ → Bool
-forkJ J p c x y = cond (eqb x c) (J p y) (cond (eqb x p) (J p y || eqb y c) (J x y))
-
--- a joins b: b's block goes to the end of a's
-abbrev pub joinJ : (ℕ → ℕ → Bool) → ℕ → ℕ → ℕ → ℕ → Bool
-joinJ J a b x y = cond (eqb x a) (J a y || J b y) (J x y)

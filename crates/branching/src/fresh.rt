@@ -4,7 +4,7 @@ ghost use mathlib.Core.List.{_++_};
 ghost use lib.ListN.{length, replicate};
 ghost use Rattle.cells.specs.Steps.{freshBytes};
 ghost use Rattle.entries.specs.Sizes as Upper;
-ghost use Rattle.table.specs.Halves.{bytes};
+ghost use Rattle.table.specs.Out.{bytes};
 ghost use Rattle.table.specs.Answers.{left};
 ghost use Rattle.table.specs.Calls.{freshOut};
 use fields::table::Table;

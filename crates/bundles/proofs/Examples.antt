@@ -5,7 +5,8 @@ use mathlib.Core.List.{List, [], _∷_}
 use lib.ListN.{replicate}
 use Rattle.records.specs.Numbers.{number}
 use Rattle.bundles.specs.declared.check.BundleCheck.the-variants.{Count, Wrong}
-use Rattle.bundles.specs.Records.{entryIn, recordOf, isWrong, bundleCheck}
+use Rattle.bundles.specs.Records.{entryIn, isWrong}
+use Rattle.bundles.specs.Packed.{recordOf, bundleCheck}
 
 largest : entryIn (255 ∷ 9 ∷ 255 ∷ 255 ∷ 255 ∷ 255 ∷ 255 ∷ 255 ∷ 1 ∷ 2 ∷ 3 ∷ 4 ∷ []) ≡ record { kind = 255; bib = 65535; v = 4294967295 }
 unfolding number

@@ -10,7 +10,7 @@ use borrow.Author.Tests.{ltb-true, ltb-false}
 use Rattle.lists.proofs.Cases.{cases}
 use Rattle.lists.proofs.Rows as Rows
 use Rattle.bundles.specs.declared.entry.Entry.{Entry}
-use Rattle.bundles.specs.Records.{recordOf, recordsOf, withRecord}
+use Rattle.bundles.specs.Packed.{recordOf, recordsOf, withRecord}
 use Rattle.bundles.specs.Packed.{atMost, filled, packedOf}
 use Rattle.bundles.proofs.Held.{record-length, records-length}
 

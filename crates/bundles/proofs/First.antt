@@ -10,7 +10,8 @@ use borrow.Author.Tests.{eqb-false, ltb-false}
 use Rattle.lists.proofs.Cases.{or-false}
 use Rattle.lists.proofs.Told.{held, failed}
 use Rattle.bundles.specs.declared.entry.Entry.{Entry}
-use Rattle.bundles.specs.Records.{entriesFrom, entriesIn, entryAt, isWrong, bundleCheck}
+use Rattle.bundles.specs.Records.{entriesFrom, entriesIn, entryAt, isWrong}
+use Rattle.bundles.specs.Packed.{bundleCheck}
 use Rattle.bundles.specs.declared.check.BundleCheck.the-variants.{Count, Wrong}
 
 pub some-of : (b : List ℕ) (n : ℕ) → (n ≡ 0 → ⊥) → (es : List Entry) × (entriesFrom b 0 n ≡ entryAt b 0 ∷ es)

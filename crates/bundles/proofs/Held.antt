@@ -10,7 +10,8 @@ use lib.Seq.{take-at, drop-at}
 use Rattle.lists.proofs.Rows.{rows-length}
 use Rattle.records.proofs.Widths.{number-two, number-word}
 use Rattle.bundles.specs.declared.entry.Entry.{Entry}
-use Rattle.bundles.specs.Records.{entryIn, entriesFrom, entriesIn, isWrong, laid, recordOf, recordsOf}
+use Rattle.bundles.specs.Records.{entryIn, entriesFrom, entriesIn, isWrong, laid}
+use Rattle.bundles.specs.Packed.{recordOf, recordsOf}
 
 -- whatever client and number are, the entry is kind, bib and v
 pub entry-laid : (kind client bib v number : ℕ) → entryIn (laid kind client bib v number) ≡ record { kind = kind; bib = bib; v = v }

@@ -1,12 +1,31 @@
--- 02, U4: ".. then as a lent list of entries": the entries as records in room for 64, and how many entries there are.
-use Prim.Native.Nat.{ℕ, _*_, _-_}
+-- No claim rests on this file: it serves the code. 02, U4: ".. then as a lent list of entries": the entries as records in room for 64, and how many entries
+-- there are.
+use Prim.Native.Nat.{ℕ, _*_, _-_, _/_}
 use mathlib.Core.Bool.{cond}
-use mathlib.Core.List.{List, _++_}
+use mathlib.Core.List.{List, [], _∷_, _++_}
 use lib.Dec.{ltb}
 use lib.ListN.{length, replicate, take}
-use Rattle.bundles.specs.Records.{recordsOf, withRecord}
+use Rattle.lists.specs.Arranged.{replaced}
+use Rattle.bundles.specs.Records.{isWrong, laid}
 use Rattle.bundles.specs.declared.entry.Entry.{Entry}
+use Rattle.bundles.specs.declared.check.BundleCheck.{BundleCheck}
+use Rattle.bundles.specs.declared.check.BundleCheck.the-variants.{Count, Wrong}
 use Rattle.bundles.specs.declared.pack.Packed.{Packed}
+
+unfoldable pub bundleCheck : List ℕ → BundleCheck
+bundleCheck b = cond (isWrong b) Wrong (Count (length b / 12))
+
+-- an entry as a record: what is not looked at is 0
+unfoldable pub recordOf : Entry → List ℕ
+recordOf e = laid (e .kind) 0 (e .bib) (e .v) 0
+
+unfoldable pub recordsOf : List Entry → List ℕ
+recordsOf [] = []
+recordsOf (e ∷ es) = recordOf e ++ recordsOf es
+
+-- record i is the entry's, and the other bytes stay
+abbrev pub withRecord : List ℕ → ℕ → Entry → List ℕ
+withRecord b i e = replaced b (12 * i) 12 (recordOf e)
 
 -- "Accept 1 to 64 updates"
 abbrev pub atMost : ℕ → ℕ

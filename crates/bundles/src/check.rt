@@ -1,6 +1,6 @@
 // The check of a bundle's bytes: how many records they are, or that they are none.
 ghost use mathlib.Core.Path.{_≡_};
-ghost use Rattle.bundles.specs.Records.{bundleCheck};
+ghost use Rattle.bundles.specs.Packed.{bundleCheck};
 use crate::sizes::Bundle;
 use crate::sizes::Record;
 

@@ -2,7 +2,8 @@
 ghost use mathlib.Core.Path.{_≡_};
 ghost use Prim.Native.Nat.{_*_, _+_, _≤_};
 ghost use lib.ListN.{length};
-ghost use Rattle.bundles.specs.Records.{entryAt, entryIn, laid, withRecord};
+ghost use Rattle.bundles.specs.Records.{entryAt, entryIn, laid};
+ghost use Rattle.bundles.specs.Packed.{withRecord};
 use crate::entry::Entry;
 use crate::sizes::Record;
 use records::numbers::read;

@@ -4,7 +4,8 @@ use mathlib.Core.Path.{_≡_, refl, ap}
 use lib.Dec.{eqb}
 use lib.ListN.{take}
 use borrow.Author.Tests.{eqb-false}
-use Rattle.lists.specs.Lists.{changed, insertBefore}
+use Rattle.lists.specs.Lists.{changed}
+use Rattle.lists.specs.Arranged.{insertBefore}
 use Rattle.lists.proofs.Cases.{cases}
 use Rattle.cells.specs.Sizes.{main, revisions, updates}
 use Rattle.cells.specs.Cells.{Cells, chain, own, marked}

@@ -4,7 +4,7 @@ use mathlib.Core.Bool.{true, false}
 use mathlib.Core.Path.{_≡_, refl}
 use mathlib.Core.List.{[], _∷_}
 use Rattle.lists.specs.Sums.{anyBelow}
-use Rattle.lists.specs.Lists.{insertBefore, remove, behind}
+use Rattle.lists.specs.Arranged.{insertBefore, remove, behind}
 use Rattle.cells.specs.Parts.{offset, size, rowsPart, lowPart, highPart, seenPart, caughtPart, statePart, usedPart, lastPart, firstPart, countPart}
 use Rattle.cells.specs.Parts.{basePart, layoutPart, queuePart, openedPart, countersPart, namesPart, singlePart, closedPart, startedPart, keptPart, signaturePart}
 use Rattle.cells.specs.Cells.{Cells, chain, freed, outs, marked, nextNumber}

@@ -15,7 +15,8 @@ use Rattle.cells.specs.Words.{byte}
 use Rattle.cells.specs.Marks.{markIn, putRow}
 use Rattle.cells.specs.Cells.{Cells}
 use Rattle.cells.specs.Decode.{decode}
-use Rattle.cells.specs.CellSteps.{onlyCaught, queryCells, updateCells, closeCells, joinSeen, joinCaught, joinCells}
+use Rattle.lists.specs.Pool.{joinPool}
+use Rattle.cells.specs.CellSteps.{onlyCaught, queryCells, updateCells, closeCells, joinCaught, joinCells}
 use Rattle.cells.specs.Steps.{queryParts, updateParts, closeParts, joinParts}
 use Rattle.cells.proofs.Tables.{getD-changed}
 use Rattle.cells.proofs.Words.{word-put, byte-put-other, word-set-other, link-put}
@@ -133,10 +134,10 @@ module _ (p : Parts) (h : Sized p) (a b : ℕ) (al : a < revisions) (bl : b < re
   abbrev k : Cells
   k = decode p
 
-  join-seen : (x y : ℕ) → decode (joinParts p a b) .seen x y ≡ joinSeen (k .seen) a b x y
+  join-seen : (x y : ℕ) → decode (joinParts p a b) .seen x y ≡ joinPool (k .seen) a b x y
   join-seen =
       let w = marks-within revisions (p seenPart) in
-      mark-pack revisions (joinSeen (k .seen) a b)
+      mark-pack revisions (joinPool (k .seen) a b)
       (within-row revisions (k .seen) a _ al w (λ y e. rw (outside-column revisions (k .seen) w a y e, outside-column revisions (k .seen) w b y e)))
 
   join-caught : (x y : ℕ) → decode (joinParts p a b) .caught x y ≡ joinCaught (k .caught) a b x y

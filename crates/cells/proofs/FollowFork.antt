@@ -14,7 +14,8 @@ use Rattle.cells.specs.Sizes.{revisions, clients, updates, main, stateOu
 use Rattle.cells.specs.Parts.{Parts, Sized, size, rowsPart, seenPart, caughtPart, statePart, usedPart, countPart, basePart, countersPart}
 use Rattle.cells.specs.Cells.{Cells}
 use Rattle.cells.specs.Decode.{decode, rowOf}
-use Rattle.cells.specs.CellSteps.{forkSeen, forkCaught, forkRow, forkGiven, forkQueue, forkCells}
+use Rattle.lists.specs.Pool.{forkPool}
+use Rattle.cells.specs.CellSteps.{forkCaught, forkRow, forkGiven, forkQueue, forkCells}
 use Rattle.cells.specs.Steps.{putRowOf, forkParts}
 use Rattle.cells.proofs.Tables.{getD-changed}
 use Rattle.cells.proofs.Words.{word-put, word-set-other}
@@ -54,7 +55,7 @@ module _ (p : Parts) (h : Sized p) (q c : ℕ) (ql : q < revisions) (cl : c < re
       (cases (eqb x c) (λ e. rw e (cases (eqb q main) (λ w. rw w) (λ w. rw w))) (λ e. rw e))
 
   -- c's row and column changed
-  seen-within : Within revisions (forkSeen (k .seen) q c)
+  seen-within : Within revisions (forkPool (k .seen) q c)
   seen-within =
       let w = marks-within revisions (p seenPart) in
       within-column revisions (changed (k .seen) c (k .seen q)) c (λ x. eqb x q) cl
@@ -86,7 +87,7 @@ module _ (p : Parts) (h : Sized p) (q c : ℕ) (ql : q < revisions) (cl : c < re
         base = fun-ext (λ x. word-put (p basePart) c (cond (eqb q main) (k .count main) (k .base q)) x (omega arith)) i;
         row = fun-ext (λ x. fun-ext (fork-row x)) i;
         link = k .link;
-        seen = fun-ext (λ x. fun-ext (mark-pack revisions (forkSeen (k .seen) q c) seen-within x)) i;
+        seen = fun-ext (λ x. fun-ext (mark-pack revisions (forkPool (k .seen) q c) seen-within x)) i;
         caught = fun-ext (λ x. fun-ext (mark-pack clients (forkCaught (k .caught) q c) caught-within x)) i;
         layout = forkCells k q c .layout;
         out = (getD-set-other two 3 2 (forkGiven k) 0 (omega arith) ∙ getD-set-same (p countersPart) 2 (suc (k .out)) 0 (omega arith)) i;

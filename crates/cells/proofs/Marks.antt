@@ -8,7 +8,7 @@ use lib.Dec.{eqb, ltb}
 use lib.ListN.{length, take, drop}
 use lib.Seq.{getD-take, getD-drop}
 use borrow.Author.Tests.{eqb-true, eqb-false, ltb-true, lt-ltb}
-use Rattle.lists.specs.Lists.{replaced}
+use Rattle.lists.specs.Arranged.{replaced}
 use Rattle.lists.proofs.Cases.{cases, and-true}
 use Rattle.lists.proofs.Replaced.{replaced-length, replaced-here, replaced-other, next-row}
 use Rattle.cells.specs.Words.{byte}

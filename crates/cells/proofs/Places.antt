@@ -8,7 +8,8 @@ use lib.Dec.{eqb}
 use lib.ListN.{length, take, length-append}
 use lib.Seq.{take-append-le, take-suc-set, take-take}
 use borrow.Author.Tests.{eqb-false, le-ltb, lt-ltb}
-use Rattle.lists.specs.Lists.{_∈_, firstOf, insertBefore, remove, restOf}
+use Rattle.lists.specs.Lists.{_∈_, firstOf, restOf}
+use Rattle.lists.specs.Arranged.{insertBefore, remove}
 use Rattle.lists.proofs.Cases.{cases, either}
 use Rattle.cells.specs.Sizes.{revisions}
 use Rattle.cells.specs.Cells.{Cells, freed, outs}

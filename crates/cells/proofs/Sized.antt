@@ -7,7 +7,8 @@ use native.Mathlib.Omega.{arith}
 use lib.Dec.{eqb, ltb}
 use lib.ListN.{length, set, take, replicate, length-set, length-replicate}
 use lib.Seq.{length-take-le}
-use Rattle.lists.specs.Lists.{insertBefore, remove, restOf}
+use Rattle.lists.specs.Lists.{restOf}
+use Rattle.lists.specs.Arranged.{insertBefore, remove}
 use Rattle.cells.specs.Sizes.{revisions, clients, main, closed, stateOut, stateJoined}
 use Rattle.cells.specs.Parts.{Parts, Sized, size, _⟨_≔_⟩, rowsPart, lowPart, highPart, seenPart, caughtPart, statePart, usedPart, lastPart, firstPart}
 use Rattle.cells.specs.Parts.{countPart, basePart, layoutPart, queuePart, openedPart, countersPart, signaturePart}
@@ -15,7 +16,8 @@ use Rattle.cells.specs.Words.{putWord, putHalf}
 use Rattle.cells.specs.Marks.{pack, putRow}
 use Rattle.cells.specs.Decode.{decode}
 use Rattle.cells.specs.Range.{signature}
-use Rattle.cells.specs.CellSteps.{forkRow, forkSeen, forkCaught, forkGiven, forkQueue, spliced, joinSeen, joinCaught, joinQueue}
+use Rattle.lists.specs.Pool.{forkPool, joinPool}
+use Rattle.cells.specs.CellSteps.{forkRow, forkCaught, forkGiven, forkQueue, spliced, joinCaught, joinQueue}
 use Rattle.cells.specs.Steps.{freshParts, queryParts, linkParts, appendParts, updateParts, closeParts, putRowOf, inheritParts, forkParts, spliceParts, joinParts}
 use Rattle.cells.proofs.Parts.{sized-with}
 use Rattle.cells.proofs.Words.{putWord-length, putHalf-length}
@@ -85,7 +87,7 @@ pub fork-sized : {p : Parts} → Sized p → (q c : ℕ) → c < revisions → S
 unfolding size
 fork-sized {p} h q c l =
     let k = decode p in
-    let a = caught-sized (seen-sized (inherit-sized h q c l) (forkSeen (k .seen) q c)) (forkCaught (k .caught) q c) in
+    let a = caught-sized (seen-sized (inherit-sized h q c l) (forkPool (k .seen) q c)) (forkCaught (k .caught) q c) in
     let b = layout-sized (byte-sized a statePart c stateOut) (insertBefore q c (p layoutPart)) (insert-length q c (p layoutPart)) in
     let q = sized-with b queuePart (forkQueue k) (shifted (ltb (k .given) revisions)) in
     sized-with q countersPart (set (set (p countersPart) 2 (suc (k .out))) 3 (forkGiven k)) (simp length-set (h .of countersPart))
@@ -111,7 +113,7 @@ unfolding size
 join-sized {p} h a b =
     let k = decode p in
     let s = sized-with (splice-sized h a b) countPart (putWord (p countPart) a (k .count a + k .count b)) (putWord-length (p countPart) a _ ∙ h .of countPart) in
-    let m = caught-sized (seen-sized s (joinSeen (k .seen) a b)) (joinCaught (k .caught) a b) in
+    let m = caught-sized (seen-sized s (joinPool (k .seen) a b)) (joinCaught (k .caught) a b) in
     let t = sized-with m statePart (set (p statePart) b stateJoined) (length-set (p statePart) b _ ∙ h .of statePart) in
     let l = sized-with t layoutPart (take revisions (remove b (p layoutPart) ++ (0 ∷ []))) (whole (remove b (p layoutPart) ++ (0 ∷ [])) (remove-length b (p layoutPart))) in
     let q = sized-with l queuePart (joinQueue k b) (length-set (p queuePart) (k .given - k .out) b ∙ h .of queuePart) in

@@ -11,7 +11,8 @@ use lib.Dec.{eqb}
 use lib.ListN.{length, set, take, drop, getD, length-append, length-set, take-append-drop, List·getD-append}
 use lib.Seq.{drop-cons, length-take-le, set-at, take-suc-set, take-all, getD-at, ext-getD, getD-set-same, getD-set-other}
 use borrow.Author.Tests.{eqb-true, eqb-false}
-use Rattle.lists.specs.Lists.{changed, replaced}
+use Rattle.lists.specs.Lists.{changed}
+use Rattle.lists.specs.Arranged.{replaced}
 use Rattle.lists.proofs.Cases.{cases, and-true, either}
 use Rattle.cells.specs.Tables.{tab, every}
 

@@ -1,10 +1,13 @@
+-- No claim rests on this file: it serves the code.
 -- What each accepted step does to the cells: docs/CELLS.md, "What each step writes".
 use Prim.Native.Nat.{ℕ, suc, _+_, _-_}
 use mathlib.Core.Bool.{Bool, true, false, cond, _||_, _&&_}
 use mathlib.Core.List.{List, [], _∷_, _++_}
 use lib.Dec.{eqb, ltb}
 use lib.ListN.{set, take, replicate}
-use Rattle.lists.specs.Lists.{changed, member, insertBefore, remove, restOf}
+use Rattle.lists.specs.Lists.{changed, restOf}
+use Rattle.lists.specs.Arranged.{member, insertBefore, remove}
+use Rattle.lists.specs.Pool.{forkPool, joinPool}
 use Rattle.cells.specs.Sizes.{revisions, clients, updates, main, closed, stateOut, stateJoined}
 use Rattle.cells.specs.Cells.{Cells, own, marked}
 
@@ -96,10 +99,6 @@ closeCells k c = record {
   given = k .given;
 }
 
--- c has seen what p has; of c's fork only p has seen anything
-abbrev pub forkSeen : (ℕ → ℕ → Bool) → ℕ → ℕ → ℕ → ℕ → Bool
-forkSeen seen p c x = changed (changed seen c (seen p) x) c (eqb x p)
-
 -- who has caught up with p has caught up with c
 abbrev pub forkCaught : (ℕ → ℕ → Bool) → ℕ → ℕ → ℕ → ℕ → Bool
 forkCaught caught p c x = changed (caught x) c (caught x p)
@@ -126,7 +125,7 @@ forkCells k p c = record {
   base = changed (k .base) c (cond (eqb p main) (k .count main) (k .base p));
   row = cond (eqb p main) (k .row) (changed (k .row) c (forkRow k p));
   link = k .link;
-  seen = forkSeen (k .seen) p c;
+  seen = forkPool (k .seen) p c;
   caught = forkCaught (k .caught) p c;
   layout = take revisions (insertBefore p c (k .layout));
   out = suc (k .out);
@@ -139,9 +138,6 @@ forkCells k p c = record {
 -- where b has updates of its own they go to the end of a's list
 abbrev pub spliced : {A : Type 0} → Cells → ℕ → A → A → A
 spliced k b kept new = cond (eqb (k .count b) 0) kept new
-
-abbrev pub joinSeen : (ℕ → ℕ → Bool) → ℕ → ℕ → ℕ → ℕ → Bool
-joinSeen seen a b = changed seen a (λ y. seen a y || seen b y)
 
 abbrev pub joinCaught : (ℕ → ℕ → Bool) → ℕ → ℕ → ℕ → ℕ → Bool
 joinCaught caught a b x = changed (caught x) a (caught x a || caught x b)
@@ -161,7 +157,7 @@ joinCells k a b = record {
   base = k .base;
   row = k .row;
   link = spliced k b (k .link) (changed (k .link) (k .first b) (k .last a));
-  seen = joinSeen (k .seen) a b;
+  seen = joinPool (k .seen) a b;
   caught = joinCaught (k .caught) a b;
   layout = take revisions (remove b (k .layout) ++ (0 ∷ []));
   out = k .out - 1;

@@ -1,3 +1,4 @@
+-- No claim rests on this file: it serves the code.
 -- What each code asks of the cells: 01, "Codes of the desk". Each answer follows from the cells alone.
 use Prim.Native.Nat.{ℕ}
 use mathlib.Core.Bool.{Bool, not, _&&_}

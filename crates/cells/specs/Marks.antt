@@ -1,10 +1,11 @@
+-- No claim rests on this file: it serves the code.
 -- Marks in bytes: eight to a byte, the first of them lowest; rows of w bytes, so of 8 * w marks.
 use Prim.Native.Nat.{ℕ, _+_, _*_, _/_, _%_, _^_}
 use mathlib.Core.Bool.{Bool, true, false, _&&_}
 use mathlib.Core.List.{List, []}
 use lib.Dec.{eqb, ltb}
 use lib.ListN.{getD}
-use Rattle.lists.specs.Lists.{replaced}
+use Rattle.lists.specs.Arranged.{replaced}
 use Rattle.cells.specs.Tables.{tab}
 use Rattle.cells.specs.Words.{byte}
 

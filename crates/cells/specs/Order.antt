@@ -1,3 +1,4 @@
+-- No claim rests on this file: it serves the code.
 -- The order of a revision: the updates visible at its terminal, as 01 lists them: "in the order in which the effects apply on
 -- the way from the root". Total on every content; in range, at most 4,096 entries of at most 64 lists of at most 4,096.
 use Prim.Native.Nat.{ℕ}
@@ -5,7 +6,8 @@ use mathlib.Core.Bool.{Bool, cond}
 use mathlib.Core.List.{List, _++_}
 use lib.Dec.{eqb}
 use lib.ListN.{take, drop}
-use Rattle.lists.specs.Lists.{keep, behind, flatBack}
+use Rattle.lists.specs.Lists.{keep}
+use Rattle.lists.specs.Arranged.{behind, flatBack}
 use Rattle.cells.specs.Sizes.{updates, main}
 use Rattle.cells.specs.Cells.{Cells, own, outs, marked}
 

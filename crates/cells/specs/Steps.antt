@@ -1,10 +1,11 @@
+-- No claim rests on this file: it serves the code.
 -- What each accepted step writes: docs/CELLS.md, "What each step writes". On parts, and so on the bytes.
 use Prim.Native.Nat.{ℕ, zero, suc, _+_, _-_, _/_, _%_}
 use mathlib.Core.Bool.{Bool, true, cond}
 use mathlib.Core.List.{List, [], _∷_, _++_}
 use lib.Dec.{eqb}
 use lib.ListN.{set, take, replicate}
-use Rattle.lists.specs.Lists.{insertBefore, remove}
+use Rattle.lists.specs.Arranged.{insertBefore, remove}
 use Rattle.cells.specs.Sizes.{revisions, clients, main, closed, stateOut, stateJoined}
 use Rattle.cells.specs.Parts.{Parts, split, glue, size, _⟨_≔_⟩, rowsPart, lowPart, highPart, seenPart, caughtPart, statePart, usedPart, lastPart, firstPart}
 use Rattle.cells.specs.Parts.{countPart, basePart, layoutPart, queuePart, openedPart, countersPart, signaturePart}
@@ -12,7 +13,8 @@ use Rattle.cells.specs.Words.{putWord, putHalf}
 use Rattle.cells.specs.Marks.{pack, putRow}
 use Rattle.cells.specs.Decode.{decode}
 use Rattle.cells.specs.Range.{signature}
-use Rattle.cells.specs.CellSteps.{forkSeen, forkCaught, forkRow, forkGiven, forkQueue, spliced, joinSeen, joinCaught, joinQueue}
+use Rattle.lists.specs.Pool.{forkPool, joinPool}
+use Rattle.cells.specs.CellSteps.{forkCaught, forkRow, forkGiven, forkQueue, spliced, joinCaught, joinQueue}
 
 -- all bytes 0 but these
 abbrev pub freshParts : Parts
@@ -74,7 +76,7 @@ abbrev pub forkParts : Parts → ℕ → ℕ → Parts
 forkParts p q c =
     let k = decode p in
     inheritParts p q c
-    ⟨ seenPart ≔ pack revisions (forkSeen (k .seen) q c) ⟩
+    ⟨ seenPart ≔ pack revisions (forkPool (k .seen) q c) ⟩
     ⟨ caughtPart ≔ pack clients (forkCaught (k .caught) q c) ⟩
     ⟨ statePart ≔ set (p statePart) c stateOut ⟩
     ⟨ layoutPart ≔ take revisions (insertBefore q c (p layoutPart)) ⟩
@@ -97,7 +99,7 @@ joinParts p a b =
     let k = decode p in
     spliceParts p a b
     ⟨ countPart ≔ putWord (p countPart) a (k .count a + k .count b) ⟩
-    ⟨ seenPart ≔ pack revisions (joinSeen (k .seen) a b) ⟩
+    ⟨ seenPart ≔ pack revisions (joinPool (k .seen) a b) ⟩
     ⟨ caughtPart ≔ pack clients (joinCaught (k .caught) a b) ⟩
     ⟨ statePart ≔ set (p statePart) b stateJoined ⟩
     ⟨ layoutPart ≔ take revisions (remove b (p layoutPart) ++ (0 ∷ [])) ⟩

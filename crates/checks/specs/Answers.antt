@@ -1,3 +1,4 @@
+-- No claim rests on this file: it serves the code.
 -- The answer of each check: 01, "Codes of the desk". Which code an answer gives is said where the calls are.
 use Prim.Native.Nat.{ℕ}
 use mathlib.Core.Bool.{cond}

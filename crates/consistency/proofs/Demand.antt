@@ -2,25 +2,25 @@
 use Prim.Native.Nat.{ℕ}
 use mathlib.Core.Path.{_≡_, refl, sym, _∙_, ap, subst}
 use mathlib.Core.List.{List, [], _∷_}
-use lib.ListN.{length, length-replicate}
-use Rattle.plain.specs.Calls as Paper
-use Rattle.plain.specs.Calls.{Call}
+use lib.ListN.{length, length-replicate, replicate}
+use Rattle.desk.specs.Calls.{Call, Update, Query, Yield, Fork, Join, Bundle, Looks, Look, Show, Fill, Preview, answerOn, callOn, callsOn, lookOn}
 use Rattle.plain.specs.Record.{PlainDay, freshDay}
 use Rattle.plain.specs.Answers.{called, answers, answersFrom}
 use Rattle.plain.specs.Edges as Edges
 use Rattle.plain.specs.Edges.{Edge, computed}
 use Rattle.plain.proofs.Edges.{edges-hold, codes-hold, reused-hold}
 use Rattle.plain.proofs.LineUp.{lined-up}
-use Rattle.plain.proofs.Never.{never-one}
-use Rattle.table.specs.Halves.{bytes}
-use Rattle.consistency.specs.Table.{Request, onPaper, calls, replies}
-use Rattle.consistency.specs.Demand.{NeverOne, DemandThree, asked, asking, saidOn, computedOn, EdgesHold}
+use Rattle.plain.proofs.Steps.{never-one}
+use Rattle.table.specs.Out.{bytes}
+use Rattle.consistency.specs.Table.{calls, replies}
+use Rattle.consistency.specs.Demand.{NeverOne, DemandThree}
+use Rattle.consistency.specs.Edges.{computedOn, EdgesHold}
 use Rattle.consistency.proofs.Table.Follows.{table-follows}
 
-never-from : (qs : List Request) (p : PlainDay) → NeverOne (replies qs (answersFrom p (calls qs)))
+never-from : (qs : List (Call (List ℕ))) (p : PlainDay) → NeverOne (replies qs (answersFrom p (calls qs)))
 unfolding NeverOne replies answersFrom
 never-from [] p = tt
-never-from (q ∷ qs) p = (never-one p (onPaper q), never-from qs (called p (onPaper q) .next))
+never-from (q ∷ qs) p = (never-one p (callOn length q), never-from qs (called p (callOn length q) .next))
 
 pub demand-three : DemandThree
 unfolding answers
@@ -34,33 +34,39 @@ demand-three t h qs =
       line-up = lined-up (calls qs);
     }
 
--- a call asked at a table is the call
-same-call : (c : Call) → onPaper (asked c) ≡ c
-same-call (Paper.Update c n k bib v) = refl
-same-call (Paper.Query c n bib) = refl
-same-call (Paper.Yield c) = refl
-same-call (Paper.Fork n) = refl
-same-call (Paper.Join n m) = refl
-same-call (Paper.Fill n) = refl
-same-call (Paper.Bundle c n batch) = refl
-same-call (Paper.Preview n m bib) = refl
-same-call (Paper.Show n room) = ap (Paper.Show n) (length-replicate {A = ℕ} room 0)
+-- a call asked with a sheet of zeros is the call
+abbrev zeros : ℕ → List ℕ
+zeros room = replicate room 0
 
-same-calls : (cs : List Call) → calls (asking cs) ≡ cs
+same-look : (l : Look ℕ) → lookOn length (lookOn zeros l) ≡ l
+same-look (Show n room) = ap (Show n) (length-replicate {A = ℕ} room 0)
+same-look (Fill n) = refl
+same-look (Preview n m bib) = refl
+
+same-call : (c : Call ℕ) → callOn length (callOn zeros c) ≡ c
+same-call (Update c n k bib v) = refl
+same-call (Query c n bib) = refl
+same-call (Yield c) = refl
+same-call (Fork n) = refl
+same-call (Join n m) = refl
+same-call (Bundle c n batch) = refl
+same-call (Looks l) = ap Looks (same-look l)
+
+same-calls : (cs : List (Call ℕ)) → calls (callsOn zeros cs) ≡ cs
 same-calls [] = refl
 same-calls (c ∷ cs) = let first = same-call c in let rest = same-calls cs in λ i. first i ∷ rest i
 
-said-from : (qs : List Request) (p : PlainDay) → saidOn (replies qs (answersFrom p (calls qs))) ≡ Edges.said (answersFrom p (calls qs))
+said-from : (qs : List (Call (List ℕ))) (p : PlainDay) → Edges.said (replies qs (answersFrom p (calls qs))) ≡ Edges.said (answersFrom p (calls qs))
 unfolding replies answersFrom
 said-from [] p = refl
-said-from (q ∷ qs) p = let a = called p (onPaper q) .answer in ap (λ z. record { code = a .code; state = a .state; value = a .value; total = a .total; gain = a .gain } ∷ z) (said-from qs (called p (onPaper q) .next))
+said-from (q ∷ qs) p = ap (λ z. answerOn (λ s. tt) (called p (callOn length q) .answer) ∷ z) (said-from qs (called p (callOn length q) .next))
 
 module _ (t : List ℕ) (h : length t ≡ bytes) where
   same-computed : (es : List Edge) → computedOn t es ≡ computed es
   unfolding answers
   same-computed [] = refl
   same-computed (e ∷ es) =
-      let first = ap saidOn (table-follows t h .2 (asking (e .calls))) ∙ said-from (asking (e .calls)) freshDay ∙ ap (λ cs. Edges.said (answers cs)) (same-calls (e .calls)) in
+      let first = ap Edges.said (table-follows t h .2 (callsOn zeros (e .calls))) ∙ said-from (callsOn zeros (e .calls)) freshDay ∙ ap (λ cs. Edges.said (answers cs)) (same-calls (e .calls)) in
       let rest = same-computed es in
       λ i. first i ∷ rest i
 

@@ -1,16 +1,25 @@
 -- 01, "Edges of a race day", on the cells, by computation: which steps pass, and what is listed, as on the day.
-use mathlib.Core.Bool.{Bool, cond}
+use mathlib.Core.Bool.{Bool, cond, not, _&&_}
 use mathlib.Core.Path.{_≡_, refl}
 use mathlib.Core.List.{List, [], _∷_}
 use Rattle.lists.specs.Sums.{anyBelow}
-use Rattle.lists.specs.Lists.{behind, insertBefore, remove}
-use Rattle.diagram.specs.Steps.{Step}
+use Rattle.lists.specs.Arranged.{behind, insertBefore, remove}
+use Rattle.diagram.specs.Steps.{Step, Event, Yield, Fork, Join}
+use Rattle.diagram.specs.Accepted.{noneOf}
 use Rattle.diagram.specs.Examples.{Example, e1, e1List, examples, expected}
 use Rattle.cells.specs.Cells.{Cells, chain}
+use Rattle.cells.specs.Checks.{busy, busyByOther, givenOut, isClient, joinable, joined, logFull, noneLeft, openElsewhere, stale}
 use Rattle.cells.specs.CellSteps.{freshCells}
 use Rattle.cells.specs.Order.{order}
-use Rattle.following.specs.Follow.{passes}
 use Rattle.following.specs.Reached.{stepCells}
+
+-- whether the cells' checks let a step by numbers pass
+unfoldable passes : Cells → Step → Bool
+passes k (Event c r u) =
+    noneOf (not (isClient c) ∷ not (givenOut k r) ∷ joined k r ∷ openElsewhere k c r ∷ busyByOther k c r ∷ stale k c r ∷ (u && logFull k) ∷ [])
+passes k (Yield c) = noneOf (not (isClient c) ∷ [])
+passes k (Fork r) = noneOf (not (givenOut k r) ∷ joined k r ∷ busy k r ∷ noneLeft k ∷ [])
+passes k (Join a b) = noneOf (not (givenOut k a) ∷ not (givenOut k b) ∷ joined k a ∷ joined k b ∷ busy k a ∷ busy k b ∷ not (joinable k a b) ∷ [])
 
 -- a step that does not pass changes nothing
 abbrev tried : Cells → Step → Cells

@@ -2,33 +2,32 @@
 use Prim.Native.Nat.{ℕ, _≤_}
 use mathlib.Core.Path.{_≡_, refl, sym, _∙_, ap}
 use mathlib.Core.List.{List, [], _∷_}
-use native.Mathlib.Omega.{arith}
 use lib.ListN.{length}
 use Rattle.diagram.specs.Sizes.{revisionLimit}
 use Rattle.lists.proofs.Sums.{sum-ends, sum-same}
 use Rattle.cells.specs.Sizes.{revisions}
-use Rattle.plain.specs.Calls as Paper
+use Rattle.desk.specs.Calls.{Call, Looks, Fill, callOn}
 use Rattle.plain.specs.Record.{PlainDay, freshDay}
 use Rattle.plain.specs.Answers.{called, dayAfter, answers, answersFrom}
 use Rattle.plain.specs.Fills.{acceptedIn, codesOf}
 use Rattle.plain.proofs.Fills as Plain
 use Rattle.plain.proofs.Fills.{no-fill}
 use Rattle.plain.proofs.LineUp.{named}
-use Rattle.table.specs.Halves.{bytes}
+use Rattle.table.specs.Out.{bytes}
 use Rattle.table.specs.Calls.{freshOut, fillOut}
-use Rattle.consistency.specs.Table.{Request, onPaper, calls, repliesOn, replies, tableAfter}
-use Rattle.consistency.specs.Fills.{acceptedUpdates, codesIn, fillSum, FillsAddUpOnDays}
+use Rattle.consistency.specs.Table.{calls, repliesOn, replies, tableAfter}
+use Rattle.consistency.specs.Fills.{acceptedUpdates, fillSum, FillsAddUpOnDays}
 use Rattle.consistency.proofs.Table.Stands.{Stands}
 use Rattle.consistency.proofs.Table.Calls.{fill-same}
 use Rattle.consistency.proofs.Table.Follows.{fresh-stands, stands-after, table-follows}
 
 -- the same codes, at the table and on paper
-same-codes : (qs : List Request) (p : PlainDay) → codesIn (replies qs (answersFrom p (calls qs))) ≡ codesOf (answersFrom p (calls qs))
+same-codes : (qs : List (Call (List ℕ))) (p : PlainDay) → codesOf (replies qs (answersFrom p (calls qs))) ≡ codesOf (answersFrom p (calls qs))
 unfolding replies answersFrom
 same-codes [] p = refl
-same-codes (q ∷ qs) p = ap (λ codes. called p (onPaper q) .answer .code ∷ codes) (same-codes qs (called p (onPaper q) .next))
+same-codes (q ∷ qs) p = ap (λ codes. called p (callOn length q) .answer .code ∷ codes) (same-codes qs (called p (callOn length q) .next))
 
-module _ (t : List ℕ) (h : length t ≡ bytes) (qs : List Request) where
+module _ (t : List ℕ) (h : length t ≡ bytes) (qs : List (Call (List ℕ))) where
   left : List ℕ
   left = tableAfter (freshOut t .lent) qs
 
@@ -50,14 +49,14 @@ module _ (t : List ℕ) (h : length t ≡ bytes) (qs : List Request) where
   summed : fillSum left ≡ acceptedUpdates qs (repliesOn (freshOut t .lent) qs)
   unfolding p
   summed =
-      sum-same revisions _ (λ n. called p (Paper.Fill n) .answer .value) (λ n l. fill-same p left S n .own)
-      ∙ sum-ends (p .day .numbering .given) revisions (λ n. called p (Paper.Fill n) .answer .value) few (no-fill p (named (calls qs)))
+      sum-same revisions _ (λ n. called p (Looks (Fill n)) .answer .value) (λ n l. ap (λ r. r .value) (fill-same p left S n .reply))
+      ∙ sum-ends (p .day .numbering .given) revisions (λ n. called p (Looks (Fill n)) .answer .value) few (no-fill p (named (calls qs)))
       ∙ Plain.fills-add-up (calls qs) .sum
       ∙ sym history
 
   told : (n : ℕ) → fillOut left n .code ≡ 0 → fillOut left n .total ≡ acceptedUpdates qs (repliesOn (freshOut t .lent) qs)
   unfolding p
-  told n e = let f = fill-same p left S n in f .total ∙ Plain.fills-add-up (calls qs) .total n (sym (f .code) ∙ e) ∙ sym history
+  told n e = let f = fill-same p left S n .reply in ap (λ r. r .total) f ∙ Plain.fills-add-up (calls qs) .total n (sym (ap (λ r. r .code) f) ∙ e) ∙ sym history
 
 pub fills-add-up : FillsAddUpOnDays
 unfolding left

@@ -1,7 +1,7 @@
 -- The table of calls follows the plain day.
 pub mod Stands
 pub mod Values
-pub mod Same
+pub mod Rows
 pub mod Calls
 pub mod Bundles
 pub mod Previews

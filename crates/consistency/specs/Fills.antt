@@ -2,32 +2,29 @@
 -- accepted since fresh, that number being counted from the history". Always: after every list of calls.
 use Prim.Native.Nat.{ℕ}
 use mathlib.Core.Path.{_≡_}
-use mathlib.Core.List.{List, [], _∷_}
+use mathlib.Core.List.{List}
 use lib.ListN.{length}
 use Rattle.lists.specs.Sums.{sumBelow}
 use Rattle.cells.specs.Sizes.{revisions}
-use Rattle.plain.specs.Fills.{acceptedIn}
-use Rattle.table.specs.Halves.{bytes}
+use Rattle.desk.specs.Calls.{Call, Answer}
+use Rattle.plain.specs.Fills.{acceptedIn, codesOf}
+use Rattle.table.specs.Out.{bytes}
 use Rattle.table.specs.Calls.{freshOut, fillOut}
-use Rattle.consistency.specs.Table.{Request, Reply, calls, repliesOn, tableAfter}
+use Rattle.consistency.specs.Table.{calls, repliesOn, tableAfter}
 
 -- what a fill of each number tells; of one that is not out it tells 0
 abbrev pub fillSum : List ℕ → ℕ
 fillSum t = sumBelow revisions (λ n. fillOut t n .own)
 
 -- the history: the calls and the codes of the replies
-abbrev pub codesIn : List Reply → List ℕ
-codesIn [] = []
-codesIn (r ∷ rs) = r .code ∷ codesIn rs
+abbrev pub acceptedUpdates : List (Call (List ℕ)) → List (Answer (List ℕ)) → ℕ
+acceptedUpdates qs rs = acceptedIn (calls qs) (codesOf rs)
 
-abbrev pub acceptedUpdates : List Request → List Reply → ℕ
-acceptedUpdates qs rs = acceptedIn (calls qs) (codesIn rs)
-
-pub record FillsAddUp (t : List ℕ) (qs : List Request) : Type 0 where
+pub record FillsAddUp (t : List ℕ) (qs : List (Call (List ℕ))) : Type 0 where
   pub sum : fillSum (tableAfter (freshOut t .lent) qs) ≡ acceptedUpdates qs (repliesOn (freshOut t .lent) qs)
   -- "the number taken by the whole table" is the same number, whichever box is asked
   pub total : (n : ℕ) → fillOut (tableAfter (freshOut t .lent) qs) n .code ≡ 0
       → fillOut (tableAfter (freshOut t .lent) qs) n .total ≡ acceptedUpdates qs (repliesOn (freshOut t .lent) qs)
 
 abbrev pub FillsAddUpOnDays : Type 0
-FillsAddUpOnDays = (t : List ℕ) → length t ≡ bytes → (qs : List Request) → FillsAddUp t qs
+FillsAddUpOnDays = (t : List ℕ) → length t ≡ bytes → (qs : List (Call (List ℕ))) → FillsAddUp t qs

@@ -3,5 +3,6 @@
 pub mod Table
 pub mod Refusals
 pub mod Demand
+pub mod Edges
 pub mod Fills
 pub mod Previews

@@ -1,6 +1,7 @@
 -- The day after every run of accepted steps: its diagram has a layout, and its transactions are whole.
 pub mod Accepting
 pub mod Moves
+pub mod Found
 pub mod Naming
 pub mod Waiting
 pub mod Real

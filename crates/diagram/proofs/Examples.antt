@@ -14,7 +14,8 @@ use Rattle.diagram.specs.Construction.{Constructed, entered, forked, joi
 use Rattle.diagram.specs.Effects.{tabulate, view, startVertex, forkVertex}
 use Rattle.diagram.specs.Day.{Day, fresh}
 use Rattle.diagram.specs.Checks.{unknownClient, openElsewhere, busyByOther, busy, stale, logFull, noneLeft, notJoinable}
-use Rattle.diagram.specs.Steps.{Step, accepted, after, run, runFrom, Event, Yield, Fork, Join}
+use Rattle.diagram.specs.Steps.{Step, after, run, runFrom, Event, Yield, Fork, Join}
+use Rattle.diagram.specs.Accepted.{accepted}
 use Rattle.diagram.specs.Reuse.{handIns, waiting}
 use Rattle.diagram.specs.Examples.{triedAll, answers, e1, examples, expected, computed, e1List, beforeJoin, childJoinsParent, withCounts}
 

@@ -1,7 +1,6 @@
--- The claim about every run of accepted steps: 01, "The plain day and its line-up", from "On it:" on, without values.
--- It speaks of the day's own vertices and paths alone. 01's line-up is the arbitration order.
+-- What is claimed of a day and one line-up of its transactions: 01, "The plain day and its line-up", from "On it:" on, without calls and values.
+-- It speaks of the day's own vertices and paths alone. 01's line-up is 002's arbitration order.
 use Prim.Native.Nat.{ℕ, _<_, _≤_}
-use mathlib.Core.Bool.{false}
 use mathlib.Core.Path.{_≡_}
 use mathlib.Core.Logic.{_⊎_, _↔_}
 use mathlib.Core.Option.{Option, some}
@@ -10,8 +9,7 @@ use lib.ListN.{length}
 use Rattle.lists.specs.Lists.{_∈_, _⊑_, flat, Only}
 use Rattle.diagram.specs.Diagram.{Vertex, event, Diagram, HasPath}
 use Rattle.diagram.specs.Effects.{view, number, numbers}
-use Rattle.diagram.specs.Day.{Day, fresh, IsOut, IsIdle}
-use Rattle.diagram.specs.Steps.{Step, Event, after, run, nextVertex}
+use Rattle.diagram.specs.Day.{Day, IsOut}
 
 -- 01, "Words": "Event: a taken update or query", by its vertex
 pub data IsEvent (x : ℕ) : Diagram → Type 0 where
@@ -69,40 +67,24 @@ Extends y z =
     (r : ℕ) → IsOut y r → IsOut z r
     → (more : List ℕ) × (view (z .diagram) (z .terminal r) ≡ view (y .diagram) (y .terminal r) ++ more)
 
-abbrev pub ExtendsEach : Day → List Step → Type 0
-ExtendsEach y [] = Unit {0}
-ExtendsEach y (s ∷ ss) = Extends y (after y s) × ExtendsEach (after y s) ss
-
--- one arbitration order for the whole run
-pub record Arbitration (ss : List Step) : Type 0 where
+-- one line-up of the day's transactions, at its end
+pub record Explains (y : Day) (order : List ℕ) : Type 0 where
   -- "A line-up has every transaction once, open ones and those of queries alone too."
-  pub order : List ℕ
   pub once : List·Nodup order
-  pub complete : (t : ℕ) → (t ∈ order) ↔ (t < run ss .transactions)
+  pub complete : (t : ℕ) → (t ∈ order) ↔ (t < y .transactions)
   -- every event is in one transaction, once
-  pub entered : (x : ℕ) → IsEvent x (run ss .diagram) ↔ ((t : ℕ) × (t < run ss .transactions) × (x ∈ eventsOf (run ss) t))
-  pub one-each : List·Nodup (flat (eventsOf (run ss)) order)
+  pub entered : (x : ℕ) → IsEvent x (y .diagram) ↔ ((t : ℕ) × (t < y .transactions) × (x ∈ eventsOf y t))
+  pub one-each : List·Nodup (flat (eventsOf y) order)
   -- "the updates taken, numbered from 0": so the order has every update once
-  pub numbered : Numbered (run ss .diagram) (run ss .updates)
-  pub updates-once : List·Nodup (numbers (run ss .diagram) (flat (eventsOf (run ss)) order))
-  pub updates-all : (n : ℕ) → (n ∈ numbers (run ss .diagram) (flat (eventsOf (run ss)) order)) ↔ (n < run ss .updates)
+  pub numbered : Numbered (y .diagram) (y .updates)
+  pub updates-once : List·Nodup (numbers (y .diagram) (flat (eventsOf y) order))
+  pub updates-all : (n : ℕ) → (n ∈ numbers (y .diagram) (flat (eventsOf y) order)) ↔ (n < y .updates)
   -- 00, demand 3: "each stands after all others that it sees"
-  pub after-seen : (s t : ℕ) → s < run ss .transactions → t < run ss .transactions → (s ≡ t → ⊥) → SeesTransaction (run ss) t s → (s ∷ t ∷ []) ⊑ order
-  -- "the visible updates of every box out at the list's end stand in listed order": those its terminal sees
-  pub listed : (r : ℕ) → IsOut (run ss) r → Shows (run ss) order (run ss .terminal r) (view (run ss .diagram) (run ss .terminal r))
-  pub in-order : (r : ℕ) → IsOut (run ss) r → view (run ss .diagram) (run ss .terminal r) ⊑ numbers (run ss .diagram) (flat (eventsOf (run ss)) order)
-  -- "A taken query answers as its bib stands after the updates it sees, and no others": these are the view at the query
-  pub queries : (before rest : List Step) (c r : ℕ) → ss ≡ before ++ (Event c r false ∷ rest)
-      → Shows (run ss) order (nextVertex before) (view (after (run before) (Event c r false) .diagram) (nextVertex before))
-  -- and so is what any vertex showed at any time of the run
-  pub ever : (before rest : List Step) → ss ≡ before ++ rest → (x : ℕ) → x < length (run before .diagram) → Shows (run ss) order x (view (run before .diagram) x)
-  -- "For a box that stays out, the list before a call begins the list after it."
-  pub grows : ExtendsEach fresh ss
+  pub after-seen : (s t : ℕ) → s < y .transactions → t < y .transactions → (s ≡ t → ⊥) → SeesTransaction y t s → (s ∷ t ∷ []) ⊑ order
+  -- "The visible updates of a box are those its line end sees, in the listing's order, busy or not": of every box out they "stand in listed order"
+  pub visible : (r : ℕ) → IsOut y r → Shows y order (y .terminal r) (view (y .diagram) (y .terminal r))
+  pub in-order : (r : ℕ) → IsOut y r → view (y .diagram) (y .terminal r) ⊑ numbers (y .diagram) (flat (eventsOf y) order)
   -- "A vertex outside a transaction sees all its events or none, and any only if its yield came before the vertex."
-  pub whole : (t x : ℕ) → t < run ss .transactions → x < length (run ss .diagram) → (x ∈ eventsOf (run ss) t → ⊥) → WholeAt (run ss) t x x
-  -- "A taken list shows its updates likewise": at any time, of a revision that is out and idle
-  pub lists : (before rest : List Step) → ss ≡ before ++ rest → (r : ℕ) → IsOut (run before) r → IsIdle (run before) r
-      → (t : ℕ) → t < run before .transactions → WholeAt (run before) t (run before .terminal r) (length (run before .diagram))
+  pub whole : (t x : ℕ) → t < y .transactions → x < length (y .diagram) → (x ∈ eventsOf y t → ⊥) → WholeAt y t x x
   -- "Each event of a tablet's later transaction sees each event of its earlier ones."
-  pub sessions : (s t e f : ℕ) → s < t → t < run ss .transactions → run ss .transaction s .client ≡ run ss .transaction t .client
-      → e ∈ eventsOf (run ss) s → f ∈ eventsOf (run ss) t → Sees (run ss) f e
+  pub sessions : (s t e f : ℕ) → s < t → t < y .transactions → y .transaction s .client ≡ y .transaction t .client → e ∈ eventsOf y s → f ∈ eventsOf y t → Sees y f e

@@ -1,10 +1,11 @@
 -- The plain day of revisions: what 01, "The plain day and its line-up", keeps on paper. No bibs, no times, no bytes.
 use Prim.Native.Nat.{ℕ, _<_}
-use mathlib.Core.Bool.{Bool, false, cond}
+use mathlib.Core.Bool.{Bool, true, false, cond}
 use mathlib.Core.Path.{_≡_}
 use mathlib.Core.Option.{Option, none, some}
 use mathlib.Core.List.{List, [], _∷_}
-use Rattle.lists.specs.Sums.{sumBelow}
+use lib.Dec.{eqb}
+use Rattle.lists.specs.Sums.{anyBelow, sumBelow}
 use Rattle.diagram.specs.Diagram.{root, Diagram}
 use Rattle.diagram.specs.Numbering.{Numbering, freshNumbering, next, latest}
 
@@ -55,9 +56,17 @@ fresh = record {
   transaction = λ t. record { client = 0; revision = 0; events = []; closed = none };
 }
 
--- the revision that a number means: none if it is not yet given out (code 3). 02, U7: "A number means the latest box that bore it"
-unfoldable pub meant : Day → ℕ → Option ℕ
+-- 3 "box number not yet given out": whether a revision got the number at its start
+unfoldable pub isGiven : Day → ℕ → Bool
+isGiven y n = anyBelow (y .revisions) (λ r. eqb (y .numbering .of r) n)
+
+-- 02, U7: "A number means the latest box that bore it". Of a number that is not given out no call asks further.
+unfoldable pub meant : Day → ℕ → ℕ
 meant y n = latest (y .numbering .of) n (y .revisions)
+
+-- number n means revision r
+abbrev pub Means : Day → ℕ → ℕ → Type 0
+Means y n r = (isGiven y n ≡ true) × (meant y n ≡ r)
 
 -- the number that the next fork gives
 unfoldable pub nextNumber : Day → ℕ

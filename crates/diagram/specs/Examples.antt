@@ -1,3 +1,4 @@
+-- No claim rests on this file: computed examples.
 -- 01, "Edges of a race day", as far as revisions go: steps, and which of them are accepted or what they list. A refused
 -- step changes nothing. Last the diagram that shows why the join rule has a second half.
 use Prim.Native.Nat.{ℕ}
@@ -6,7 +7,8 @@ use mathlib.Core.Option.{some}
 use mathlib.Core.List.{List, [], _∷_}
 use Rattle.diagram.specs.Diagram.{Diagram, root, start, event, fork, join}
 use Rattle.diagram.specs.Day.{Day, fresh}
-use Rattle.diagram.specs.Steps.{Step, Event, Yield, Fork, Join, accepted, after}
+use Rattle.diagram.specs.Steps.{Step, Event, Yield, Fork, Join, after}
+use Rattle.diagram.specs.Accepted.{accepted}
 
 abbrev pub tried : Day → Step → Day
 tried y s = cond (accepted y s) (after y s) y

@@ -1,14 +1,13 @@
 -- 00, demand 2: "A step is taken exactly if that paper's construction and transaction rules .. and our stated limits allow
 -- it". No test and no code is named here: a step is allowed if the run that ends with it keeps 002's rules, within 01's sizes.
-use Prim.Native.Nat.{ℕ, _<_}
+use Prim.Native.Nat.{_<_}
 use mathlib.Core.Bool.{true}
 use mathlib.Core.Path.{_≡_}
-use mathlib.Core.Logic.{_↔_}
 use mathlib.Core.List.{List, [], _∷_, _++_}
 use Rattle.diagram.specs.Sizes.{revisionLimit, clientLimit, updateLimit}
 use Rattle.diagram.specs.Construction.{Constructed}
 use Rattle.diagram.specs.Day.{Day, outCount}
-use Rattle.diagram.specs.Steps.{Step, Event, Yield, Fork, Join, Accepted, accepted, run}
+use Rattle.diagram.specs.Steps.{Step, Event, Yield, Fork, Join, run}
 use Rattle.diagram.specs.Witness.{ByTransactions}
 
 -- 01, "Sizes of a day", and "box number not yet given out": the limits, and that the step names what there is
@@ -27,17 +26,6 @@ pub record Lawful (ss : List Step) : Type 0 where
 abbrev pub MayFollow : List Step → Step → Type 0
 MayFollow before s = Within (run before) s × Lawful (before ++ (s ∷ []))
 
--- after every run of accepted steps, a step is accepted exactly if it may follow
-abbrev pub TakenExactly : Type 0
-TakenExactly = (ss : List Step) → Accepted ss → (s : Step) → (accepted (run ss) s ≡ true) ↔ MayFollow ss s
-
--- and so of whole runs: the steps of a list are accepted, one after another, exactly if each may follow those before it
+-- each step of a list may follow those before it
 abbrev pub EachMayFollow : List Step → Type 0
 EachMayFollow ss = (before rest : List Step) (s : Step) → ss ≡ before ++ (s ∷ rest) → MayFollow before s
-
-abbrev pub RunsExactly : Type 0
-RunsExactly = (ss : List Step) → Accepted ss ↔ EachMayFollow ss
-
--- a yield is always lawful
-abbrev pub YieldsLawful : Type 0
-YieldsLawful = (ss : List Step) → Accepted ss → (c : ℕ) → c < clientLimit → Lawful (ss ++ (Yield c ∷ []))

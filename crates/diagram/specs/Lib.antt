@@ -13,7 +13,9 @@ pub mod Rules
 pub mod Reuse
 pub mod Pool
 pub mod Counts
+pub mod Summed
 pub mod Arbitration
 pub mod Witness
 pub mod Lawful
+pub mod Accepted
 pub mod Examples

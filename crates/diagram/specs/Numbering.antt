@@ -1,7 +1,6 @@
 -- The numbers that revisions bear: 02, U7. Revisions themselves are numbered by creation, without bound; this is what a table calls them.
 use Prim.Native.Nat.{ℕ, zero, suc}
 use mathlib.Core.Bool.{cond}
-use mathlib.Core.Option.{Option, none, some}
 use mathlib.Core.List.{List, [], _∷_, _++_}
 use lib.Dec.{eqb, ltb}
 use Rattle.lists.specs.Lists.{changed, firstOf, restOf}
@@ -35,7 +34,7 @@ started n r = record {
 abbrev pub handedIn : Numbering → ℕ → Numbering
 handedIn n r = record { of = n .of; given = n .given; freed = n .freed ++ (n .of r ∷ []) }
 
--- "A number means the latest box that bore it": of the revisions below m
-abbrev pub latest : (ℕ → ℕ) → ℕ → ℕ → Option ℕ
-latest of n zero = none
-latest of n (suc m) = cond (eqb (of m) n) (some m) (latest of n m)
+-- "A number means the latest box that bore it": of the revisions below m; 0 where none bore it
+abbrev pub latest : (ℕ → ℕ) → ℕ → ℕ → ℕ
+latest of n zero = 0
+latest of n (suc m) = cond (eqb (of m) n) m (latest of n m)

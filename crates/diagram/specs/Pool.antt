@@ -1,26 +1,15 @@
--- 002, section 4.3, the server pool: each server keeps the set J of the servers that it may join. 00: "for joins its server pool's rule".
+-- 002, section 4.3: the servers' sets J along a run. 00: "for joins its server pool's rule".
 use Prim.Native.Nat.{ℕ}
-use mathlib.Core.Bool.{Bool, true, false, cond, _||_}
+use mathlib.Core.Bool.{true, false}
 use mathlib.Core.Path.{_≡_}
 use mathlib.Core.Logic.{_↔_}
 use mathlib.Core.List.{List, [], _∷_}
-use lib.Dec.{eqb}
+use Rattle.lists.specs.Pool.{Pool, forkPool, joinPool}
 use Rattle.diagram.specs.Day.{Day, IsOut, fresh}
 use Rattle.diagram.specs.Construction.{Joinable}
 use Rattle.diagram.specs.Steps.{Step, Event, Yield, Fork, Join, after, run}
 
--- whether the second server is in the set J of the first
-abbrev pub Pool : Type 0
-Pool = ℕ → ℕ → Bool
-
--- FORK: "J' = J ∪ {s2}" for the forker, and the new server, next in number, has the forker's J
-abbrev pub forkPool : Pool → ℕ → ℕ → Pool
-forkPool J forker new a b = cond (eqb b new) (eqb a forker) (cond (eqb a new) (J forker b) (J a b))
-
--- JOIN: "J' = J1 ∪ J2"
-abbrev pub joinPool : Pool → ℕ → ℕ → Pool
-joinPool J joiner joinee a b = cond (eqb a joiner) (J joiner b || J joinee b) (J a b)
-
+-- the new server of a fork is the next in number
 abbrev pub poolAfter : Day → Pool → Step → Pool
 poolAfter y J (Event c r u) = J
 poolAfter y J (Yield c) = J

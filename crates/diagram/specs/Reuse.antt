@@ -3,13 +3,12 @@ use Prim.Native.Nat.{ℕ, _<_, _≤_}
 use mathlib.Core.Bool.{Bool, not, _&&_}
 use mathlib.Core.Path.{_≡_}
 use mathlib.Core.Logic.{_↔_}
-use mathlib.Core.Option.{some}
 use mathlib.Core.List.{List, [], _∷_, _++_}
 use lib.Dec.{eqb, ltb}
 use Rattle.lists.specs.Lists.{keep, named}
 use Rattle.lists.specs.Sums.{anyBelow}
 use Rattle.diagram.specs.Sizes.{revisionLimit}
-use Rattle.diagram.specs.Day.{Day, IsOut, meant, numberOf, outCount}
+use Rattle.diagram.specs.Day.{Day, IsOut, Means, numberOf, outCount}
 use Rattle.diagram.specs.Steps.{Step, Event, Yield, Fork, Join, run}
 
 -- the revisions handed in, in the order of their hand-ins
@@ -48,8 +47,8 @@ pub record ByNumbers (ss : List Step) : Type 0 where
   pub main : numberOf (run ss) 0 ≡ 0
   pub forked : (before rest : List Step) (r : ℕ) → ss ≡ before ++ (Fork r ∷ rest) → Takes before (numberOf (run ss) (run before .revisions))
   -- "A number means the latest box that bore it"; that of a revision out means it
-  pub means : (n r : ℕ) → (meant (run ss) n ≡ some r) ↔ Bears (run ss) r n
-  pub out : (r : ℕ) → IsOut (run ss) r → meant (run ss) (numberOf (run ss) r) ≡ some r
+  pub means : (n r : ℕ) → Means (run ss) n r ↔ Bears (run ss) r n
+  pub out : (r : ℕ) → IsOut (run ss) r → Means (run ss) (numberOf (run ss) r) r
   -- what the day keeps of them: how many were used, and those that wait
   pub given : (n : ℕ) → (n < run ss .numbering .given) ↔ Used (run ss) n
   pub freed : run ss .numbering .freed ≡ waiting ss

@@ -1,16 +1,13 @@
--- The steps of the day: when one is accepted and what it does. 01, "The plain day and its line-up": "When taken: ..".
+-- The steps of the day and what each does. 01, "The plain day and its line-up": "When taken: ..".
 use Prim.Native.Nat.{ℕ, suc}
-use mathlib.Core.Bool.{Bool, true, false, cond, not, _&&_}
-use mathlib.Core.Path.{_≡_}
+use mathlib.Core.Bool.{Bool, true, false, cond}
 use mathlib.Core.Option.{Option, none, some}
 use mathlib.Core.List.{List, [], _∷_, _++_}
 use lib.ListN.{length}
-use lib.Dec.{ltb}
 use Rattle.lists.specs.Lists.{changed}
 use Rattle.diagram.specs.Diagram.{start, event, fork, join}
 use Rattle.diagram.specs.Numbering.{started, handedIn}
 use Rattle.diagram.specs.Day.{Transaction, Day, fresh}
-use Rattle.diagram.specs.Checks.{unknownClient, openElsewhere, busyByOther, busy, stale, logFull, noneLeft, notJoinable}
 
 -- a step names clients and revisions; an event is an update or a query
 pub data Step : Type 0 where
@@ -18,23 +15,6 @@ pub data Step : Type 0 where
   Yield : (client : ℕ) → Step
   Fork : (revision : ℕ) → Step
   Join : (joiner joinee : ℕ) → Step
-
--- 3 "box number not yet given out"
-abbrev pub notGiven : Day → ℕ → Bool
-notGiven y r = not (ltb r (y .revisions))
-
-abbrev pub noneOf : List Bool → Bool
-noneOf [] = true
-noneOf (b ∷ bs) = not b && noneOf bs
-
--- a step is accepted exactly if none of its codes applies: "Update: 1 to 9. Query: 1 to 8 .. Yield: 1, 2. Fork: 1, 3, 4,
--- 7, 10. Join: 1, 3, 4, 7, 11." (1 and 5 are not of this crate)
-unfoldable pub accepted : Day → Step → Bool
-accepted y (Event c r u) =
-    noneOf (unknownClient c ∷ notGiven y r ∷ y .joined r ∷ openElsewhere y c r ∷ busyByOther y c r ∷ stale y c r ∷ (u && logFull y) ∷ [])
-accepted y (Yield c) = noneOf (unknownClient c ∷ [])
-accepted y (Fork r) = noneOf (notGiven y r ∷ y .joined r ∷ busy y r ∷ noneLeft y ∷ [])
-accepted y (Join a b) = noneOf (notGiven y a ∷ notGiven y b ∷ y .joined a ∷ y .joined b ∷ busy y a ∷ busy y b ∷ notJoinable y a b ∷ [])
 
 -- "Update, query: a vertex at the box's line end. It goes into the tablet's open transaction or opens one, and is the
 -- tablet's last event."
@@ -144,11 +124,3 @@ run ss = runFrom fresh ss
 -- the next vertex after some steps: that of an event which is entered then
 abbrev pub nextVertex : List Step → ℕ
 nextVertex ss = length (run ss .diagram)
-
--- each step is accepted when it comes
-abbrev pub AcceptedFrom : Day → List Step → Type 0
-AcceptedFrom y [] = Unit {0}
-AcceptedFrom y (s ∷ ss) = (accepted y s ≡ true) × AcceptedFrom (after y s) ss
-
-abbrev pub Accepted : List Step → Type 0
-Accepted ss = AcceptedFrom fresh ss

@@ -1,5 +1,5 @@
 -- What the day keeps of a run's events and yields: 01, "Words": "A tablet's events between yields form one transaction",
--- and 002, Definition 10, points 2 to 4. (Point 1, the answers, is in `Arbitration`, and with values in crate plain.)
+-- and 002, Definition 10, points 2 to 4. (Point 1, the answers, is in crate plain.)
 -- An event entered after the steps `before` is the vertex `nextVertex before`.
 use Prim.Native.Nat.{ℕ, _<_}
 use mathlib.Core.Bool.{Bool}
@@ -36,7 +36,7 @@ abbrev pub NoYield : ℕ → List Step → Type 0
 NoYield c ss = List·Memᴰ (Yield c) ss → ⊥
 
 -- 002, Definition 10: what a diagram must satisfy to be a witness for the history of a run. (Point 1, the answers, is in
--- `Arbitration`, and with values in crate plain.) The history of client c is its events and yields; x is an event after
+-- crate plain.) The history of client c is its events and yields; x is an event after
 -- `before`, y a later one of the same client, with the steps `middle` between them.
 pub record ByTransactions (ss : List Step) : Type 0 where
   -- 2: "If x, y are two successive non-yield operations .. then they must be connected by a s-edge."

@@ -14,11 +14,13 @@ use Rattle.fields.specs.declared.table.Revision.{Revision}
 use Rattle.checks.specs.Answers.{clientCheck}
 use Rattle.checks.specs.declared.client.ClientCheck.{ClientCheck}
 use Rattle.table.specs.Halves.{low, high, cellsOf, isTable}
-use Rattle.table.specs.Answers.{Out, refused, taken, named}
+use Rattle.updates.specs.Kinds.{isUnknown, kindIn}
+use Rattle.table.specs.Answers.{refused, taken}
+use Rattle.table.specs.Out.{Out}
 use Rattle.table.specs.Calls.{updateOut, yieldOut}
 use Rattle.table.specs.Found.{onClient, onKind, onEvent}
 use Rattle.table.specs.Checks.{placeCheck, turnCheck}
-use Rattle.table.proofs.Calls.{client-is, given-is, over, event-cond}
+use Rattle.table.proofs.Calls.{client-is, either, given-is, over, event-cond}
 use Rattle.entering.specs.Checks.{updateCheck}
 use Rattle.entering.specs.declared.update.UpdateCheck.{UpdateCheck}
 use Rattle.entering.specs.declared.update.UpdateCheck.the-variants as update
@@ -28,7 +30,7 @@ onUpdate (update.Refused k) end rest = end k
 onUpdate (update.Allowed x y kind) end rest = rest x y kind
 
 kind-is : (q : KindCheck) (rest : Kind → UpdateCheck) (t : List ℕ) (w : Client → Revision → Kind → Out)
-    → onUpdate (onKind q (update.Refused 5) rest) (refused t) w ≡ named q t (λ kind. onUpdate (rest kind) (refused t) w)
+    → onUpdate (onKind q (update.Refused 5) rest) (refused t) w ≡ cond (isUnknown q) (refused t 5) (onUpdate (rest (kindIn q)) (refused t) w)
 unfolding onKind onUpdate
 kind-is kinds.Unknown rest t w = refl
 kind-is (kinds.Known kind) rest t w = refl
@@ -56,7 +58,7 @@ module _ (t : List ℕ) (h : isTable t ≡ true) where
   update-by : (c n k b v : ℕ) (z : UpdateCheck) → updateCheck (low t) c n k b ≡ z
       → onUpdate z (refused t) (λ x y kind. taken (updateBytes (low t) (x .0) (y .0) ++ wrote (high t) (cellsOf t .updates) (entry kind (x .0) b v)) (cellsOf t .updates)) ≡ updateOut t c n k b v
   unfolding updateCheck placeCheck turnCheck updateOut onEvent onUpdate
-  update-by c n k b v z e = rw (← e) (simp (client-is, given-is, kind-is, event-cond, update-cond, h))
+  update-by c n k b v z e = rw (← e) (simp (client-is, given-is, kind-is, event-cond, update-cond, either, h))
 
   module _ (c n k b v : ℕ) (f : UpdateCheck) (e : f ≡ updateCheck (low t) c n k b) where
     pub update-refused : (code : ℕ) → f ≡ update.Refused code → refused t code ≡ updateOut t c n k b v

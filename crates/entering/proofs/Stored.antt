@@ -10,7 +10,8 @@ use Rattle.cells.specs.Sizes.{updates}
 use Rattle.entries.specs.Sizes as Upper
 use Rattle.entries.specs.Entries.{wrote}
 use Rattle.entries.specs.declared.entry.Entry.{Entry}
-use Rattle.table.specs.Halves.{bytes, low, high}
+use Rattle.table.specs.Halves.{low, high}
+use Rattle.table.specs.Out.{bytes}
 use Rattle.table.proofs.Halves.{low-of, high-of, high-whole}
 
 pub below : (u w : ℕ) → u ≡ w → w < updates → u < updates

@@ -1,3 +1,4 @@
+-- No claim rests on this file: it serves the code.
 -- What the checks of an update find, in their order.
 use Prim.{Unit}
 use Prim.Native.Nat.{ℕ, _<_}

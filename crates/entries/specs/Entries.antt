@@ -1,8 +1,9 @@
+-- No claim rests on this file: it serves the code.
 -- The entries in a row, six bytes each: entry n read, and entry n replaced.
 use Prim.Native.Nat.{ℕ, _*_}
 use mathlib.Core.List.{List}
 use lib.ListN.{take, drop}
-use Rattle.lists.specs.Lists.{replaced}
+use Rattle.lists.specs.Arranged.{replaced}
 use Rattle.entries.specs.declared.entry.Entry.{Entry}
 use Rattle.entries.specs.Stored.{stored, decoded}
 

@@ -1,3 +1,4 @@
+-- No claim rests on this file: it serves the code.
 -- How many entries there are, and the ranges of their fields: 01, "Sizes of a day". No range depends on the day.
 use Prim.Native.Nat.{ℕ}
 

@@ -1,3 +1,4 @@
+-- No claim rests on this file: it serves the code.
 -- An entry as six bytes: bib's low 8 bits; client, kind and bib's high 2 bits in one byte; v, the low byte first.
 use mathlib.Core.Bool.{cond}
 use Prim.Native.Nat.{ℕ, _+_, _*_, _-_, _/_, _%_}

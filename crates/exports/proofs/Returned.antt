@@ -5,7 +5,8 @@ use mathlib.Core.Path.{_≡_, _∙_, ap}
 use native.Mathlib.Omega.{arith}
 use Rattle.table.specs.declared.answer.Answer.{Answer}
 use Rattle.table.specs.declared.answer.Reading.{Reading}
-use Rattle.table.specs.Answers.{Out, left, leftRead}
+use Rattle.table.specs.Answers.{left, leftRead}
+use Rattle.table.specs.Out.{Out}
 use Rattle.exports.specs.Packed.{returned, packed, packedState, stateNumber, exported}
 
 -- no state is no more than the code and the value

@@ -8,7 +8,8 @@ use lib.Dec.{eqb}
 use lib.ListN.{length, set, getD, take, drop, length-append, length-drop, drop-of-length-le, List·getD-append}
 use lib.Seq.{take-suc, take-suc-set, drop-set-lt, drop-cons, drop-drop, getD-drop, getD-append-add, take-at, take-all, take-append-le, take-append-add, set-split, set-at, length-take-le, getD-take}
 use borrow.Author.Tests.{eq-eqb, ne-eqb}
-use Rattle.lists.specs.Lists.{insertBefore, remove, restOf}
+use Rattle.lists.specs.Lists.{restOf}
+use Rattle.lists.specs.Arranged.{insertBefore, remove}
 use Rattle.lists.proofs.Cases.{cases}
 use Rattle.fields.specs.Place.{firstPlace}
 

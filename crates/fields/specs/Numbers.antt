@@ -1,3 +1,4 @@
+-- No claim rests on this file: it serves the code.
 -- The range check of a revision number: 01, "box numbers 0 to 63".
 use Prim.Native.Nat.{ℕ}
 use mathlib.Core.Bool.{cond}

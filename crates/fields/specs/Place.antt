@@ -1,3 +1,4 @@
+-- No claim rests on this file: it serves the code.
 -- The first place of a revision in the layout, or the layout's length where it stands in none.
 use Prim.Native.Nat.{ℕ, suc}
 use mathlib.Core.Bool.{cond}

@@ -2,7 +2,7 @@
 ghost use mathlib.Core.Path.{_≡_};
 ghost use mathlib.Core.List.{[], _++_, _∷_};
 ghost use lib.ListN.{length, take};
-ghost use Rattle.lists.specs.Lists.{insertBefore, remove};
+ghost use Rattle.lists.specs.Arranged.{insertBefore, remove};
 ghost use Rattle.fields.specs.Place.{firstPlace};
 use crate::gaps;
 use crate::table::Table;

@@ -4,14 +4,16 @@ ghost use mathlib.Core.List.{[], _++_, _∷_};
 ghost use Prim.Native.Nat.{_<_};
 ghost use lib.Dec.{eqb};
 ghost use lib.ListN.{length, set, take};
-ghost use Rattle.lists.specs.Lists.{insertBefore, remove, restOf};
+ghost use Rattle.lists.specs.Lists.{restOf};
+ghost use Rattle.lists.specs.Arranged.{insertBefore, remove};
 ghost use Rattle.cells.specs.Sizes.{bytes, clients, revisions, updates};
 ghost use Rattle.cells.specs.Parts.{split, wrote, lowPart, highPart, seenPart, caughtPart, statePart, usedPart, lastPart, firstPart};
 ghost use Rattle.cells.specs.Parts.{countPart, basePart, layoutPart, queuePart, openedPart, countersPart, rowsPart};
 ghost use Rattle.cells.specs.Words.{putHalf, putWord};
 ghost use Rattle.cells.specs.Marks.{markAt, pack, putRow};
 ghost use Rattle.cells.specs.Decode.{cells};
-ghost use Rattle.cells.specs.CellSteps.{forkSeen, forkCaught, joinSeen, joinCaught};
+ghost use Rattle.lists.specs.Pool.{forkPool, joinPool};
+ghost use Rattle.cells.specs.CellSteps.{forkCaught, joinCaught};
 ghost use Rattle.cells.specs.Steps.{putRowOf};
 use crate::gaps;
 use crate::layout;
@@ -135,7 +137,7 @@ pub fn caught_only(d: &mut [u8], c: Client, r: Revision)
 // The parent forked the child: the seen marks.
 pub fn fork_seen(d: &mut [u8], parent: Revision, child: Revision)
     requires { ⌜ (length (now d) ≡ bytes) × (parent .0 < revisions) × (child .0 < revisions) ⌝ }
-    ensures { λ _. ⌜ now (d .exit) ≡ wrote (now (d .entry)) seenPart (pack revisions (forkSeen (cells (now (d .entry)) .seen) (parent .0) (child .0))) ⌝ }
+    ensures { λ _. ⌜ now (d .exit) ≡ wrote (now (d .entry)) seenPart (pack revisions (forkPool (cells (now (d .entry)) .seen) (parent .0) (child .0))) ⌝ }
 {
     marks::packed::fork_seen(&mut d[SEEN..CAUGHT], wide(parent.0), wide(child.0));
 }
@@ -143,7 +145,7 @@ pub fn fork_seen(d: &mut [u8], parent: Revision, child: Revision)
 // a joined b: the seen marks.
 pub fn join_seen(d: &mut [u8], a: Revision, b: Revision)
     requires { ⌜ (length (now d) ≡ bytes) × (a .0 < revisions) × (b .0 < revisions) ⌝ }
-    ensures { λ _. ⌜ now (d .exit) ≡ wrote (now (d .entry)) seenPart (pack revisions (joinSeen (cells (now (d .entry)) .seen) (a .0) (b .0))) ⌝ }
+    ensures { λ _. ⌜ now (d .exit) ≡ wrote (now (d .entry)) seenPart (pack revisions (joinPool (cells (now (d .entry)) .seen) (a .0) (b .0))) ⌝ }
 {
     marks::packed::join_seen(&mut d[SEEN..CAUGHT], wide(a.0), wide(b.0));
 }

@@ -5,18 +5,18 @@ use mathlib.Core.Path.{_≡_, subst, sym}
 use mathlib.Core.List.{List, [], _∷_}
 use Rattle.diagram.specs.Day.{Day, fresh}
 use Rattle.machine.specs.Machine.{Machine, freshMachine, machineAfter, machineFrom}
-use Rattle.diagram.specs.Steps.{Accepted, AcceptedFrom, Step, accepted, after, run, runFrom}
+use Rattle.diagram.specs.Steps.{Step, after, run, runFrom}
+use Rattle.diagram.specs.Accepted.{Accepted, AcceptedFrom, accepted}
 use Rattle.machine.proofs.Follow.Shown.{follows}
 use Rattle.cells.specs.Cells.{Cells}
 use Rattle.cells.specs.CellSteps.{freshCells}
 use Rattle.cells.specs.Decode.{cells}
 use Rattle.cells.specs.Steps.{freshBytes}
-use Rattle.following.specs.Follow.{BytesFollowDays, CellsFollow, CellsFollowDays, ChecksFollowDays}
+use Rattle.following.specs.Follow.{BytesFollowDays, CellsFollow, CellsFollowDays}
 use Rattle.following.specs.Reached.{byNumber, bytesAfter, bytesFrom, cellsAfter, cellsFrom, stepBytes, stepCells}
 use Rattle.following.proofs.Cells.Answers.{answers}
 use Rattle.following.proofs.Cells.Kept.{Kept, fresh-kept, kept-after}
 use Rattle.following.proofs.Cells.Laid.{laid}
-use Rattle.following.proofs.Cells.Passing.{passing}
 use Rattle.following.proofs.Cells.Numbers.{numbers-follow}
 use Rattle.following.specs.Numbers.{NumbersFollowDays}
 use Rattle.following.proofs.Bytes.Ranged.{ranged}
@@ -62,9 +62,6 @@ bytes-follow ss P =
     let m = machineFrom freshMachine ss in
     let K = subst (Kept y m) (sym (S .cells-are)) (kept-run ss P) in
     record { size = S .size-is; ranged = ranged y m (bytesAfter ss) K (S .hidden); follow = kept-follows y m (cells (bytesAfter ss)) K }
-
-pub checks-follow : ChecksFollowDays
-checks-follow ss P = passing (run ss) (cells (bytesAfter ss)) (bytes-follow ss P .follow)
 
 pub numbers-follow-days : NumbersFollowDays
 numbers-follow-days ss P = numbers-follow (run ss) (cells (bytesAfter ss)) (bytes-follow ss P .follow)

@@ -1,21 +1,21 @@
--- The same agreement over box numbers, as a table is asked: `meant` says which revision a number means on the day.
+-- No claim rests on this file: it serves the proof of the agreement (crate consistency).
+-- The same agreement over box numbers, as a table is asked: `Means` says which revision a number means on the day.
 use Prim.Native.Nat.{ℕ, _<_}
 use mathlib.Core.Bool.{false, not}
 use mathlib.Core.Path.{_≡_}
-use mathlib.Core.Option.{some}
 use mathlib.Core.List.{List}
 use lib.ListN.{length}
 use Rattle.diagram.specs.Effects
-use Rattle.diagram.specs.Day.{Day, meant}
+use Rattle.diagram.specs.Day.{Day, Means, isGiven}
 use Rattle.diagram.specs.Checks
-use Rattle.diagram.specs.Steps.{Step, Accepted, run}
+use Rattle.diagram.specs.Steps.{Step, run}
+use Rattle.diagram.specs.Accepted.{Accepted}
 use Rattle.cells.specs.Sizes.{clients}
 use Rattle.cells.specs.Cells.{Cells}
 use Rattle.cells.specs.Order.{order}
 use Rattle.cells.specs.Checks as Asked
 use Rattle.cells.specs.Decode.{cells}
 use Rattle.following.specs.Reached.{bytesAfter}
-use Rattle.following.specs.Follow.{isGiven}
 
 -- number n, which means a revision r that is out
 pub record NumberOut (y : Day) (k : Cells) (n r : ℕ) : Type 0 where
@@ -32,9 +32,9 @@ pub record Number (y : Day) (k : Cells) (n r : ℕ) : Type 0 where
   pub out : y .joined r ≡ false → NumberOut y k n r
 
 pub record NumbersFollow (y : Day) (k : Cells) : Type 0 where
-  pub same-given : (n : ℕ) → Asked.givenOut k n ≡ isGiven (meant y n)
-  pub number : (n r : ℕ) → meant y n ≡ some r → Number y k n r
-  pub same-joinable : (n m a b : ℕ) → meant y n ≡ some a → meant y m ≡ some b → y .joined a ≡ false → y .joined b ≡ false
+  pub same-given : (n : ℕ) → Asked.givenOut k n ≡ isGiven y n
+  pub number : (n r : ℕ) → Means y n r → Number y k n r
+  pub same-joinable : (n m a b : ℕ) → Means y n a → Means y m b → y .joined a ≡ false → y .joined b ≡ false
       → Asked.joinable k n m ≡ not (Checks.notJoinable y a b)
 
 abbrev pub NumbersFollowDays : Type 0

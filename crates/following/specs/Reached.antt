@@ -1,3 +1,4 @@
+-- No claim rests on this file: it serves the proof of the agreement (crate consistency).
 -- The cells, and the bytes, that a list of accepted steps makes of a fresh table.
 use Prim.Native.Nat.{ℕ}
 use mathlib.Core.Bool.{true, false}

@@ -9,11 +9,13 @@ use lib.ListN.{length, take}
 use borrow.Author.Tests.{lt-ltb, ltb-false}
 use Rattle.lists.proofs.Cases.{cases}
 use Rattle.bundles.specs.declared.entry.Entry.{Entry}
-use Rattle.bundles.specs.Records.{isWrong, recordsOf}
+use Rattle.bundles.specs.Records.{isWrong}
+use Rattle.bundles.specs.Packed.{recordsOf}
 use Rattle.bundles.specs.Packed.{among, packedOf, recordsIn}
 use Rattle.bundles.proofs.Filled.{packed-records}
 use Rattle.bundles.proofs.Held.{entries-of-records, wrong-records}
-use Rattle.table.specs.Answers.{check, refused}
+use Rattle.table.specs.Answers.{refused}
+use Rattle.table.specs.Found.{check}
 use Rattle.table.specs.Calls.{bundleOut, entriesOut}
 use Rattle.table.specs.Halves.{isTable}
 

@@ -5,7 +5,8 @@ use lib.ListN.{replicate}
 use Rattle.updates.specs.Kinds.{kindNumber}
 use Rattle.updates.specs.declared.kind.Kind.the-variants.{Time, Strike}
 use Rattle.entries.specs.Stored.{entry}
-use Rattle.listing.specs.Lines.{line, lines, sheet}
+use Rattle.listing.specs.Lines.{line}
+use Rattle.listing.specs.Sheet.{lines, sheet}
 
 -- tablet 15 strikes bib 999 as the last update
 largest : line (entry Strike 15 999 4294967295) 4095 ≡ 4 ∷ 15 ∷ 231 ∷ 3 ∷ 255 ∷ 255 ∷ 255 ∷ 255 ∷ 255 ∷ 15 ∷ 0 ∷ 0 ∷ []

@@ -5,14 +5,15 @@ use mathlib.Core.List.{List, _++_}
 use native.Mathlib.Omega.{arith}
 use lib.ListN.{length, take, drop, getD}
 use lib.Seq.{drop-drop, length-take-le}
-use Rattle.lists.specs.Lists.{replaced}
+use Rattle.lists.specs.Arranged.{replaced}
 use Rattle.lists.proofs.Rows as Rows
 use Rattle.lists.proofs.Rows.{rows-length}
 use Rattle.bundles.specs.Records.{entryIn}
 use Rattle.bundles.proofs.Held.{entry-laid}
 use Rattle.updates.specs.Kinds.{kindNumber}
 use Rattle.entries.specs.declared.entry.Entry.{Entry}
-use Rattle.listing.specs.Lines.{line, lines, sheet}
+use Rattle.listing.specs.Lines.{line}
+use Rattle.listing.specs.Sheet.{lines, sheet}
 
 pub line-length : (e : Entry) (n : ℕ) → length (line e n) ≡ 12
 unfolding line

@@ -2,10 +2,11 @@
 ghost use mathlib.Core.Path.{_≡_};
 ghost use Prim.Native.Nat.{_*_, _+_, _≤_};
 ghost use lib.ListN.{length, take};
-ghost use Rattle.lists.specs.Lists.{replaced};
+ghost use Rattle.lists.specs.Arranged.{replaced};
 ghost use Rattle.entries.specs.Sizes.{bytes};
 ghost use Rattle.entries.specs.Entries.{entryAt};
-ghost use Rattle.listing.specs.Lines.{line, sheet};
+ghost use Rattle.listing.specs.Lines.{line};
+ghost use Rattle.listing.specs.Sheet.{sheet};
 use bundles::record::write;
 use bundles::sizes::Record;
 use updates::kind::number;

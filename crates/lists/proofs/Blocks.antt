@@ -10,7 +10,8 @@ use lib.Dec.{eqb}
 use borrow.Author.Tests.{eqb-false, eqb-true}
 use Rattle.lists.proofs.Cases.{cases, either}
 use Rattle.lists.proofs.Sublists.{nodup-apart, parts, ∈-⊑, ⊑-left, ⊑-⊆}
-use Rattle.lists.specs.Lists.{Apart, _∈_, _⊑_, behind, flat, flatBack}
+use Rattle.lists.specs.Lists.{_∈_, _⊑_, flat}
+use Rattle.lists.specs.Arranged.{Apart, behind, flatBack}
 
 pub flat-++ : (f : ℕ → List ℕ) (a b : List ℕ) → flat f (a ++ b) ≡ flat f a ++ flat f b
 flat-++ f [] b = refl

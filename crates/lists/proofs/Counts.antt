@@ -7,7 +7,8 @@ use lib.ListN.{length}
 use lib.Dec.{eqb}
 use Rattle.lists.proofs.Cases.{cases}
 use Rattle.lists.proofs.Places.{remove-back, remove-gone}
-use Rattle.lists.specs.Lists.{_∈_, _⊑_, remove}
+use Rattle.lists.specs.Lists.{_∈_, _⊑_}
+use Rattle.lists.specs.Arranged.{remove}
 
 pub remove-⊑ : (b : ℕ) (l : List ℕ) → remove b l ⊑ l
 unfolding remove

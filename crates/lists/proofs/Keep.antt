@@ -8,7 +8,8 @@ use lib.Dec.{eqb}
 use borrow.Author.Tests.{eq-eqb, eqb-true, ne-eqb}
 use Rattle.lists.proofs.Cases.{cases, either, or-cases, or-left, or-right}
 use Rattle.lists.proofs.Sublists.{⊑-⊆}
-use Rattle.lists.specs.Lists.{_∈_, _⊑_, flatBack, keep, member}
+use Rattle.lists.specs.Lists.{_∈_, _⊑_, keep}
+use Rattle.lists.specs.Arranged.{flatBack, member}
 
 pub member-++ : (u : ℕ) (a b : List ℕ) → member u (a ++ b) ≡ (member u a || member u b)
 member-++ u [] b = refl

@@ -12,7 +12,8 @@ use lib.ListN.{getD, length, replicate, set, take}
 use borrow.Author.Tests.{eq-eqb, eqb-false, eqb-true, ne-eqb}
 use Rattle.lists.proofs.Cases.{either, split}
 use Rattle.lists.proofs.Sublists.{parts, ∈-⊑, ⊑-⊆}
-use Rattle.lists.specs.Lists.{_∈_, _⊑_, behind, insertBefore, remove, restOf}
+use Rattle.lists.specs.Lists.{_∈_, _⊑_, restOf}
+use Rattle.lists.specs.Arranged.{behind, insertBefore, remove}
 
 -- where an element stands
 pub record Place (b : ℕ) (l : List ℕ) : Type 0 where

@@ -5,7 +5,8 @@ use mathlib.Core.Path.{_∙_, _≡_, ap, refl, sym}
 use mathlib.Core.List.{List, List·Memᴰ·head, List·Memᴰ·not-nil, List·Memᴰ·tail, [], _++_, _∷_}
 use lib.Dec.{eqb}
 use borrow.Author.Tests.{eq-eqb, eqb-false, eqb-true, ne-eqb}
-use Rattle.lists.specs.Lists.{_∈_, behind, flatBack, insertBefore, keep, named, remove}
+use Rattle.lists.specs.Lists.{_∈_, keep, named}
+use Rattle.lists.specs.Arranged.{behind, flatBack, insertBefore, remove}
 use Rattle.lists.proofs.Cases.{cases}
 
 pub named-in : (f : ℕ → ℕ) (l : List ℕ) (x : ℕ) → x ∈ l → f x ∈ named f l

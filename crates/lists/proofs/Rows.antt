@@ -7,7 +7,7 @@ use native.Mathlib.Numerals.{add-one}
 use native.Mathlib.Omega.{arith}
 use lib.ListN.{length, take, drop, getD, length-append}
 use lib.Seq.{take-at, drop-at, drop-drop, take-suc, length-take-le}
-use Rattle.lists.specs.Lists.{replaced}
+use Rattle.lists.specs.Arranged.{replaced}
 
 module _ {A : Type 0} (k : ℕ) (row : A → List ℕ) (size : (a : A) → length (row a) ≡ k)
     (rows : List A → List ℕ) (none : rows [] ≡ []) (more : (a : A) (l : List A) → rows (a ∷ l) ≡ row a ++ rows l) where

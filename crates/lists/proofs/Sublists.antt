@@ -11,7 +11,8 @@ use mathlib.Core.List.{List·Memᴰ·eq-of-singleton, _∷_, append-nil, nodup-a
 use lib.Dec.{eqb}
 use borrow.Author.Tests.{eqb-false, eqb-true}
 use Rattle.lists.proofs.Cases.{either, split}
-use Rattle.lists.specs.Lists.{Only, ends, keeps, drops, Apart, _∈_, _⊆_, _⊑_}
+use Rattle.lists.specs.Lists.{Only, ends, keeps, drops, _∈_, _⊑_}
+use Rattle.lists.specs.Arranged.{Apart, _⊆_}
 
 pub ⊑-⊆ : {a b : List ℕ} → a ⊑ b → a ⊆ b
 ⊑-⊆ Sublistᴰ·slnil n m = m

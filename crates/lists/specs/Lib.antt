@@ -1,3 +1,5 @@
 -- Words for lists of numbers. Knows no revision, no client and no bytes.
 pub mod Lists
+pub mod Arranged
+pub mod Pool
 pub mod Sums

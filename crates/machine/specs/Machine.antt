@@ -1,3 +1,4 @@
+-- No claim rests on this file: it serves the proofs.
 -- The layout machine: a day without its diagram, as lists and marks. A table keeps this, and `Follows` says that it is
 -- the day's. The servers' sets J of 002, section 4.3, are `joinable`.
 use Prim.Native.Nat.{ℕ, suc}
@@ -6,7 +7,9 @@ use mathlib.Core.Path.{_≡_}
 use mathlib.Core.Option.{Option, none, some}
 use mathlib.Core.List.{List, [], _∷_, _++_}
 use lib.Dec.{eqb}
-use Rattle.lists.specs.Lists.{_∈_, changed, insertBefore, remove, member, keep, flatBack, behind}
+use Rattle.lists.specs.Pool.{forkPool, joinPool}
+use Rattle.lists.specs.Lists.{_∈_, changed, keep}
+use Rattle.lists.specs.Arranged.{insertBefore, remove, member, flatBack, behind}
 use Rattle.diagram.specs.Effects.{entry, own, view}
 use Rattle.diagram.specs.Day.{Transaction, Day, IsOut}
 use Rattle.diagram.specs.Checks.{stale, notJoinable}
@@ -74,7 +77,7 @@ abbrev pub forkOn : Machine → ℕ → Machine
 forkOn k r = record {
   revisions = suc (k .revisions);
   joined = changed (k .joined) (k .revisions) false;
-  joinable = λ a b. cond (eqb b (k .revisions)) (eqb a r) (cond (eqb a (k .revisions)) (k .joinable r b) (k .joinable a b));
+  joinable = forkPool (k .joinable) r (k .revisions);
   caughtUp = λ c x. cond (eqb x (k .revisions)) (k .caughtUp c r) (k .caughtUp c x);
   openOn = k .openOn;
   updates = k .updates;
@@ -88,7 +91,7 @@ abbrev pub joinOn : Machine → ℕ → ℕ → Machine
 joinOn k a b = record {
   revisions = k .revisions;
   joined = changed (k .joined) b true;
-  joinable = λ x z. cond (eqb x a) (k .joinable a z || k .joinable b z) (k .joinable x z);
+  joinable = joinPool (k .joinable) a b;
   caughtUp = λ c x. cond (eqb x a) (k .caughtUp c a || k .caughtUp c b) (k .caughtUp c x);
   openOn = k .openOn;
   updates = k .updates;

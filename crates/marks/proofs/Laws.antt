@@ -13,7 +13,8 @@ use Rattle.lists.proofs.Cases.{cases, or-right}
 use Rattle.cells.specs.Tables.{tab}
 use Rattle.cells.specs.Words.{byte}
 use Rattle.cells.specs.Marks.{bit, byteOf, markAt, markIn, rowBytes, putRow, pack, rows, markOf}
-use Rattle.cells.specs.CellSteps.{forkSeen, forkCaught, joinSeen, joinCaught}
+use Rattle.lists.specs.Pool.{forkPool, joinPool}
+use Rattle.cells.specs.CellSteps.{forkCaught, joinCaught}
 use Rattle.cells.proofs.Tables.{getD-changed, getD-tab, set-tab, tab-append, tab-none, tab-of, tab-same}
 use Rattle.cells.proofs.Marks.{bit-byte, byte-same, mark-row-bytes, mark-rows, pack-same, rowBytes-length, rowBytes-same, rows-same, rows-length}
 
@@ -64,28 +65,28 @@ column-row row w c on e = rowBytes-same 8 _ (changed (markAt row) c on) (λ y h.
 pub mark-set : (s : List (List ℕ)) (c : ℕ) (row : List ℕ) (x y : ℕ) → c < length s → markOf (set s c row) x y ≡ changed (markOf s) c (markAt row) x y
 mark-set s c row x y h = rw (getD-changed s c row [] x h) (cases (eqb x c) (λ e. rw e) (λ e. rw e))
 
-join-row : (s : List (List ℕ)) (a b x y : ℕ) → a < length s → y < 64 → markOf (set s a (rowBytes 8 (joinSeen (markOf s) a b a))) x y ≡ joinSeen (markOf s) a b x y
+join-row : (s : List (List ℕ)) (a b x y : ℕ) → a < length s → y < 64 → markOf (set s a (rowBytes 8 (joinPool (markOf s) a b a))) x y ≡ joinPool (markOf s) a b x y
 join-row s a b x y h l =
-    mark-set s a (rowBytes 8 (joinSeen (markOf s) a b a)) x y h
-    ∙ cases (eqb x a) (λ e. rw (e, mark-row-bytes 8 (joinSeen (markOf s) a b a) y l, eq-eqb a a refl)) (λ e. rw e)
+    mark-set s a (rowBytes 8 (joinPool (markOf s) a b a)) x y h
+    ∙ cases (eqb x a) (λ e. rw (e, mark-row-bytes 8 (joinPool (markOf s) a b a) y l, eq-eqb a a refl)) (λ e. rw e)
 
 -- the rows of a fork: row c is row p, and column c as told
-pub fork-rows : (s : List (List ℕ)) (p c : ℕ) → length s ≡ 64 → c < 64 → rows 64 (λ x. changed (markOf (set s c (getD s p [])) x) c (eqb x p)) ≡ rows 64 (forkSeen (markOf s) p c)
+pub fork-rows : (s : List (List ℕ)) (p c : ℕ) → length s ≡ 64 → c < 64 → rows 64 (λ x. changed (markOf (set s c (getD s p [])) x) c (eqb x p)) ≡ rows 64 (forkPool (markOf s) p c)
 fork-rows s p c h l =
-    rows-same 64 _ (forkSeen (markOf s) p c)
+    rows-same 64 _ (forkPool (markOf s) p c)
     (λ x y xl yl. cases (eqb y c) (λ e. rw e) (λ e. rw e (mark-set s c (getD s p []) x y (omega arith))))
 
 -- marks that agree inside
 abbrev Same : ℕ → (ℕ → ℕ → Bool) → (ℕ → ℕ → Bool) → Type 0
 Same n f g = (x y : ℕ) → x < n → y < 64 → f x y ≡ g x y
 
-fork-seen-same : (f g : ℕ → ℕ → Bool) (p c : ℕ) → p < 64 → Same 64 f g → Same 64 (forkSeen f p c) (forkSeen g p c)
+fork-seen-same : (f g : ℕ → ℕ → Bool) (p c : ℕ) → p < 64 → Same 64 f g → Same 64 (forkPool f p c) (forkPool g p c)
 fork-seen-same f g p c pl h x y xl yl =
     cases (eqb y c)
     (λ e. rw e)
     (λ e. rw e (cases (eqb x c) (λ i. rw i (h p y pl yl)) (λ i. rw i (h x y xl yl))))
 
-join-seen-same : (f g : ℕ → ℕ → Bool) (a b : ℕ) → a < 64 → b < 64 → Same 64 f g → Same 64 (joinSeen f a b) (joinSeen g a b)
+join-seen-same : (f g : ℕ → ℕ → Bool) (a b : ℕ) → a < 64 → b < 64 → Same 64 f g → Same 64 (joinPool f a b) (joinPool g a b)
 join-seen-same f g a b al bl h x y xl yl = cases (eqb x a) (λ e. rw (e, h a y al yl, h b y bl yl)) (λ e. rw e (h x y xl yl))
 
 fork-caught-same : (f g : ℕ → ℕ → Bool) (p c : ℕ) → p < 64 → Same 16 f g → Same 16 (forkCaught f p c) (forkCaught g p c)
@@ -102,10 +103,10 @@ as-rows : (n : ℕ) (f : ℕ → ℕ → Bool) (z : List (List ℕ)) → z ≡ r
 as-rows n f z e x y xl yl = ap (λ s. markOf s x y) e ∙ mark-rows n f x y xl yl
 
 module _ (t : List ℕ) (s z : List (List ℕ)) (p c : ℕ) (pl : p < 64) (cl : c < 64) where
-  pub fork-seen-stored : s ≡ rows 64 (markIn 8 64 t) → z ≡ rows 64 (forkSeen (markOf s) p c) → pack 64 (markOf z) ≡ pack 64 (forkSeen (markIn 8 64 t) p c)
+  pub fork-seen-stored : s ≡ rows 64 (markIn 8 64 t) → z ≡ rows 64 (forkPool (markOf s) p c) → pack 64 (markOf z) ≡ pack 64 (forkPool (markIn 8 64 t) p c)
   fork-seen-stored e g = stored 64 _ _ z (as-rows 64 _ z g) (fork-seen-same (markOf s) (markIn 8 64 t) p c pl (as-rows 64 _ s e))
 
-  pub join-seen-stored : s ≡ rows 64 (markIn 8 64 t) → z ≡ set s p (rowBytes 8 (joinSeen (markOf s) p c p)) → pack 64 (markOf z) ≡ pack 64 (joinSeen (markIn 8 64 t) p c)
+  pub join-seen-stored : s ≡ rows 64 (markIn 8 64 t) → z ≡ set s p (rowBytes 8 (joinPool (markOf s) p c p)) → pack 64 (markOf z) ≡ pack 64 (joinPool (markIn 8 64 t) p c)
   join-seen-stored e g =
       let l : length s ≡ 64 = ap length e ∙ rows-length 64 (markIn 8 64 t) in
       stored 64 _ _ z (λ x y xl yl. ap (λ m. markOf m x y) g ∙ join-row s p c x y (omega arith) yl) (join-seen-same (markOf s) (markIn 8 64 t) p c pl cl (as-rows 64 _ s e))

@@ -6,7 +6,8 @@ ghost use lib.Dec.{eqb};
 ghost use lib.ListN.{set};
 ghost use Rattle.lists.specs.Lists.{changed};
 ghost use Rattle.cells.specs.Marks.{markAt, rowBytes, rows, markOf};
-ghost use Rattle.cells.specs.CellSteps.{forkSeen, forkCaught, joinSeen, joinCaught};
+ghost use Rattle.lists.specs.Pool.{forkPool, joinPool};
+ghost use Rattle.cells.specs.CellSteps.{forkCaught, joinCaught};
 use crate::ROW;
 use crate::bits;
 
@@ -85,7 +86,7 @@ fn fork_column(s: [[u8; ROW]; 64], parent: usize, child: usize) -> [[u8; ROW]; 6
 // The seen marks after the parent forked the child.
 pub fn fork_seen(seen: [[u8; ROW]; 64], parent: usize, child: usize) -> [[u8; ROW]; 64]
     requires { ⌜ (parent < 64) × (child < 64) ⌝ }
-    ensures { λ r. ⌜ r ≡ rows 64 (forkSeen (markOf seen) parent child) ⌝ }
+    ensures { λ r. ⌜ r ≡ rows 64 (forkPool (markOf seen) parent child) ⌝ }
 {
     let mut s = seen;
     let row = s[parent];
@@ -96,7 +97,7 @@ pub fn fork_seen(seen: [[u8; ROW]; 64], parent: usize, child: usize) -> [[u8; RO
 // The seen marks after a joined b.
 pub fn join_seen(seen: [[u8; ROW]; 64], a: usize, b: usize) -> [[u8; ROW]; 64]
     requires { ⌜ (a < 64) × (b < 64) ⌝ }
-    ensures { λ r. ⌜ r ≡ set seen a (rowBytes 8 (joinSeen (markOf seen) a b a)) ⌝ }
+    ensures { λ r. ⌜ r ≡ set seen a (rowBytes 8 (joinPool (markOf seen) a b a)) ⌝ }
 {
     let mut s = seen;
     let x = s[a];

@@ -4,13 +4,14 @@ ghost use Prim.Native.Nat.{_<_};
 ghost use lib.Dec.{eqb};
 ghost use lib.ListN.{length};
 ghost use Rattle.cells.specs.Marks.{markIn, pack, putRow};
-ghost use Rattle.cells.specs.CellSteps.{forkSeen, forkCaught, joinSeen, joinCaught};
+ghost use Rattle.lists.specs.Pool.{forkPool, joinPool};
+ghost use Rattle.cells.specs.CellSteps.{forkCaught, joinCaught};
 use crate::change;
 use crate::rows;
 
 pub fn fork_seen(t: &mut [u8], parent: usize, child: usize)
     requires { ⌜ (length (now t) ≡ 512) × (parent < 64) × (child < 64) ⌝ }
-    ensures { λ _. ⌜ now (t .exit) ≡ pack 64 (forkSeen (markIn 8 64 (now (t .entry))) parent child) ⌝ }
+    ensures { λ _. ⌜ now (t .exit) ≡ pack 64 (forkPool (markIn 8 64 (now (t .entry))) parent child) ⌝ }
 {
     let s = rows::load64(t);
     let z = change::fork_seen(s, parent, child);
@@ -19,7 +20,7 @@ pub fn fork_seen(t: &mut [u8], parent: usize, child: usize)
 
 pub fn join_seen(t: &mut [u8], a: usize, b: usize)
     requires { ⌜ (length (now t) ≡ 512) × (a < 64) × (b < 64) ⌝ }
-    ensures { λ _. ⌜ now (t .exit) ≡ pack 64 (joinSeen (markIn 8 64 (now (t .entry))) a b) ⌝ }
+    ensures { λ _. ⌜ now (t .exit) ≡ pack 64 (joinPool (markIn 8 64 (now (t .entry))) a b) ⌝ }
 {
     let s = rows::load64(t);
     let z = change::join_seen(s, a, b);

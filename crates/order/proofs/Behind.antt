@@ -7,7 +7,7 @@ use native.Mathlib.Omega.{arith}
 use lib.ListN.{length, getD, drop, drop-of-length-le}
 use lib.Seq.{drop-cons, getD-take, length-take-le}
 use borrow.Author.Tests.{eq-eqb, ne-eqb}
-use Rattle.lists.specs.Lists.{behind, flatBack}
+use Rattle.lists.specs.Arranged.{behind, flatBack}
 use Rattle.cells.specs.Sizes.{bytes, revisions}
 use Rattle.cells.specs.Parts.{size, layoutPart}
 use Rattle.cells.specs.Words.{byte}

@@ -1,3 +1,4 @@
+-- No claim rests on this file: it serves the code.
 -- A list put behind the first n entries of a buffer: 4,096 entries at most, and the rest of the buffer stays.
 use Prim.Native.Nat.{ℕ}
 use mathlib.Core.Bool.{Bool, cond, _||_}

@@ -1,3 +1,4 @@
+-- No claim rests on this file: it serves the code.
 -- A buffer in which own updates are gathered along their links, the last one first.
 use Prim.Native.Nat.{ℕ}
 use mathlib.Core.List.{List, _++_}

@@ -5,7 +5,7 @@ ghost use mathlib.Core.List.{[], _++_, _∷_};
 ghost use Prim.Native.Nat.{_+_, _<_, _≤_};
 ghost use lib.Dec.{ltb};
 ghost use lib.ListN.{drop, length};
-ghost use Rattle.lists.specs.Lists.{behind, flatBack};
+ghost use Rattle.lists.specs.Arranged.{behind, flatBack};
 ghost use Rattle.cells.specs.Sizes.{bytes, revisions, updates};
 ghost use Rattle.cells.specs.Words.{byte};
 ghost use Rattle.cells.specs.Cells.{marked, outs, own};

@@ -8,32 +8,32 @@ use Rattle.lists.specs.Sums.{anyBelow}
 use Rattle.updates.specs.declared.kind.Kind.the-variants.{Time, Penalty, Strike}
 use Rattle.updates.specs.Kinds.{kindCheck}
 use Rattle.updates.specs.Effect.{earliest, penalized, effect, stateOf, valueIn}
-use Rattle.updates.specs.declared.standing.State.the-variants.{Neither}
 use Rattle.updates.specs.Applied.{applied}
 use Rattle.records.specs.Numbers.{number}
 use Rattle.bundles.specs.Records.{entriesIn, entriesFrom, isWrong}
 use Rattle.diagram.specs.Sizes.{revisionLimit, clientLimit, updateLimit}
 use Rattle.diagram.specs.Diagram.{leads}
 use Rattle.diagram.specs.Effects.{tabulate}
-use Rattle.diagram.specs.Day.{meant, nextNumber}
+use Rattle.diagram.specs.Day.{nextNumber, isGiven, meant}
 use Rattle.diagram.specs.Checks.{unknownClient, openElsewhere, busyByOther, busy, stale, logFull, noneLeft, notJoinable}
 use Rattle.diagram.specs.Steps.{after}
 use Rattle.diagram.specs.Examples.{withCounts}
-use Rattle.plain.specs.Calls.{Call, Update, Query, Yield, Fork, Join, Show, Fill, Bundle, Entries, Entry, Line}
-use Rattle.plain.specs.Record.{PlainDay, freshDay}
+use Rattle.desk.specs.Calls.{Call, Update, Query, Yield, Fork, Join, Bundle, Entries, level}
+use Rattle.entries.specs.declared.entry.Entry.{Entry}
+use Rattle.plain.specs.Record.{Line, PlainDay, freshDay}
 use Rattle.plain.specs.Answers.{called, sent, dayFrom, dayAfter, answersFrom, answers}
-use Rattle.plain.specs.Edges.{edges, codes, reused, said, expected, computed, ok, refusal, neither, filled, lent, sends, small, unknownBib}
+use Rattle.plain.specs.Edges.{edges, codes, reused, said, expected, computed, ok, refusal, neither, filled, list, fill, lent, sends, small, unknownBib}
 
 pub edges-hold : computed edges ≡ expected edges
-unfolding called answersFrom answers after leads tabulate meant nextNumber unknownClient openElsewhere busyByOther busy anyBelow stale logFull noneLeft notJoinable revisionLimit clientLimit updateLimit kindCheck effect earliest penalized stateOf valueIn applied sent entriesIn entriesFrom isWrong number
+unfolding called answersFrom answers after leads tabulate isGiven meant nextNumber unknownClient openElsewhere busyByOther busy anyBelow stale logFull noneLeft notJoinable revisionLimit clientLimit updateLimit kindCheck effect earliest penalized stateOf valueIn applied sent entriesIn entriesFrom isWrong number
 edges-hold = refl
 
 pub codes-hold : computed codes ≡ expected codes
-unfolding called answersFrom answers after leads tabulate meant nextNumber unknownClient openElsewhere busyByOther busy anyBelow stale logFull noneLeft notJoinable revisionLimit clientLimit updateLimit kindCheck effect earliest penalized stateOf valueIn applied sent entriesIn entriesFrom isWrong number
+unfolding called answersFrom answers after leads tabulate isGiven meant nextNumber unknownClient openElsewhere busyByOther busy anyBelow stale logFull noneLeft notJoinable revisionLimit clientLimit updateLimit kindCheck effect earliest penalized stateOf valueIn applied sent entriesIn entriesFrom isWrong number
 codes-hold = refl
 
 pub reused-hold : computed reused ≡ expected reused
-unfolding called answersFrom answers after leads tabulate meant nextNumber unknownClient openElsewhere busyByOther busy anyBelow stale logFull noneLeft notJoinable revisionLimit clientLimit updateLimit kindCheck effect earliest penalized stateOf valueIn applied sent entriesIn entriesFrom isWrong number
+unfolding called answersFrom answers after leads tabulate isGiven meant nextNumber unknownClient openElsewhere busyByOther busy anyBelow stale logFull noneLeft notJoinable revisionLimit clientLimit updateLimit kindCheck effect earliest penalized stateOf valueIn applied sent entriesIn entriesFrom isWrong number
 reused-hold = refl
 
 -- the fresh day, but with this many updates taken and boxes sent
@@ -43,53 +43,53 @@ counted updates revisions = record { day = withCounts updates revisions; entries
 -- 9 once 4,096 updates are taken, after 8; and not before
 log-full : said (answersFrom (counted 4095 1) (Fork 0 ∷ Update 0 0 1 7 5 ∷ Yield 0 ∷ Update 0 1 1 7 5 ∷ Update 0 0 1 7 5 ∷ Query 0 0 8 ∷ []))
     ≡ ok 1 ∷ ok 4095 ∷ ok 0 ∷ refusal 8 ∷ refusal 9 ∷ neither ∷ []
-unfolding called answersFrom answers after leads tabulate meant nextNumber unknownClient openElsewhere busyByOther busy anyBelow stale logFull noneLeft notJoinable revisionLimit clientLimit updateLimit kindCheck effect earliest penalized stateOf valueIn applied sent entriesIn entriesFrom isWrong number
+unfolding called answersFrom answers after leads tabulate isGiven meant nextNumber unknownClient openElsewhere busyByOther busy anyBelow stale logFull noneLeft notJoinable revisionLimit clientLimit updateLimit kindCheck effect earliest penalized stateOf valueIn applied sent entriesIn entriesFrom isWrong number
 log-full = refl
 
 -- 10 once 64 boxes are started, after 3 and 7; and not before
 none-left : said (answersFrom (counted 0 63) (Fork 0 ∷ Fork 64 ∷ Query 0 0 7 ∷ Fork 0 ∷ Yield 0 ∷ Fork 0 ∷ []))
     ≡ ok 63 ∷ refusal 3 ∷ neither ∷ refusal 7 ∷ ok 0 ∷ refusal 10 ∷ []
-unfolding called answersFrom answers after leads tabulate meant nextNumber unknownClient openElsewhere busyByOther busy anyBelow stale logFull noneLeft notJoinable revisionLimit clientLimit updateLimit kindCheck effect earliest penalized stateOf valueIn applied sent entriesIn entriesFrom isWrong number
+unfolding called answersFrom answers after leads tabulate isGiven meant nextNumber unknownClient openElsewhere busyByOther busy anyBelow stale logFull noneLeft notJoinable revisionLimit clientLimit updateLimit kindCheck effect earliest penalized stateOf valueIn applied sent entriesIn entriesFrom isWrong number
 none-left = refl
 
 -- the joinee's update 1 is listed behind the joiner's update 2, each with its number and as it was entered
-abbrev apart : List Call
+abbrev apart : List (Call ℕ)
 apart = Update 2 0 1 7 61000 ∷ Yield 2 ∷ Fork 0 ∷ Update 1 1 3 999 5 ∷ Yield 1 ∷ Update 3 0 4 8 6 ∷ Yield 3 ∷ []
 
-abbrev joining : List Call
+abbrev joining : List (Call ℕ)
 joining = apart ++ (Join 0 1 ∷ [])
 
 abbrev entered : Entry → ℕ → Line
 entered e n = record { entry = e; number = n }
 
-lines-listed : called (dayAfter joining) (Show 0 36) .answer .lines
+lines-listed : called (dayAfter joining) (list 0 36) .answer .sheet
     ≡ entered (record { kind = Time; client = 2; bib = 7; v = 61000 }) 0
     ∷ entered (record { kind = Strike; client = 3; bib = 8; v = 6 }) 2
     ∷ entered (record { kind = Penalty; client = 1; bib = 999; v = 5 }) 1
     ∷ []
-unfolding called answersFrom answers after leads tabulate meant nextNumber unknownClient openElsewhere busyByOther busy anyBelow stale logFull noneLeft notJoinable revisionLimit clientLimit updateLimit kindCheck effect earliest penalized stateOf valueIn applied dayFrom dayAfter
+unfolding called answersFrom answers after leads tabulate isGiven meant nextNumber unknownClient openElsewhere busyByOther busy anyBelow stale logFull noneLeft notJoinable revisionLimit clientLimit updateLimit kindCheck effect earliest penalized stateOf valueIn applied dayFrom dayAfter
 lines-listed = refl
 
 -- before that join: each box's own updates, and those of the whole table
-fills-told : (called (dayAfter apart) (Fill 0) .answer ≡ record { code = 0; state = Neither; value = 2; total = 3; gain = 0; lines = [] })
-    × (called (dayAfter apart) (Fill 1) .answer ≡ record { code = 0; state = Neither; value = 1; total = 3; gain = 0; lines = [] })
-unfolding called answersFrom answers after leads tabulate meant nextNumber unknownClient openElsewhere busyByOther busy anyBelow stale logFull noneLeft notJoinable revisionLimit clientLimit updateLimit kindCheck effect earliest penalized stateOf valueIn applied dayFrom dayAfter
+fills-told : (called (dayAfter apart) (fill 0) .answer ≡ level 2 3 [])
+    × (called (dayAfter apart) (fill 1) .answer ≡ level 1 3 [])
+unfolding called answersFrom answers after leads tabulate isGiven meant nextNumber unknownClient openElsewhere busyByOther busy anyBelow stale logFull noneLeft notJoinable revisionLimit clientLimit updateLimit kindCheck effect earliest penalized stateOf valueIn applied dayFrom dayAfter
 fills-told = (refl, refl)
 
 -- a bundle on a log that has room for one more: 9 of its second entry, before 5 of its third, after 5 of the second itself
 bundle-fills-log : said (answersFrom (counted 4095 1) (sends 0 0 (small 1 7 5 ++ small 1 7 5 ++ unknownBib) ∷ sends 0 0 (small 1 7 5 ++ unknownBib) ∷ sends 0 0 (small 1 7 5) ∷ sends 0 0 (small 1 7 5) ∷ []))
     ≡ refusal 9 ∷ refusal 5 ∷ ok 4095 ∷ refusal 9 ∷ []
-unfolding called answersFrom answers after leads tabulate meant nextNumber unknownClient openElsewhere busyByOther busy anyBelow stale logFull noneLeft notJoinable revisionLimit clientLimit updateLimit kindCheck effect earliest penalized stateOf valueIn applied sent entriesIn entriesFrom isWrong number
+unfolding called answersFrom answers after leads tabulate isGiven meant nextNumber unknownClient openElsewhere busyByOther busy anyBelow stale logFull noneLeft notJoinable revisionLimit clientLimit updateLimit kindCheck effect earliest penalized stateOf valueIn applied sent entriesIn entriesFrom isWrong number
 bundle-fills-log = refl
 
 -- 64 records are taken, 65 are 14, and so are bytes that are not a multiple of 12
-most-records : said (answersFrom freshDay (sends 0 0 (replicate 780 1) ∷ sends 0 0 (replicate 767 1) ∷ sends 0 0 (replicate 768 1) ∷ Fill 0 ∷ []))
+most-records : said (answersFrom freshDay (sends 0 0 (replicate 780 1) ∷ sends 0 0 (replicate 767 1) ∷ sends 0 0 (replicate 768 1) ∷ fill 0 ∷ []))
     ≡ refusal 14 ∷ refusal 14 ∷ ok 0 ∷ filled 64 64 ∷ []
-unfolding called answersFrom answers after leads tabulate meant nextNumber unknownClient openElsewhere busyByOther busy anyBelow stale logFull noneLeft notJoinable revisionLimit clientLimit updateLimit kindCheck effect earliest penalized stateOf valueIn applied sent entriesIn entriesFrom isWrong number
+unfolding called answersFrom answers after leads tabulate isGiven meant nextNumber unknownClient openElsewhere busyByOther busy anyBelow stale logFull noneLeft notJoinable revisionLimit clientLimit updateLimit kindCheck effect earliest penalized stateOf valueIn applied sent entriesIn entriesFrom isWrong number
 most-records = refl
 
 -- and so are 65 entries of a lent list
-most-entries : said (answersFrom freshDay (Bundle 0 0 (Entries (replicate 65 (lent 1 7 5))) ∷ Bundle 0 0 (Entries (replicate 64 (lent 1 7 5))) ∷ Fill 0 ∷ []))
+most-entries : said (answersFrom freshDay (Bundle 0 0 (Entries (replicate 65 (lent 1 7 5))) ∷ Bundle 0 0 (Entries (replicate 64 (lent 1 7 5))) ∷ fill 0 ∷ []))
     ≡ refusal 14 ∷ ok 0 ∷ filled 64 64 ∷ []
-unfolding called answersFrom answers after leads tabulate meant nextNumber unknownClient openElsewhere busyByOther busy anyBelow stale logFull noneLeft notJoinable revisionLimit clientLimit updateLimit kindCheck effect earliest penalized stateOf valueIn applied sent entriesIn entriesFrom isWrong number
+unfolding called answersFrom answers after leads tabulate isGiven meant nextNumber unknownClient openElsewhere busyByOther busy anyBelow stale logFull noneLeft notJoinable revisionLimit clientLimit updateLimit kindCheck effect earliest penalized stateOf valueIn applied sent entriesIn entriesFrom isWrong number
 most-entries = refl

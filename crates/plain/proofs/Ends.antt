@@ -1,185 +1,90 @@
--- How each call ends: refused with a code above 1 and the day as it was, or taken with what its checks showed.
-use Prim.Native.Nat.{ℕ, suc, _*_}
-use mathlib.Core.Bool.{Bool, true, false, not, _||_}
-use mathlib.Core.Path.{_≡_, refl, ap}
-use mathlib.Core.Option.{Option, none, some}
-use native.Mathlib.Omega.{arith}
-use lib.ListN.{length}
-use lib.Dec.{eqb, ltb}
-use borrow.Author.Tests.{ne-eqb}
+-- What a call that is taken showed: no check of its row applies, it ended as it does, and its steps are accepted.
+use Prim.Native.Nat.{ℕ}
+use mathlib.Core.Bool.{true, false, not, _||_, true≢false}
+use mathlib.Core.Path.{_≡_, refl}
+use mathlib.Core.Option.{some}
+use borrow.Author.Tests.{not-false}
 use Rattle.lists.proofs.Cases.{or-false}
-use Rattle.updates.specs.declared.kind.Kind.{Kind}
 use Rattle.updates.specs.declared.kind.KindCheck.{KindCheck}
 use Rattle.updates.specs.declared.kind.KindCheck.the-variants.{Known, Unknown}
-use Rattle.updates.specs.Kinds.{kindCheck, badBib}
-use Rattle.diagram.specs.Effects.{own, view}
-use Rattle.diagram.specs.Day.{meant, nextNumber}
-use Rattle.diagram.specs.Checks.{unknownClient, openElsewhere, busyByOther, busy, stale, logFull, noneLeft, notJoinable}
+use Rattle.updates.specs.Kinds.{badBib, badKind, isUnknown, kindCheck, kindIn, kindOf}
+use Rattle.desk.specs.Calls.{Call, Update, Query, Yield, Fork, Join, Looks, Preview}
+use Rattle.desk.specs.Checks.{checks}
+use Rattle.desk.proofs.Checks as Rows
+use Rattle.desk.proofs.Checks.{Passed, _also_, took}
+use Rattle.diagram.specs.Day.{Day, Means, isGiven, meant}
+use Rattle.diagram.proofs.Days.Found.{found, is-found}
+use Rattle.diagram.specs.Checks.{busy, notJoinable}
 use Rattle.diagram.specs.Steps as Steps
-use Rattle.diagram.specs.Steps.{accepted}
+use Rattle.diagram.specs.Accepted.{accepted, notGiven}
 use Rattle.diagram.proofs.Days.Naming.{meant-given}
 use Rattle.diagram.proofs.Days.Accepting.{accept-event, accept-yield, accept-fork, accept-join}
-use Rattle.plain.specs.Calls.{Update, Query, Yield, Fork, Join, Show, Fill, Preview}
-use Rattle.plain.specs.Record.{PlainDay, pathResult, noted}
-use Rattle.plain.specs.Answers.{Outcome, refused, taken, answered, shown, told, foreseen, check, given, named, stepped, called}
+use Rattle.plain.specs.Record.{PlainDay}
+use Rattle.plain.specs.Allowed.{Meaning}
+use Rattle.plain.specs.Answers.{Outcome, refused, asked, ending, called}
 
-pub data Ends (p : PlainDay) (Yes : Outcome → Type 0) : Outcome → Type 0 where
-  no : (k : ℕ) → Ends p Yes (refused p (suc (suc k)))
-  yes : {o : Outcome} → Yes o → Ends p Yes o
+-- the row of a call on the day
+abbrev pub Passes : PlainDay → Call ℕ → Type 0
+Passes p c = Passed (checks (asked (p .day)) c)
 
--- an answer of code 0 was taken
-pub was-taken : {p : PlainDay} {Yes : Outcome → Type 0} {o : Outcome} → Ends p Yes o → o .answer .code ≡ 0 → Yes o
-was-taken (no k) e = absurd (omega arith)
-was-taken (yes h) e = h
-
-module _ {p : PlainDay} {Yes : Outcome → Type 0} where
-  pub by-check : (b : Bool) (k : ℕ) (rest : Outcome) → (b ≡ false → Ends p Yes rest) → Ends p Yes (check b (suc (suc k)) p rest)
-  by-check true k rest f = no k
-  by-check false k rest f = f refl
-
-  by-given : (o : Option ℕ) (rest : ℕ → Outcome) → ((r : ℕ) → o ≡ some r → Ends p Yes (rest r)) → Ends p Yes (given o p rest)
-  by-given none rest f = no 1
-  by-given (some r) rest f = f r refl
-
-  by-named : (k : KindCheck) (rest : Kind → Outcome) → ((kind : Kind) → k ≡ Known kind → Ends p Yes (rest kind)) → Ends p Yes (named k p rest)
-  by-named Unknown rest f = no 3
-  by-named (Known kind) rest f = f kind refl
-
--- a step of revision r, which number n means
-pub record Steps1 (p : PlainDay) (n : ℕ) (step : ℕ → Steps.Step) : Type 0 where
-  pub revision : ℕ
-  pub means : meant (p .day) n ≡ some revision
-  pub accepts : accepted (p .day) (step revision) ≡ true
-
-pub record UpdateTaken (p : PlainDay) (c n k bib v : ℕ) (o : Outcome) : Type 0 where
-  pub step : Steps1 p n (λ r. Steps.Event c r true)
-  pub known-bib : badBib bib ≡ false
-  pub kind : Kind
-  pub is-kind : kindCheck k ≡ Known kind
-  pub is : o ≡ taken (noted p c (step .revision) kind bib v) (p .day .updates)
-
-pub update-ends : (p : PlainDay) (c n k bib v : ℕ) → Ends p (UpdateTaken p c n k bib v) (called p (Update c n k bib v))
+pub was-taken : (p : PlainDay) (c : Call ℕ) → called p c .answer .code ≡ 0 → Passes p c × (called p c ≡ ending p c)
 unfolding called
-update-ends p c n k bib v =
-    by-check (unknownClient c) 0 _ λ e2.
-    by-given (meant (p .day) n) _ λ r e3.
-    by-check (p .day .joined r) 2 _ λ e4.
-    by-check (badBib bib) 3 _ λ e5.
-    by-named (kindCheck k) _ λ kind f5.
-    by-check (openElsewhere (p .day) c r) 4 _ λ e6.
-    by-check (busyByOther (p .day) c r) 5 _ λ e7.
-    by-check (stale (p .day) c r) 6 _ λ e8.
-    by-check (logFull (p .day)) 7 _ λ e9.
-    yes (record {
-      step = record { revision = r; means = e3; accepts = accept-event (p .day) c r true e2 (meant-given (p .day) n r e3) e4 e6 e7 e8 e9 };
-      known-bib = e5;
-      kind = kind;
-      is-kind = f5;
-      is = refl;
-    })
+was-taken p c e = let t = took (λ (o : Outcome). o .answer .code) (refused p) (λ k. refl) (asked (p .day)) c (ending p c) e in (t .passed, t .is)
 
-pub record QueryTaken (p : PlainDay) (c n bib : ℕ) (o : Outcome) : Type 0 where
-  pub step : Steps1 p n (λ r. Steps.Event c r false)
-  pub known-bib : badBib bib ≡ false
-  pub is : o ≡ answered (stepped p (Steps.Event c (step .revision) false)) (pathResult (stepped p (Steps.Event c (step .revision) false)) (length (p .day .diagram)) bib)
+-- a byte that is no unknown kind is its kind
+is-kind : (k : KindCheck) → isUnknown k ≡ false → k ≡ Known (kindIn k)
+is-kind Unknown e = absurd (true≢false e)
+is-kind (Known kind) e = refl
 
-pub query-ends : (p : PlainDay) (c n bib : ℕ) → Ends p (QueryTaken p c n bib) (called p (Query c n bib))
-unfolding called
-query-ends p c n bib =
-    by-check (unknownClient c) 0 _ λ e2.
-    by-given (meant (p .day) n) _ λ r e3.
-    by-check (p .day .joined r) 2 _ λ e4.
-    by-check (badBib bib) 3 _ λ e5.
-    by-check (openElsewhere (p .day) c r) 4 _ λ e6.
-    by-check (busyByOther (p .day) c r) 5 _ λ e7.
-    by-check (stale (p .day) c r) 6 _ λ e8.
-    yes (record { step = record { revision = r; means = e3; accepts = accept-event (p .day) c r false e2 (meant-given (p .day) n r e3) e4 e6 e7 e8 refl }; known-bib = e5; is = refl })
+pub known-kind : (bib k : ℕ) → (badBib bib || badKind k) ≡ false → (badBib bib ≡ false) × (kindCheck k ≡ Known (kindOf k))
+known-kind bib k e = let o = or-false (badBib bib) (badKind k) e in (o .0, is-kind (kindCheck k) (o .1))
 
-pub record YieldTaken (p : PlainDay) (c : ℕ) (o : Outcome) : Type 0 where
-  pub accepts : accepted (p .day) (Steps.Yield c) ≡ true
-  pub is : o ≡ taken (stepped p (Steps.Yield c)) 0
+-- code 3 does not apply to a number that means something
+pub given : {y : Day} {n : ℕ} {P : ℕ → Type 0} → Meaning y n P → not (isGiven y n) ≡ false
+given M = rw (M .given)
 
-pub yield-ends : (p : PlainDay) (c : ℕ) → Ends p (YieldTaken p c) (called p (Yield c))
-unfolding called
-yield-ends p c = by-check (unknownClient c) 0 _ λ e2. yes (record { accepts = accept-yield (p .day) c e2; is = refl })
+module _ (p : PlainDay) where
+  abbrev y : Day
+  y = p .day
 
-pub record ForkTaken (p : PlainDay) (n : ℕ) (o : Outcome) : Type 0 where
-  pub step : Steps1 p n Steps.Fork
-  pub is : o ≡ taken (stepped p (Steps.Fork (step .revision))) (nextNumber (p .day))
+  pub means : (n : ℕ) → not (isGiven y n) ≡ false → found y n ≡ some (meant y n)
+  means n e = is-found y n (not-false (isGiven y n) e)
 
-pub fork-ends : (p : PlainDay) (n : ℕ) → Ends p (ForkTaken p n) (called p (Fork n))
-unfolding called
-fork-ends p n =
-    by-given (meant (p .day) n) _ λ r e3.
-    by-check (p .day .joined r) 2 _ λ e4.
-    by-check (busy (p .day) r) 5 _ λ e7.
-    by-check (noneLeft (p .day)) 8 _ λ e10.
-    yes (record { step = record { revision = r; means = e3; accepts = accept-fork (p .day) r (meant-given (p .day) n r e3) e4 e7 e10 }; is = refl })
+  pub meaning : (n : ℕ) → not (isGiven y n) ≡ false → Means y n (meant y n)
+  meaning n e = (not-false (isGiven y n) e, refl)
 
-pub record JoinTaken (p : PlainDay) (n m : ℕ) (o : Outcome) : Type 0 where
-  pub joiner : ℕ
-  pub step : Steps1 p m (λ b. Steps.Join joiner b)
-  pub means : meant (p .day) n ≡ some joiner
-  pub is : o ≡ taken (stepped p (Steps.Join joiner (step .revision))) (length (own (p .day .diagram) (p .day .terminal (step .revision))))
+  known : (n : ℕ) → not (isGiven y n) ≡ false → notGiven y (meant y n) ≡ false
+  known n e = meant-given y n (meant y n) (means n e)
 
-pub join-ends : (p : PlainDay) (n m : ℕ) → Ends p (JoinTaken p n m) (called p (Join n m))
-unfolding called
-join-ends p n m =
-    by-given (meant (p .day) n) _ λ a e3.
-    by-given (meant (p .day) m) _ λ b f3.
-    by-check (p .day .joined a || p .day .joined b) 2 _ λ e4.
-    by-check (busy (p .day) a || busy (p .day) b) 5 _ λ e7.
-    by-check (notJoinable (p .day) a b) 9 _ λ e11.
-    let o = or-false (p .day .joined a) (p .day .joined b) e4 in
-    let i = or-false (busy (p .day) a) (busy (p .day) b) e7 in
-    yes (record {
-      joiner = a;
-      step = record { revision = b; means = f3; accepts = accept-join (p .day) a b (meant-given (p .day) n a e3) (meant-given (p .day) m b f3) (o .0) (o .1) (i .0) (i .1) e11 };
-      means = e3;
-      is = refl;
-    })
+  pub update-accepts : (c n k bib v : ℕ) → Passes p (Update c n k bib v) → accepted y (Steps.Event c (meant y n) true) ≡ true
+  update-accepts c n k bib v (e1 also e2 also e3 also e4 also e5 also e6 also e7 also e8 also e9 also Rows.none) = accept-event y c (meant y n) true e2 (known n e3) e4 e6 e7 e8 e9
 
-pub record ShowTaken (p : PlainDay) (n room : ℕ) (o : Outcome) : Type 0 where
-  pub revision : ℕ
-  pub means : meant (p .day) n ≡ some revision
-  pub out : p .day .joined revision ≡ false
-  pub idle : busy (p .day) revision ≡ false
-  pub fits : ltb room (12 * length (view (p .day .diagram) (p .day .terminal revision))) ≡ false
-  pub is : o ≡ shown p (view (p .day .diagram) (p .day .terminal revision))
+  pub query-accepts : (c n bib : ℕ) → Passes p (Query c n bib) → accepted y (Steps.Event c (meant y n) false) ≡ true
+  query-accepts c n bib (e1 also e2 also e3 also e4 also e5 also e6 also e7 also e8 also Rows.none) = accept-event y c (meant y n) false e2 (known n e3) e4 e6 e7 e8 refl
 
-pub show-ends : (p : PlainDay) (n room : ℕ) → Ends p (ShowTaken p n room) (called p (Show n room))
-unfolding called
-show-ends p n room =
-    by-given (meant (p .day) n) _ λ r e3.
-    by-check (p .day .joined r) 2 _ λ e4.
-    by-check (busy (p .day) r) 5 _ λ e7.
-    by-check (ltb room (12 * length (view (p .day .diagram) (p .day .terminal r)))) 10 _ λ e12.
-    yes (record { revision = r; means = e3; out = e4; idle = e7; fits = e12; is = refl })
+  pub yield-accepts : (c : ℕ) → Passes p (Yield c) → accepted y (Steps.Yield c) ≡ true
+  yield-accepts c (e1 also e2 also Rows.none) = accept-yield y c e2
 
-pub record FillTaken (p : PlainDay) (n : ℕ) (o : Outcome) : Type 0 where
-  pub revision : ℕ
-  pub means : meant (p .day) n ≡ some revision
-  pub out : p .day .joined revision ≡ false
-  pub is : o ≡ told p (length (own (p .day .diagram) (p .day .terminal revision))) (p .day .updates)
+  pub fork-accepts : (n : ℕ) → Passes p (Fork n) → accepted y (Steps.Fork (meant y n)) ≡ true
+  fork-accepts n (e1 also e3 also e4 also e7 also e10 also Rows.none) = accept-fork y (meant y n) (known n e3) e4 e7 e10
 
-pub fill-ends : (p : PlainDay) (n : ℕ) → Ends p (FillTaken p n) (called p (Fill n))
-unfolding called
-fill-ends p n =
-    by-given (meant (p .day) n) _ λ r e3.
-    by-check (p .day .joined r) 2 _ λ e4.
-    yes (record { revision = r; means = e3; out = e4; is = refl })
+  -- of a join, and so of a preview
+  pub record Joins (n m : ℕ) : Type 0 where
+    pub joiner : isGiven y n ≡ true
+    pub joinee : isGiven y m ≡ true
+    pub accepts : accepted y (Steps.Join (meant y n) (meant y m)) ≡ true
 
--- a preview: the join would be taken, and the bib is good
-pub record PreviewTaken (p : PlainDay) (n m bib : ℕ) (o : Outcome) : Type 0 where
-  pub join : JoinTaken p n m (called p (Join n m))
-  pub known-bib : badBib bib ≡ false
-  pub is : o ≡ foreseen p (called p (Join n m)) bib
+  joins-by : (n m : ℕ) → (not (isGiven y n) || not (isGiven y m)) ≡ false → (y .joined (meant y n) || y .joined (meant y m)) ≡ false
+      → (busy y (meant y n) || busy y (meant y m)) ≡ false → notJoinable y (meant y n) (meant y m) ≡ false → Joins n m
+  joins-by n m e3 e4 e7 e11 =
+      let g = or-false (not (isGiven y n)) (not (isGiven y m)) e3 in
+      let o = or-false (y .joined (meant y n)) (y .joined (meant y m)) e4 in
+      let i = or-false (busy y (meant y n)) (busy y (meant y m)) e7 in
+      record { joiner = not-false (isGiven y n) (g .0); joinee = not-false (isGiven y m) (g .1); accepts = accept-join y (meant y n) (meant y m) (known n (g .0)) (known m (g .1)) (o .0) (o .1) (i .0) (i .1) e11 }
 
-pub preview-ends : (p : PlainDay) (n m bib : ℕ) → Ends p (PreviewTaken p n m bib) (called p (Preview n m bib))
-unfolding called
-preview-ends p n m bib = by (join-ends p n m) λ h. by-check (badBib bib) 3 _ λ e5. yes (record { join = h; known-bib = e5; is = refl })
-  where
-    by : {j rest : Outcome} → Ends p (JoinTaken p n m) j → (JoinTaken p n m j → Ends p (PreviewTaken p n m bib) rest)
-        → Ends p (PreviewTaken p n m bib) (check (not (eqb (j .answer .code) 0)) (j .answer .code) p rest)
-    by (no k) f = rw (ne-eqb (suc (suc k)) 0 (λ e. omega arith)) (no k)
-    by (yes h) f = rw (ap (λ (o : Outcome). o .answer .code) (h .is)) (f h)
+  pub join-passes : (n m : ℕ) → Passes p (Join n m) → Joins n m
+  join-passes n m (e1 also e3 also e4 also e7 also e11 also Rows.none) = joins-by n m e3 e4 e7 e11
+
+  -- a preview's row has the join's
+  pub preview-passes : (n m bib : ℕ) → Passes p (Looks (Preview n m bib)) → Passes p (Join n m) × (badBib bib ≡ false)
+  preview-passes n m bib (e1 also e3 also e4 also e7 also e11 also e5 also Rows.none) = (e1 also e3 also e4 also e7 also e11 also Rows.none, e5)

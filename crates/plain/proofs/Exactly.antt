@@ -1,9 +1,8 @@
 -- A call is taken exactly if the rules of 002 and the limits of 01 and 02 allow it.
-use Prim.Native.Nat.{ℕ, _/_, _%_}
-use mathlib.Core.Bool.{true, false}
-use mathlib.Core.Path.{_≡_, subst, sym, _∙_}
+use Prim.Native.Nat.{ℕ, _<_, _/_, _%_}
+use mathlib.Core.Bool.{Bool, true, false, not, _||_}
+use mathlib.Core.Path.{_≡_, refl, sym, _∙_, ap, subst}
 use mathlib.Core.Logic.{_↔_}
-use mathlib.Core.Option.{some}
 use mathlib.Core.List.{List, [], _∷_, _++_}
 use native.Mathlib.Omega.{arith}
 use lib.Dec.{eqb}
@@ -13,26 +12,30 @@ use Rattle.lists.proofs.Cases.{cases, or-false}
 use Rattle.updates.specs.declared.kind.Kind.{Kind}
 use Rattle.updates.specs.declared.kind.Kind.the-variants.{Time, Earliest, Penalty, Strike}
 use Rattle.updates.specs.declared.kind.KindCheck.the-variants.{Known, Unknown}
-use Rattle.updates.specs.Kinds.{badBib, kindCheck}
+use Rattle.updates.specs.Kinds.{badBib, badKind, isUnknown, kindCheck}
 use Rattle.bundles.specs.declared.entry.Entry.{Entry}
 use Rattle.bundles.specs.Records.{isWrong}
-use Rattle.diagram.specs.Day.{fresh, meant}
-use Rattle.diagram.specs.Steps.{Accepted, AcceptedFrom, Step, accepted, run}
+use Rattle.desk.specs.Calls.{Batch, Call, Update, Query, Yield, Fork, Join, Bundle, Looks, Show, Fill, Preview, Entries, Records, entriesOf, isWrongBatch}
+use Rattle.desk.specs.Checks.{checks}
+use Rattle.desk.proofs.Checks as Rows
+use Rattle.desk.proofs.Checks.{_also_, goes-on, passed-both}
+use Rattle.diagram.specs.Day.{Day, fresh, isGiven, meant}
+use Rattle.diagram.specs.Steps.{Event, Step, after, run}
+use Rattle.diagram.specs.Accepted.{Accepted, AcceptedFrom, accepted}
 use Rattle.diagram.specs.Lawful.{MayFollow}
 use Rattle.diagram.proofs.Days.Accepting.{event-tests, fork-tests, join-tests, yield-test}
 use Rattle.diagram.proofs.Days.Naming.{meant-low}
 use Rattle.diagram.proofs.Order.Growth.{Fine, busy-idle}
 use Rattle.diagram.proofs.Order.Lawful.{runs-exactly, taken-exactly}
 use Rattle.diagram.proofs.Order.Runs.{accepted-both, accepted-rest, fine-run}
-use Rattle.plain.specs.Calls.{Batch, Call, Update, Query, Yield, Fork, Join, Show, Fill, Bundle, Preview, Entries, Records, entriesOf, isWrongBatch}
-use Rattle.plain.specs.Record.{PlainDay, noted}
-use Rattle.plain.specs.Answers.{called, dayAfter, joining, sent}
+use Rattle.plain.specs.Record.{PlainDay}
+use Rattle.plain.specs.Answers.{Outcome, asked, called, dayAfter, ending, refused, sent}
 use Rattle.plain.specs.Bundles.{AllTaken, parts}
-use Rattle.plain.specs.Taken.{bundleSteps, stepsAfter}
-use Rattle.plain.specs.Allowed.{Allowed, AreEntries, IsBatch, IsBib, IsKind, JoinAllowed}
-use Rattle.plain.proofs.Ends.{JoinTaken, fill-ends, fork-ends, join-ends, preview-ends, query-ends, show-ends, update-ends, was-taken, yield-ends}
-use Rattle.plain.proofs.Bundles.{bundle-ends, bundle-ran, meant-noted, sent-parts}
-use Rattle.plain.proofs.Steps.{all-accepted, same-day}
+use Rattle.plain.specs.Taken.{bundleSteps, endOf, stepsAfter}
+use Rattle.plain.specs.Allowed.{Allowed, AreEntries, IsBatch, IsBib, IsKind, JoinAllowed, Meaning}
+use Rattle.plain.proofs.Ends.{Joins, Passes, fork-accepts, given, join-passes, known-kind, means, preview-passes, query-accepts, update-accepts, was-taken, yield-accepts}
+use Rattle.plain.proofs.Bundles.{after-bundled, first-of, parts-sent, sent-parts}
+use Rattle.plain.proofs.Steps.{all-accepted, same-day, sent-ran}
 
 -- the limits: 5
 good-bib : (bib : ℕ) → badBib bib ≡ false → IsBib bib
@@ -82,102 +85,130 @@ batch-good (Records bytes) (n, l, a, b) =
     rw (r, q, ne-eqb n 0 (λ e. omega arith), le-ltb 64 n b)
 batch-good (Entries es) (a, b) = rw (ne-eqb (length es) 0 (λ e. omega arith), le-ltb 64 (length es) b)
 
+-- where no check applies the call ends as it does
+pub passed-is : (p : PlainDay) (c : Call ℕ) → Passes p c → called p c ≡ ending p c
+unfolding called
+passed-is p c P = goes-on (refused p) (ending p c) (checks (asked (p .day)) c) P
+
+passed-on : (p : PlainDay) (c : Call ℕ) → Passes p c → called p c .answer .code ≡ ending p c .answer .code
+passed-on p c P = ap (λ (o : Outcome). o .answer .code) (passed-is p c P)
+
+neither : {a b : Bool} → a ≡ false → b ≡ false → (a || b) ≡ false
+neither e f = rw (e, f)
+
+-- an update's row: that its number was given out, and that it is an entry; and back, where the day accepts its step
+update-given : (p : PlainDay) (c n k bib v : ℕ) → Passes p (Update c n k bib v) → not (isGiven (p .day) n) ≡ false
+update-given p c n k bib v (e1 also e2 also e3 also P) = e3
+
+update-entry : (p : PlainDay) (c n k bib v : ℕ) → Passes p (Update c n k bib v) → IsBib bib × IsKind k
+update-entry p c n k bib v (e1 also e2 also e3 also e4 also e5 also P) = let b = known-kind bib k e5 in (good-bib bib (b .0), good-kind k _ (b .1))
+
+bad-kind : (k : ℕ) → IsKind k → badKind k ≡ false
+bad-kind k h = ap isUnknown (kind-good k h .1)
+
+update-row : (p : PlainDay) (c n k bib v : ℕ) → not (isGiven (p .day) n) ≡ false → IsBib bib × IsKind k → accepted (p .day) (Event c (meant (p .day) n) true) ≡ true → Passes p (Update c n k bib v)
+update-row p c n k bib v g i a =
+    let t = event-tests (p .day) c (meant (p .day) n) true a in
+    refl also t .0 also g also t .1 also neither (bib-good bib (i .0)) (bad-kind k (i .1)) also t .2 also t .3 also t .4 also t .5 also Rows.none
+
 -- the parts of a bundle, where all are taken, are entries; and back, where the steps are accepted
 good-entries : (es : List Entry) (p : PlainDay) (c n : ℕ) → AllTaken p (parts c n es) → AreEntries es
 good-entries [] p c n T = tt
 good-entries (e ∷ es) p c n T =
-    let h = was-taken (update-ends p c n (e .kind) (e .bib) (e .v)) (T .0) in
-    (good-bib (e .bib) (h .known-bib), good-kind (e .kind) (h .kind) (h .is-kind), good-entries es _ c n (T .1))
+    let i = update-entry p c n (e .kind) (e .bib) (e .v) (was-taken p (Update c n (e .kind) (e .bib) (e .v)) (T .0) .0) in
+    (i .0, i .1, good-entries es _ c n (T .1))
 
-sent-taken : (es : List Entry) (p : PlainDay) (c n r : ℕ) → meant (p .day) n ≡ some r → AreEntries es → AcceptedFrom (p .day) (bundleSteps c r es) → sent p c n es .answer .code ≡ 0
-unfolding sent called
-sent-taken [] p c n r m G A = rw (yield-test (p .day) c (A .0))
-sent-taken (e ∷ es) p c n r m G A =
-    let t = event-tests (p .day) c r true (A .0) in
-    let k = kind-good (e .kind) (G .1) in
-    rw (t .0, m, t .1, bib-good (e .bib) (G .0), k .1, t .2, t .3, t .4, t .5)
-    (sent-taken es (noted p c r (k .0) (e .bib) (e .v)) c n r (meant-noted p c r (k .0) (e .bib) (e .v) n ∙ m) (G .2) (A .1))
+all-taken : (es : List Entry) (p : PlainDay) (c n : ℕ) → not (isGiven (p .day) n) ≡ false → AreEntries es → AcceptedFrom (p .day) (bundleSteps c (meant (p .day) n) es) → AllTaken p (parts c n es)
+unfolding isGiven meant after
+all-taken [] p c n g G A = (passed-on p (Yield c) (refl also yield-test (p .day) c (A .0) also Rows.none), tt)
+all-taken (e ∷ es) p c n g G A =
+    let is = passed-is p (Update c n (e .kind) (e .bib) (e .v)) (update-row p c n (e .kind) (e .bib) (e .v) g (G .0, G .1) (A .0)) in
+    (ap (λ (o : Outcome). o .answer .code) is, subst (λ (o : Outcome). AllTaken (o .next) (parts c n es)) (sym is) (all-taken es _ c n g (G .2) (A .1)))
 
-module _ (before : List Call) where
+module _ (before : List (Call ℕ)) where
   abbrev p : PlainDay
   p = dayAfter before
+
+  abbrev y : Day
+  y = endOf before
 
   abbrev ss : List Step
   ss = stepsAfter before
 
   -- a step is accepted exactly if it may follow
-  follows : (s : Step) → accepted (p .day) s ≡ true → MayFollow ss s
+  follows : (s : Step) → accepted y s ≡ true → MayFollow ss s
   follows s e = taken-exactly ss (all-accepted before) s .0 (subst (λ y. accepted y s ≡ true) (same-day before) e)
 
-  passes : (s : Step) → MayFollow ss s → accepted (p .day) s ≡ true
+  passes : (s : Step) → MayFollow ss s → accepted y s ≡ true
   passes s M = subst (λ y. accepted y s ≡ true) (sym (same-day before)) (taken-exactly ss (all-accepted before) s .1 M)
 
   -- and so do some steps after one another
-  longer : (more : List Step) → AcceptedFrom (p .day) more → Accepted (ss ++ more)
+  longer : (more : List Step) → AcceptedFrom y more → Accepted (ss ++ more)
   unfolding run
   longer more A = accepted-both ss more fresh (all-accepted before) (subst (λ y. AcceptedFrom y more) (same-day before) A)
 
-  shorter : (more : List Step) → Accepted (ss ++ more) → AcceptedFrom (p .day) more
+  shorter : (more : List Step) → Accepted (ss ++ more) → AcceptedFrom y more
   shorter more A = subst (λ y. AcceptedFrom y more) (sym (same-day before)) (accepted-rest ss more A)
 
-  fine : Fine (p .day)
+  fine : Fine y
   fine = subst Fine (sym (same-day before)) (fine-run ss (all-accepted before))
 
-  join-means : (n m : ℕ) {o : _} → JoinTaken p n m o → JoinAllowed before n m
-  join-means n m h = record { revision = h .joiner; means = h .means; holds = record { revision = h .step .revision; means = h .step .means; holds = follows _ (h .step .accepts) } }
+  -- a call that is taken is allowed
+  meaning : {P : ℕ → Type 0} (n : ℕ) → not (isGiven y n) ≡ false → P (meant y n) → Meaning y n P
+  meaning n e h = record { given = not-false (isGiven y n) e; holds = h }
 
-  taken-allowed : (c : Call) → called p c .answer .code ≡ 0 → Allowed before c
-  taken-allowed (Update c n k bib v) e =
-      let h = was-taken (update-ends p c n k bib v) e in
-      (record { revision = h .step .revision; means = h .step .means; holds = follows _ (h .step .accepts) }, good-bib bib (h .known-bib), good-kind k (h .kind) (h .is-kind))
-  taken-allowed (Query c n bib) e =
-      let h = was-taken (query-ends p c n bib) e in
-      (record { revision = h .step .revision; means = h .step .means; holds = follows _ (h .step .accepts) }, good-bib bib (h .known-bib))
-  taken-allowed (Yield c) e = follows _ (was-taken (yield-ends p c) e .accepts)
-  taken-allowed (Fork n) e =
-      let h = was-taken (fork-ends p n) e in
-      record { revision = h .step .revision; means = h .step .means; holds = follows _ (h .step .accepts) }
-  taken-allowed (Join n m) e = join-means n m (was-taken (join-ends p n m) e)
-  taken-allowed (Show n room) e =
-      let h = was-taken (show-ends p n room) e in
-      record { revision = h .revision; means = h .means; holds = record { out = (meant-low (p .day) n (h .revision) (h .means), h .out); idle = busy-idle (p .day) fine (h .revision) .0 (h .idle); fits = ltb-false room _ (h .fits) } }
-  taken-allowed (Fill n) e =
-      let h = was-taken (fill-ends p n) e in
-      record { revision = h .revision; means = h .means; holds = (meant-low (p .day) n (h .revision) (h .means), h .out) }
-  taken-allowed (Bundle c n batch) e =
-      let h = was-taken (bundle-ends p c n batch) e in
-      let A = bundle-ran p c n batch _ h .accepts in (
-        good-batch batch (h .right),
-        good-entries (entriesOf batch) p c n (sent-parts c n (h .revision) (entriesOf batch) p (h .means) (h .all) .0),
-        record { revision = h .revision; means = h .means; holds = runs-exactly (ss ++ bundleSteps c (h .revision) (entriesOf batch)) .0 (longer (bundleSteps c (h .revision) (entriesOf batch)) A) },
-      )
-  taken-allowed (Preview n m bib) e =
-      let h = was-taken (preview-ends p n m bib) e in
-      (join-means n m (h .join), good-bib bib (h .known-bib))
+  is-out : (n : ℕ) → not (isGiven y n) ≡ false → meant y n < y .revisions
+  is-out n e = meant-low y n (meant y n) (means p n e)
 
-  join-taken : (n m : ℕ) → JoinAllowed before n m → joining p n m .answer .code ≡ 0
-  join-taken n m M =
-      let t = join-tests (p .day) (M .revision) (M .holds .revision) (passes _ (M .holds .holds)) in
-      rw (M .means, M .holds .means, t .0, t .1, t .2, t .3, t .4)
+  join-means : (n m : ℕ) → Joins p n m → JoinAllowed before n m
+  join-means n m J = record { given = J .joiner; holds = record { given = J .joinee; holds = follows _ (J .accepts) } }
 
-  allowed-taken : (c : Call) → Allowed before c → called p c .answer .code ≡ 0
-  unfolding called
-  allowed-taken (Update c n k bib v) A =
-      let t = event-tests (p .day) c (A .0 .revision) true (passes _ (A .0 .holds)) in
-      rw (t .0, A .0 .means, t .1, bib-good bib (A .1), kind-good k (A .2) .1, t .2, t .3, t .4, t .5)
+  bundle-means : (c n : ℕ) (batch : Batch) → isWrongBatch batch ≡ false → sent p c n (entriesOf batch) .answer .code ≡ 0 → Allowed before (Bundle c n batch)
+  bundle-means c n batch e z =
+      let es = entriesOf batch in
+      let T = sent-parts c n es p z .0 in
+      let f = first-of batch e in
+      let g = was-taken p (Update c n (f .0 .kind) (f .0 .bib) (f .0 .v)) (subst (λ es. AllTaken p (parts c n es)) (f .2) T .0) .0 in
+      let A = sent-ran c n (meant y n) es p refl z .accepts in
+      (good-batch batch e, good-entries es p c n T, meaning n (update-given p c n (f .0 .kind) (f .0 .bib) (f .0 .v) g) (runs-exactly (ss ++ bundleSteps c (meant y n) es) .0 (longer (bundleSteps c (meant y n) es) A)))
+
+  passed-allowed : (c : Call ℕ) → Passes p c → ending p c .answer .code ≡ 0 → Allowed before c
+  passed-allowed (Update c n k bib v) P z = let i = update-entry p c n k bib v P in (meaning n (update-given p c n k bib v P) (follows _ (update-accepts p c n k bib v P)), i .0, i .1)
+  passed-allowed (Query c n bib) (e1 also e2 also e3 also e4 also e5 also P) z = (meaning n e3 (follows _ (query-accepts p c n bib (e1 also e2 also e3 also e4 also e5 also P))), good-bib bib e5)
+  passed-allowed (Yield c) P z = follows _ (yield-accepts p c P)
+  passed-allowed (Fork n) (e1 also e3 also P) z = meaning n e3 (follows _ (fork-accepts p n (e1 also e3 also P)))
+  passed-allowed (Join n m) P z = join-means n m (join-passes p n m P)
+  passed-allowed (Bundle c n batch) (e1 also e14 also Rows.none) z = bundle-means c n batch e14 (after-bundled p (sent p c n (entriesOf batch)) z .0)
+  passed-allowed (Looks (Show n room)) (e1 also e3 also e4 also e7 also e12 also Rows.none) z = meaning n e3 (record { out = (is-out n e3, e4); idle = busy-idle y fine (meant y n) .0 e7; fits = ltb-false room _ e12 })
+  passed-allowed (Looks (Fill n)) (e1 also e3 also e4 also Rows.none) z = meaning n e3 (is-out n e3, e4)
+  passed-allowed (Looks (Preview n m bib)) P z = let q = preview-passes p n m bib P in (join-means n m (join-passes p n m (q .0)), good-bib bib (q .1))
+
+  taken-allowed : (c : Call ℕ) → called p c .answer .code ≡ 0 → Allowed before c
+  taken-allowed c e = let w = was-taken p c e in passed-allowed c (w .0) (rw (w .1) at e)
+
+  -- a call that is allowed is taken
+  join-row : (n m : ℕ) → JoinAllowed before n m → Passes p (Join n m)
+  join-row n m A =
+      let t = join-tests y (meant y n) (meant y m) (passes _ (A .holds .holds)) in
+      refl also neither (given A) (given (A .holds)) also neither (t .0) (t .1) also neither (t .2) (t .3) also t .4 also Rows.none
+
+  allowed-taken : (c : Call ℕ) → Allowed before c → called p c .answer .code ≡ 0
+  allowed-taken (Update c n k bib v) A = passed-on p (Update c n k bib v) (update-row p c n k bib v (given (A .0)) (A .1, A .2) (passes _ (A .0 .holds)))
   allowed-taken (Query c n bib) A =
-      let t = event-tests (p .day) c (A .0 .revision) false (passes _ (A .0 .holds)) in
-      rw (t .0, A .0 .means, t .1, bib-good bib (A .1), t .2, t .3, t .4)
-  allowed-taken (Yield c) A = rw (yield-test (p .day) c (passes _ A))
-  allowed-taken (Fork n) A =
-      let t = fork-tests (p .day) (A .revision) (passes _ (A .holds)) in
-      rw (A .means, t .0, t .1, t .2)
-  allowed-taken (Join n m) A = join-taken n m A
-  allowed-taken (Show n room) A = rw (A .means, A .holds .out .1, busy-idle (p .day) fine (A .revision) .1 (A .holds .idle), le-ltb room _ (A .holds .fits))
-  allowed-taken (Fill n) A = rw (A .means, A .holds .1)
+      let t = event-tests y c (meant y n) false (passes _ (A .0 .holds)) in
+      passed-on p (Query c n bib) (refl also t .0 also given (A .0) also t .1 also bib-good bib (A .1) also t .2 also t .3 also t .4 also Rows.none)
+  allowed-taken (Yield c) A = passed-on p (Yield c) (refl also yield-test y c (passes _ A) also Rows.none)
+  allowed-taken (Fork n) A = let t = fork-tests y (meant y n) (passes _ (A .holds)) in passed-on p (Fork n) (refl also given A also t .0 also t .1 also t .2 also Rows.none)
+  allowed-taken (Join n m) A = passed-on p (Join n m) (join-row n m A)
   allowed-taken (Bundle c n batch) A =
-      rw (batch-good batch (A .0), sent-taken (entriesOf batch) p c n (A .2 .revision) (A .2 .means) (A .1) (shorter (bundleSteps c (A .2 .revision) (entriesOf batch)) (runs-exactly _ .1 (A .2 .holds))))
-  allowed-taken (Preview n m bib) A = rw (join-taken n m (A .0), bib-good bib (A .1))
+      let steps = bundleSteps c (meant y n) (entriesOf batch) in
+      let T = all-taken (entriesOf batch) p c n (given (A .2)) (A .1) (shorter steps (runs-exactly (ss ++ steps) .1 (A .2 .holds))) in
+      passed-on p (Bundle c n batch) (refl also batch-good batch (A .0) also Rows.none) ∙ rw (parts-sent c n (entriesOf batch) p T)
+  allowed-taken (Looks (Show n room)) A =
+      let t = A .holds in
+      passed-on p (Looks (Show n room)) (refl also given A also t .out .1 also busy-idle y fine (meant y n) .1 (t .idle) also le-ltb room _ (t .fits) also Rows.none)
+  allowed-taken (Looks (Fill n)) A = passed-on p (Looks (Fill n)) (refl also given A also A .holds .1 also Rows.none)
+  allowed-taken (Looks (Preview n m bib)) A = passed-on p (Looks (Preview n m bib)) (passed-both (join-row n m (A .0)) (bib-good bib (A .1) also Rows.none))
 
-  pub exactly : (c : Call) → (called p c .answer .code ≡ 0) ↔ Allowed before c
+  pub exactly : (c : Call ℕ) → (called p c .answer .code ≡ 0) ↔ Allowed before c
   exactly c = (taken-allowed c, allowed-taken c)

@@ -1,69 +1,83 @@
 -- What fills tell adds up to the updates accepted, after every list of calls (02, U1).
-use Prim.Native.Nat.{ℕ, suc, _+_, _≤_}
-use mathlib.Core.Path.{_≡_, refl, _∙_, ap, sym}
+use Prim.Native.Nat.{ℕ, _+_, _≤_}
+use mathlib.Core.Bool.{Bool, cond, false, true, not}
+use mathlib.Core.Path.{_≡_, refl, _∙_, ap, ap₂}
 use mathlib.Core.Option.{Option, none, some}
 use mathlib.Core.List.{List, [], _∷_}
 use native.Mathlib.Omega.{arith}
+use lib.Dec.{eqb}
 use lib.ListN.{length}
-use borrow.Author.Tests.{ne-eqb}
 use Rattle.lists.proofs.Cases.{cases}
-use Rattle.diagram.specs.Counts.{OwnAddsUp, ownIfOut}
-use Rattle.diagram.specs.Effects.{own}
-use Rattle.diagram.specs.Day.{Day, meant}
-use Rattle.diagram.specs.Steps.{after}
-use Rattle.diagram.proofs.Days.Moves.{yield-updates}
-use Rattle.diagram.proofs.Days.Naming.{Named, countFor, earlier-in, not-meant, sum-latest}
 use Rattle.lists.specs.Sums.{sumBelow}
 use Rattle.lists.proofs.Sums.{sum-same}
+use Rattle.bundles.specs.declared.entry.Entry.{Entry}
+use Rattle.desk.specs.Calls.{Call, Update, Query, Yield, Fork, Join, Bundle, Looks, Fill, entriesOf, level}
+use Rattle.desk.specs.Checks.{_if_, settle}
+use Rattle.diagram.specs.Summed.{OwnAddsUp, ownIfOut}
+use Rattle.diagram.specs.Day.{Day}
+use Rattle.diagram.proofs.Days.Found.{found, given-found, isSome, meant-found, orMain}
+use Rattle.diagram.specs.Steps as Steps
+use Rattle.diagram.specs.Steps.{Event, Step, after, runFrom}
+use Rattle.diagram.proofs.Days.Moves.{yield-updates}
+use Rattle.diagram.proofs.Days.Naming.{Named, countFor, earlier-in, not-meant, sum-latest}
 use Rattle.diagram.proofs.Order.Counted.{own-adds-up}
-use Rattle.plain.specs.Calls.{Call, Update, Query, Yield, Fork, Join, Show, Fill, Bundle, Preview}
 use Rattle.plain.specs.Record.{PlainDay, freshDay}
-use Rattle.plain.specs.Answers.{Outcome, called, check, given, told, dayFrom, dayAfter, answersFrom, answers}
-use Rattle.plain.specs.Fills.{countsOne, acceptedIn, codesOf, FillsAddUp}
-use Rattle.plain.specs.Taken.{stepsAfter}
-use Rattle.plain.proofs.Bundles.{bundle-ends, bundle-ran}
-use Rattle.plain.proofs.Ends.{Ends, no, yes, was-taken, update-ends, query-ends, yield-ends, fork-ends, join-ends, show-ends, fill-ends, preview-ends}
+use Rattle.plain.specs.Answers.{answers, answersFrom, called, dayAfter, dayFrom, ownAt, refused}
+use Rattle.plain.specs.Fills.{FillsAddUp, acceptedIn, codesOf, enters}
+use Rattle.plain.specs.Taken.{bundleSteps, stepOf, stepsAfter, stepsOf}
+use Rattle.plain.proofs.Ends.{was-taken}
 use Rattle.plain.proofs.LineUp.{named}
-use Rattle.plain.proofs.Steps.{all-accepted, same-day}
+use Rattle.plain.proofs.Steps.{all-accepted, did, same-day}
 
--- how many updates a call adds: what it counts
-abbrev Adds : PlainDay → Call → Outcome → Type 0
-Adds p c o = o .next .day .updates ≡ p .day .updates + countsOne c (o .answer .code)
+-- the updates among some steps
+abbrev one : Step → ℕ
+one (Event c r true) = 1
+one (Event c r false) = 0
+one (Steps.Yield c) = 0
+one (Steps.Fork r) = 0
+one (Steps.Join a b) = 0
 
-none-more : (n : ℕ) → n ≡ n + 0
-none-more n = omega arith
+abbrev updatesIn : List Step → ℕ
+updatesIn [] = 0
+updatesIn (s ∷ ss) = one s + updatesIn ss
 
-one-more : (n : ℕ) → suc n ≡ n + 1
-one-more n = omega arith
-
-refused-none : (c : Call) (k : ℕ) → countsOne c (suc (suc k)) ≡ 0
-refused-none (Update c n k bib v) i = rw (ne-eqb (suc (suc i)) 0 (λ e. omega arith))
-refused-none (Query c n bib) i = refl
-refused-none (Yield c) i = refl
-refused-none (Fork n) i = refl
-refused-none (Join n m) i = refl
-refused-none (Show n room) i = refl
-refused-none (Fill n) i = refl
-refused-none (Bundle c n batch) i = rw (ne-eqb (suc (suc i)) 0 (λ e. omega arith))
-refused-none (Preview n m bib) i = refl
-
-adds-end : (p : PlainDay) {Yes : Outcome → Type 0} {o : Outcome} (c : Call) → ((o : Outcome) → Yes o → Adds p c o) → Ends p Yes o → Adds p c o
-adds-end p c g (no k) = none-more (p .day .updates) ∙ ap (λ i. p .day .updates + i) (sym (refused-none c k))
-adds-end p c g (yes {o} h) = g o h
-
-adds : (p : PlainDay) (c : Call) → Adds p c (called p c)
+after-one : (y : Day) (s : Step) → after y s .updates ≡ y .updates + one s
 unfolding after
-adds p (Update c n k bib v) = adds-end p (Update c n k bib v) (λ o h. rw (h .is) (one-more (p .day .updates))) (update-ends p c n k bib v)
-adds p (Query c n bib) = adds-end p (Query c n bib) (λ o h. rw (h .is) (none-more (p .day .updates))) (query-ends p c n bib)
-adds p (Yield c) = adds-end p (Yield c) (λ o h. rw (h .is) (yield-updates (p .day) c (p .day .openBy c) ∙ none-more (p .day .updates))) (yield-ends p c)
-adds p (Fork n) = adds-end p (Fork n) (λ o h. rw (h .is) (none-more (p .day .updates))) (fork-ends p n)
-adds p (Join n m) = adds-end p (Join n m) (λ o h. rw (h .is) (none-more (p .day .updates))) (join-ends p n m)
-adds p (Show n room) = adds-end p (Show n room) (λ o h. rw (h .is) (none-more (p .day .updates))) (show-ends p n room)
-adds p (Fill n) = adds-end p (Fill n) (λ o h. rw (h .is) (none-more (p .day .updates))) (fill-ends p n)
-adds p (Bundle c n batch) = adds-end p (Bundle c n batch) (λ o h. bundle-ran p c n batch o h .more ∙ ap (λ k. p .day .updates + countsOne (Bundle c n batch) k) (sym (ap (λ z. z .answer .code) (h .is)))) (bundle-ends p c n batch)
-adds p (Preview n m bib) = adds-end p (Preview n m bib) (λ o h. rw (h .is) (none-more (p .day .updates))) (preview-ends p n m bib)
+after-one y (Event c r true) = omega arith
+after-one y (Event c r false) = omega arith
+after-one y (Steps.Yield c) = let z = yield-updates y c (y .openBy c) in omega arith
+after-one y (Steps.Fork r) = omega arith
+after-one y (Steps.Join a b) = omega arith
 
-counted-from : (cs : List Call) (p : PlainDay) → dayFrom p cs .day .updates ≡ p .day .updates + acceptedIn cs (codesOf (answersFrom p cs))
+run-updates : (ss : List Step) (y : Day) → runFrom y ss .updates ≡ y .updates + updatesIn ss
+unfolding runFrom
+run-updates [] y = omega arith
+run-updates (s ∷ ss) y = let a = after-one y s in let b = run-updates ss (after y s) in omega arith
+
+-- a call's steps have as many as it enters
+bundle-enters : (c r : ℕ) (es : List Entry) → updatesIn (bundleSteps c r es) ≡ length es
+bundle-enters c r [] = refl
+bundle-enters c r (e ∷ es) = let z = bundle-enters c r es in omega arith
+
+steps-enter : (p : PlainDay) (c : Call ℕ) → updatesIn (stepOf p c) ≡ enters c
+steps-enter p (Update c n k bib v) = refl
+steps-enter p (Query c n bib) = refl
+steps-enter p (Yield c) = refl
+steps-enter p (Fork n) = refl
+steps-enter p (Join n m) = refl
+steps-enter p (Bundle c n batch) = bundle-enters c _ (entriesOf batch)
+steps-enter p (Looks l) = refl
+
+if-taken : (b : Bool) (ss : List Step) → updatesIn (cond b ss []) ≡ cond b (updatesIn ss) 0
+if-taken true ss = refl
+if-taken false ss = refl
+
+adds : (p : PlainDay) (c : Call ℕ) → called p c .next .day .updates ≡ p .day .updates + cond (eqb (called p c .answer .code) 0) (enters c) 0
+adds p c =
+    ap (λ y. y .updates) (did p c .same) ∙ run-updates (stepsOf p c) (p .day)
+    ∙ ap (λ k. p .day .updates + k) (if-taken (eqb (called p c .answer .code) 0) (stepOf p c) ∙ ap (λ k. cond (eqb (called p c .answer .code) 0) k 0) (steps-enter p c))
+
+counted-from : (cs : List (Call ℕ)) (p : PlainDay) → dayFrom p cs .day .updates ≡ p .day .updates + acceptedIn cs (codesOf (answersFrom p cs))
 unfolding dayFrom answersFrom acceptedIn
 counted-from [] p = omega arith
 counted-from (c ∷ cs) p = let a = adds p c in let b = counted-from cs (called p c .next) in omega arith
@@ -71,34 +85,37 @@ counted-from (c ∷ cs) p = let a = adds p c in let b = counted-from cs (called 
 nothing-before : (n : ℕ) → 0 + n ≡ n
 nothing-before n = omega arith
 
-counted : (cs : List Call) → dayAfter cs .day .updates ≡ acceptedIn cs (codesOf (answers cs))
+counted : (cs : List (Call ℕ)) → dayAfter cs .day .updates ≡ acceptedIn cs (codesOf (answers cs))
 unfolding dayAfter answers
 counted cs = counted-from cs freshDay ∙ nothing-before (acceptedIn cs (codesOf (answersFrom freshDay cs)))
 
 -- a fill tells what the revision that the number means, if it is out, has of its own; of a number not given out nothing
-fill-is : (p : PlainDay) (n : ℕ) → called p (Fill n) .answer .value ≡ countFor (ownIfOut (p .day)) (meant (p .day) n)
+abbrev toldBy : PlainDay → Bool → ℕ → ℕ
+toldBy p g r = settle (3 if not g ∷ 4 if p .day .joined r ∷ []) (refused p) (record { next = p; answer = level (length (ownAt (p .day) r)) (p .day .updates) [] }) .answer .value
+
+fill-is : (p : PlainDay) (n : ℕ) → called p (Looks (Fill n)) .answer .value ≡ countFor (ownIfOut (p .day)) (found (p .day) n)
 unfolding called
-fill-is p n = by (meant (p .day) n)
+fill-is p n = ap₂ (toldBy p) (given-found (p .day) n) (meant-found (p .day) n) ∙ by (found (p .day) n)
   where
-    by : (q : Option ℕ) → given q p (λ r. check (p .day .joined r) 4 p (told p (length (own (p .day .diagram) (p .day .terminal r))) (p .day .updates))) .answer .value ≡ countFor (ownIfOut (p .day)) q
+    by : (q : Option ℕ) → toldBy p (isSome q) (orMain q) ≡ countFor (ownIfOut (p .day)) q
     by none = refl
     by (some r) = cases (p .day .joined r) (λ e. rw e) (λ e. rw e)
 
-pub no-fill : (p : PlainDay) → Named (p .day) → (n : ℕ) → p .day .numbering .given ≤ n → called p (Fill n) .answer .value ≡ 0
+pub no-fill : (p : PlainDay) → Named (p .day) → (n : ℕ) → p .day .numbering .given ≤ n → called p (Looks (Fill n)) .answer .value ≡ 0
 no-fill p N n l = fill-is p n ∙ ap (countFor (ownIfOut (p .day))) (not-meant (p .day) N n l)
 
 -- summed over the numbers given out, that is the own updates summed over the revisions
-over-numbers : (y : Day) → Named y → sumBelow (y .numbering .given) (λ n. countFor (ownIfOut y) (meant y n)) ≡ sumBelow (y .revisions) (ownIfOut y)
-unfolding meant
+over-numbers : (y : Day) → Named y → sumBelow (y .numbering .given) (λ n. countFor (ownIfOut y) (found y n)) ≡ sumBelow (y .revisions) (ownIfOut y)
+unfolding found
 over-numbers y N = sum-latest (y .numbering .of) (ownIfOut y) (y .numbering .given) (y .revisions) (N .low) (λ s r k l e. rw (earlier-in y N s r k l e))
 
-adds-up : (cs : List Call) → OwnAddsUp (dayAfter cs .day)
+adds-up : (cs : List (Call ℕ)) → OwnAddsUp (dayAfter cs .day)
 adds-up cs = rw (same-day cs) (own-adds-up (stepsAfter cs) (all-accepted cs))
 
-pub fills-add-up : (cs : List Call) → FillsAddUp cs
+pub fills-add-up : (cs : List (Call ℕ)) → FillsAddUp cs
 fills-add-up cs = record {
   sum = sum-same (p .day .numbering .given) _ _ (λ n l. fill-is p n) ∙ over-numbers (p .day) (named cs) ∙ adds-up cs ∙ counted cs;
-  total = λ n e. let h = was-taken (fill-ends p n) e in ap (λ o. o .answer .total) (h .is) ∙ counted cs;
+  total = λ n e. ap (λ o. o .answer .total) (was-taken p (Looks (Fill n)) e .1) ∙ counted cs;
 }
   where
     p : PlainDay

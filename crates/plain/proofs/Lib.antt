@@ -7,5 +7,4 @@ pub mod Exactly
 pub mod Values
 pub mod Previews
 pub mod LineUp
-pub mod Never
 pub mod Fills

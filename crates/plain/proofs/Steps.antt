@@ -1,108 +1,162 @@
 -- The calls that are taken are a run of accepted steps of the day of revisions, and no entry changes once it is noted.
 use Prim.Native.Nat.{_<_, _≤_, ℕ}
-use mathlib.Core.Bool.{false, true}
+use mathlib.Core.Bool.{cond, false, true}
 use mathlib.Core.Path.{_∙_, _≡_, ap, refl, subst, sym}
-use mathlib.Core.Option.{Option, none, some}
 use mathlib.Core.List.{List, [], _++_, _∷_, append-assoc}
 use native.Mathlib.Omega.{arith}
-use Rattle.diagram.proofs.Order.Runs.{accepted-both, run-both}
-use Rattle.diagram.specs.Day.{Day, meant}
-use Rattle.diagram.specs.Steps.{Accepted, AcceptedFrom, Event, Step, accepted, after, run, runFrom, yield}
+use lib.Dec.{eqb}
+use borrow.Author.Tests.{eqb-false, ne-eqb}
+use Rattle.lists.proofs.Cases.{cases}
 use Rattle.lists.proofs.Changed.{changed-other}
-use Rattle.plain.proofs.Ends.{Ends, fill-ends, fork-ends, join-ends, no, query-ends, show-ends, update-ends, yes, yield-ends, preview-ends}
-use Rattle.plain.proofs.Bundles.{RanTo, bundle-ends, bundle-ran}
-use Rattle.plain.specs.Answers.{Outcome, called, dayAfter, dayFrom, stepped, taken}
-use Rattle.plain.specs.Calls.{Answer, Bundle, Call, Fill, Fork, Join, Query, Show, Update, Yield, Preview, entriesOf}
-use Rattle.plain.specs.Taken.{bundleSteps, endOf, ifTaken, onRevision, stepOf, stepsAfter, stepsFrom, stepsOf}
-use Rattle.plain.specs.Record.{PlainDay, freshDay, noted}
-use Rattle.updates.specs.declared.kind.Kind.{Kind}
+use Rattle.bundles.specs.declared.entry.Entry.{Entry}
+use Rattle.desk.specs.Calls.{Bundle, Call, Fill, Fork, Join, Looks, Preview, Query, Show, Update, Yield, entriesOf}
+use Rattle.desk.specs.Checks.{checks}
+use Rattle.desk.proofs.Checks.{Ends, no, yes, ends}
+use Rattle.diagram.proofs.Order.Runs.{accepted-both, run-both}
+use Rattle.diagram.proofs.Days.Moves.{yield-updates}
+use Rattle.diagram.specs.Day.{Day, meant, isGiven}
 use Rattle.diagram.specs.Steps as Steps
+use Rattle.diagram.specs.Steps.{Event, Step, after, run, runFrom}
+use Rattle.diagram.specs.Accepted.{Accepted, AcceptedFrom, accepted}
+use Rattle.plain.proofs.Ends.{fork-accepts, join-passes, query-accepts, update-accepts, was-taken, yield-accepts}
+use Rattle.plain.proofs.Bundles.{after-bundled, sent-first, sent-never}
+use Rattle.plain.specs.Answers.{Outcome, asked, bundled, called, dayAfter, dayFrom, ending, refused, sent, stepped}
+use Rattle.plain.specs.Taken.{bundleSteps, endOf, stepOf, stepsAfter, stepsFrom, stepsOf}
+use Rattle.plain.specs.Record.{PlainDay, freshDay}
 
-pub record Did (p : PlainDay) (o : Outcome) (ss : List Step) : Type 0 where
-  pub accepts : AcceptedFrom (p .day) (ifTaken (o .answer .code) ss)
-  pub same : o .next .day ≡ runFrom (p .day) (ifTaken (o .answer .code) ss)
-  pub more : p .day .updates ≤ o .next .day .updates
-  pub kept : (n : ℕ) → n < p .day .updates → o .next .entries n ≡ p .entries n
+-- how a call ends: taken, or refused with a code above 1 and the day as it was
+pub data Fair (p : PlainDay) : Outcome → Type 0 where
+  good : {o : Outcome} → o .answer .code ≡ 0 → Fair p o
+  bad : (k : ℕ) → 1 < k → Fair p (refused p k)
 
-did-end : {p : PlainDay} {Yes : Outcome → Type 0} {o : Outcome} {ss : List Step} → ((o : Outcome) → Yes o → Did p o ss) → Ends p Yes o → Did p o ss
+bundled-fair : (p : PlainDay) (o : Outcome) → (o .answer .code ≡ 1 → ⊥) → Fair p (bundled p o)
+bundled-fair p o h =
+    cases (eqb (o .answer .code) 0) (λ q. good {o = bundled p o} (rw q)) (λ q. rw q (bad (o .answer .code) (let z = eqb-false (o .answer .code) 0 q in omega arith)))
+
+ending-fair : (p : PlainDay) (c : Call ℕ) → Fair p (ending p c)
+ending-fair p (Update c n k bib v) = good refl
+ending-fair p (Query c n bib) = good refl
+ending-fair p (Yield c) = good refl
+ending-fair p (Fork n) = good refl
+ending-fair p (Join n m) = good refl
+ending-fair p (Bundle c n batch) = bundled-fair p (sent p c n (entriesOf batch)) (sent-never c n (entriesOf batch) p)
+ending-fair p (Looks (Show n room)) = good refl
+ending-fair p (Looks (Fill n)) = good refl
+ending-fair p (Looks (Preview n m bib)) = good refl
+
+pub called-fair : (p : PlainDay) (c : Call ℕ) → Fair p (called p c)
+unfolding called
+called-fair p c = by (ends (refused p) (ending p c) (asked (p .day)) refl c)
+  where
+    by : {o : Outcome} → Ends (checks (asked (p .day)) c) (refused p) (ending p c) o → Fair p o
+    by (no k h) = bad k h
+    by (yes P) = ending-fair p c
+
+-- "Code 1 doesn't arise on it"
+not-one : {p : PlainDay} {o : Outcome} → Fair p o → o .answer .code ≡ 1 → ⊥
+not-one (good z) e = omega arith
+not-one (bad k h) e = omega arith
+
+pub never-one : (p : PlainDay) (c : Call ℕ) → called p c .answer .code ≡ 1 → ⊥
+never-one p c = not-one (called-fair p c)
+
+-- a run of accepted steps from one day to another; no entry changes once it is noted
+pub record RanTo (p q : PlainDay) (ss : List Step) : Type 0 where
+  pub accepts : AcceptedFrom (p .day) ss
+  pub same : q .day ≡ runFrom (p .day) ss
+  pub more : p .day .updates ≤ q .day .updates
+  pub kept : (i : ℕ) → i < p .day .updates → q .entries i ≡ p .entries i
+
+ran-none : (p : PlainDay) → RanTo p p []
 unfolding runFrom
-did-end f (no k) = record { accepts = tt; same = refl; more = omega arith; kept = λ n h. refl }
-did-end f (yes {o} h) = f o h
+ran-none p = record { accepts = tt; same = refl; more = omega arith; kept = λ i l. refl }
 
--- a step that notes no entry
+ran-both : (p q x : PlainDay) (ss ts : List Step) → RanTo p q ss → RanTo q x ts → RanTo p x (ss ++ ts)
+ran-both p q x ss ts R T = record {
+  accepts = accepted-both ss ts (p .day) (R .accepts) (subst (λ y. AcceptedFrom y ts) (R .same) (T .accepts));
+  same = T .same ∙ ap (λ y. runFrom y ts) (R .same) ∙ sym (run-both ss ts (p .day));
+  more = (let a = R .more in let b = T .more in omega arith);
+  kept = λ i l. T .kept i (let a = R .more in omega arith) ∙ R .kept i l;
+}
+
+-- one step
 more-after : (y : Day) (s : Step) → y .updates ≤ after y s .updates
 unfolding after
 more-after y (Event c r true) = omega arith
 more-after y (Event c r false) = omega arith
-more-after y (Steps.Yield c) = by (y .openBy c)
-  where
-    by : (o : Option ℕ) → y .updates ≤ yield y c o .updates
-    by none = omega arith
-    by (some t) = omega arith
+more-after y (Steps.Yield c) = let z = yield-updates y c (y .openBy c) in omega arith
 more-after y (Steps.Fork r) = omega arith
 more-after y (Steps.Join a b) = omega arith
 
-did-step : (p : PlainDay) (s : Step) (answer : Answer) (o : Outcome) → accepted (p .day) s ≡ true → answer .code ≡ 0 → o ≡ record { next = stepped p s; answer = answer } → Did p o (s ∷ [])
+ran-one : (p q : PlainDay) (s : Step) → accepted (p .day) s ≡ true → q .day ≡ after (p .day) s → ((i : ℕ) → i < p .day .updates → q .entries i ≡ p .entries i) → RanTo p q (s ∷ [])
 unfolding runFrom
-did-step p s answer o a z e = rw (e, z) (record { accepts = (a, tt); same = refl; more = more-after (p .day) s; kept = λ n h. refl })
+ran-one p q s a e k = record { accepts = (a, tt); same = e; more = rw e (more-after (p .day) s); kept = k }
 
-did-note : (p : PlainDay) (c r : ℕ) (kind : Kind) (bib v value : ℕ) (o : Outcome) → accepted (p .day) (Event c r true) ≡ true → o ≡ taken (noted p c r kind bib v) value → Did p o (Event c r true ∷ [])
-unfolding runFrom
-did-note p c r kind bib v value o a e =
-    rw e (record { accepts = (a, tt); same = refl; more = more-after (p .day) (Event c r true); kept = λ n h. changed-other (p .entries) (p .day .updates) _ n (λ q. omega arith) })
+ran-step : (p : PlainDay) (s : Step) → accepted (p .day) s ≡ true → RanTo p (stepped p s) (s ∷ [])
+ran-step p s a = ran-one p (stepped p s) s a refl (λ i l. refl)
 
-did-ran : (p : PlainDay) (ss : List Step) (many : ℕ) (o : Outcome) → o .answer .code ≡ 0 → RanTo p (o .next) ss many → Did p o ss
-did-ran p ss many o z R = rw z (record { accepts = R .accepts; same = R .same; more = (let m = R .more in omega arith); kept = R .kept })
+update-ran : (p : PlainDay) (c n k bib v : ℕ) → called p (Update c n k bib v) .answer .code ≡ 0 → RanTo p (called p (Update c n k bib v) .next) (Event c (meant (p .day) n) true ∷ [])
+update-ran p c n k bib v e =
+    let w = was-taken p (Update c n k bib v) e in
+    rw (w .1) (ran-one p _ (Event c (meant (p .day) n) true) (update-accepts p c n k bib v (w .0)) refl (λ i l. changed-other (p .entries) (p .day .updates) _ i (λ q. omega arith)))
 
-pub did : (p : PlainDay) (c : Call) → Did p (called p c) (stepOf p c)
-unfolding runFrom
-did p (Update c n k bib v) = did-end (λ o h. subst (λ m. Did p o (onRevision m (λ r. Event c r true ∷ []))) (sym (h .step .means)) (did-note p c (h .step .revision) (h .kind) bib v (p .day .updates) o (h .step .accepts) (h .is))) (update-ends p c n k bib v)
-did p (Query c n bib) = did-end (λ o h. subst (λ m. Did p o (onRevision m (λ r. Event c r false ∷ []))) (sym (h .step .means)) (did-step p (Event c (h .step .revision) false) _ o (h .step .accepts) refl (h .is))) (query-ends p c n bib)
-did p (Yield c) = did-end (λ o h. did-step p (Steps.Yield c) _ o (h .accepts) refl (h .is)) (yield-ends p c)
-did p (Fork n) = did-end (λ o h. subst (λ m. Did p o (onRevision m (λ r. Steps.Fork r ∷ []))) (sym (h .step .means)) (did-step p (Steps.Fork (h .step .revision)) _ o (h .step .accepts) refl (h .is))) (fork-ends p n)
-did p (Join n m) =
-    did-end (λ o h. subst (λ i. Did p o (onRevision i (λ a. onRevision (meant (p .day) m) (λ b. Steps.Join a b ∷ [])))) (sym (h .means)) (subst (λ i. Did p o (onRevision i (λ b. Steps.Join (h .joiner) b ∷ []))) (sym (h .step .means)) (did-step p (Steps.Join (h .joiner) (h .step .revision)) _ o (h .step .accepts) refl (h .is))))
-    (join-ends p n m)
-did p (Show n room) = did-end (λ o h. rw (h .is) (record { accepts = tt; same = refl; more = omega arith; kept = λ i q. refl })) (show-ends p n room)
-did p (Fill n) = did-end (λ o h. rw (h .is) (record { accepts = tt; same = refl; more = omega arith; kept = λ i q. refl })) (fill-ends p n)
-did p (Bundle c n batch) =
-    did-end (λ o h. subst (λ m. Did p o (onRevision m (λ r. bundleSteps c r (entriesOf batch)))) (sym (h .means)) (did-ran p _ _ o (ap (λ z. z .answer .code) (h .is)) (bundle-ran p c n batch o h)))
-    (bundle-ends p c n batch)
-did p (Preview n m bib) = did-end (λ o h. rw (h .is) (record { accepts = tt; same = refl; more = omega arith; kept = λ i q. refl })) (preview-ends p n m bib)
+update-bearer : (p : PlainDay) (c n k bib v m : ℕ) → called p (Update c n k bib v) .answer .code ≡ 0 → meant (called p (Update c n k bib v) .next .day) m ≡ meant (p .day) m
+unfolding isGiven meant after
+update-bearer p c n k bib v m e = ap (λ o. meant (o .next .day) m) (was-taken p (Update c n k bib v) e .1)
+
+-- updates sent, and all taken
+pub sent-ran : (c n r : ℕ) (es : List Entry) (p : PlainDay) → meant (p .day) n ≡ r → sent p c n es .answer .code ≡ 0 → RanTo p (sent p c n es .next) (bundleSteps c r es)
+unfolding sent called
+sent-ran c n r [] p b z = let w = was-taken p (Yield c) z in rw (w .1) (ran-step p (Steps.Yield c) (yield-accepts p c (w .0)))
+sent-ran c n r (e ∷ es) p b z =
+    let f = sent-first c n e es p z in
+    let q = called p (Update c n (e .kind) (e .bib) (e .v)) .next in
+    let one = update-ran p c n (e .kind) (e .bib) (e .v) (f .0) in
+    let rest = sent-ran c n r es q (update-bearer p c n (e .kind) (e .bib) (e .v) n (f .0) ∙ b) (sym (ap (λ o. o .answer .code) (f .1)) ∙ z) in
+    subst (λ o. RanTo p (o .next) (Event c r true ∷ bundleSteps c r es)) (sym (f .1)) (ran-both p q _ (Event c r true ∷ []) (bundleSteps c r es) (subst (λ i. RanTo p q (Event c i true ∷ [])) b one) rest)
+
+-- a call that is taken
+taken-ran : (p : PlainDay) (c : Call ℕ) → called p c .answer .code ≡ 0 → RanTo p (called p c .next) (stepOf p c)
+taken-ran p (Update c n k bib v) e = update-ran p c n k bib v e
+taken-ran p (Query c n bib) e = let w = was-taken p (Query c n bib) e in rw (w .1) (ran-step p _ (query-accepts p c n bib (w .0)))
+taken-ran p (Yield c) e = let w = was-taken p (Yield c) e in rw (w .1) (ran-step p _ (yield-accepts p c (w .0)))
+taken-ran p (Fork n) e = let w = was-taken p (Fork n) e in rw (w .1) (ran-step p _ (fork-accepts p n (w .0)))
+taken-ran p (Join n m) e = let w = was-taken p (Join n m) e in rw (w .1) (ran-step p _ (join-passes p n m (w .0) .accepts))
+taken-ran p (Bundle c n batch) e =
+    let w = was-taken p (Bundle c n batch) e in
+    let b = after-bundled p (sent p c n (entriesOf batch)) (rw (w .1) at e) in
+    subst (λ o. RanTo p (o .next) (bundleSteps c (meant (p .day) n) (entriesOf batch))) (sym (w .1 ∙ b .1)) (sent-ran c n (meant (p .day) n) (entriesOf batch) p refl (b .0))
+taken-ran p (Looks l) e = rw (was-taken p (Looks l) e .1) (ran-none p)
+
+-- any call
+pub did : (p : PlainDay) (c : Call ℕ) → RanTo p (called p c .next) (stepsOf p c)
+did p c = by (called-fair p c) (taken-ran p c)
+  where
+    by : {o : Outcome} → Fair p o → (o .answer .code ≡ 0 → RanTo p (o .next) (stepOf p c)) → RanTo p (o .next) (cond (eqb (o .answer .code) 0) (stepOf p c) [])
+    by (good z) f = rw z (f z)
+    by (bad k h) f = rw (ne-eqb k 0 (λ e. omega arith)) (ran-none p)
 
 -- whole lists of calls
-pub record Ran (p : PlainDay) (cs : List Call) : Type 0 where
-  pub accepts : AcceptedFrom (p .day) (stepsFrom p cs)
-  pub same : dayFrom p cs .day ≡ runFrom (p .day) (stepsFrom p cs)
-  pub kept : (n : ℕ) → n < p .day .updates → dayFrom p cs .entries n ≡ p .entries n
-
-pub ran : (cs : List Call) (p : PlainDay) → Ran p cs
-unfolding stepsFrom dayFrom runFrom
-ran [] p = record { accepts = tt; same = refl; kept = λ n h. refl }
-ran (c ∷ cs) p =
-    let d = did p c in
-    let r = ran cs (called p c .next) in
-    record {
-      accepts = accepted-both (stepsOf p c) (stepsFrom (called p c .next) cs) (p .day) (d .accepts) (subst (λ y. AcceptedFrom y (stepsFrom (called p c .next) cs)) (d .same) (r .accepts));
-      same = r .same ∙ ap (λ y. runFrom y (stepsFrom (called p c .next) cs)) (d .same) ∙ sym (run-both (stepsOf p c) (stepsFrom (called p c .next) cs) (p .day));
-      kept = λ n h. r .kept n (omega (arith, d .more)) ∙ d .kept n h;
-    }
+pub ran : (cs : List (Call ℕ)) (p : PlainDay) → RanTo p (dayFrom p cs) (stepsFrom p cs)
+unfolding stepsFrom dayFrom
+ran [] p = ran-none p
+ran (c ∷ cs) p = ran-both p (called p c .next) _ (stepsOf p c) (stepsFrom (called p c .next) cs) (did p c) (ran cs (called p c .next))
 
 -- a list of calls as a run of accepted steps
-pub all-accepted : (cs : List Call) → Accepted (stepsAfter cs)
+pub all-accepted : (cs : List (Call ℕ)) → Accepted (stepsAfter cs)
 all-accepted cs = ran cs freshDay .accepts
 
-pub same-day : (cs : List Call) → endOf cs ≡ run (stepsAfter cs)
+pub same-day : (cs : List (Call ℕ)) → endOf cs ≡ run (stepsAfter cs)
 unfolding dayAfter run
 same-day cs = ran cs freshDay .same
 
 -- in two parts
-pub day-both : (a b : List Call) (p : PlainDay) → dayFrom p (a ++ b) ≡ dayFrom (dayFrom p a) b
+pub day-both : (a b : List (Call ℕ)) (p : PlainDay) → dayFrom p (a ++ b) ≡ dayFrom (dayFrom p a) b
 unfolding dayFrom
 day-both [] b p = refl
 day-both (c ∷ a) b p = day-both a b (called p c .next)
 
-pub steps-both : (a b : List Call) (p : PlainDay) → stepsFrom p (a ++ b) ≡ stepsFrom p a ++ stepsFrom (dayFrom p a) b
+pub steps-both : (a b : List (Call ℕ)) (p : PlainDay) → stepsFrom p (a ++ b) ≡ stepsFrom p a ++ stepsFrom (dayFrom p a) b
 unfolding stepsFrom dayFrom
 steps-both [] b p = refl
 steps-both (c ∷ a) b p = ap (λ ss. stepsOf p c ++ ss) (steps-both a b (called p c .next)) ∙ sym (append-assoc (stepsOf p c) (stepsFrom (called p c .next) a) (stepsFrom (dayFrom (called p c .next) a) b))

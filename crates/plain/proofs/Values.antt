@@ -1,143 +1,110 @@
 -- What the values of a taken fork, join and fill are.
-use Prim.Native.Nat.{ℕ}
-use mathlib.Core.Bool.{true}
+use Prim.Native.Nat.{ℕ, _≤_}
+use mathlib.Core.Bool.{true, not, true≢false}
 use mathlib.Core.Logic.{_↔_}
-use mathlib.Core.Path.{_≡_, refl, sym, _∙_, ap, ap₂, subst}
-use mathlib.Core.Option.{Option, none, some}
-use mathlib.Core.List.{List, []}
+use mathlib.Core.Path.{_≡_, refl, sym, _∙_, subst}
+use mathlib.Core.List.{List, [], _∷_}
 use native.Mathlib.Omega.{arith}
 use lib.Dec.{ltb}
-use lib.ListN.{length}
-use borrow.Author.Tests.{le-ltb, ltb-false}
+use borrow.Author.Tests.{le-ltb, ltb-false, not-false}
 use Rattle.lists.proofs.Cases.{cases}
 use Rattle.lists.proofs.Changed.{changed-same}
+use Rattle.desk.specs.Calls.{Call, Fill, Fork, Join, Looks}
+use Rattle.desk.specs.Checks.{Check, Tests, _if_}
+use Rattle.desk.proofs.Checks as Rows
+use Rattle.desk.proofs.Checks.{Passed, _also_, code-exactly}
 use Rattle.diagram.specs.Sizes.{revisionLimit}
-use Rattle.diagram.specs.Day.{Day, IsIdle, IsOut, meant, nextNumber, outCount}
-use Rattle.diagram.specs.Checks.{busy, noneLeft}
-use Rattle.diagram.specs.Effects.{own}
+use Rattle.diagram.specs.Day.{Day, IsIdle, IsOut, isGiven, meant, nextNumber, outCount}
+use Rattle.diagram.specs.Checks.{noneLeft}
 use Rattle.diagram.specs.Steps as Steps
-use Rattle.diagram.specs.Steps.{accepted, after, run}
+use Rattle.diagram.specs.Steps.{after}
+use Rattle.diagram.specs.Accepted.{accepted}
 use Rattle.diagram.specs.Arbitration.{Numbered}
 use Rattle.diagram.specs.Counts.{OwnUpdates, SeenSince}
 use Rattle.diagram.proofs.Days.Moves.{CanFork, can-fork, can-join}
+use Rattle.diagram.proofs.Days.Found.{found-means}
 use Rattle.diagram.proofs.Days.Naming.{Named, meant-low, meant-new, meant-number, meant-old, next-apart}
 use Rattle.diagram.proofs.Order.Growth.{Fine, busy-idle}
 use Rattle.diagram.proofs.Order.Runs.{fine-run, numbered-run}
 use Rattle.diagram.proofs.Order.Since.{fork-shows, join-gains, own-updates}
-use Rattle.plain.specs.Calls.{Call, Fill, Fork, Join}
-use Rattle.plain.specs.Answers.{called, dayAfter, stepped, taken, told}
+use Rattle.plain.specs.Record.{PlainDay}
+use Rattle.plain.specs.Answers.{Outcome, asked, called, dayAfter, ending, ownAt, refused}
 use Rattle.plain.specs.Allowed.{Meaning}
 use Rattle.plain.specs.Taken.{endOf, stepsAfter}
 use Rattle.plain.specs.Values.{Filled, Forked, Gained}
-use Rattle.plain.proofs.Ends.{FillTaken, JoinTaken, fill-ends, fork-ends, join-ends, was-taken}
+use Rattle.plain.proofs.Ends.{Passes, fork-accepts, given, join-passes, means, was-taken}
 use Rattle.plain.proofs.Steps.{all-accepted, same-day}
 
-forks : (before : List Call) (n r : ℕ) → Named (endOf before) → accepted (endOf before) (Steps.Fork r) ≡ true → meant (endOf before) n ≡ some r
-    → Forked (endOf before) n (taken (stepped (dayAfter before) (Steps.Fork r)) (nextNumber (endOf before)))
-unfolding nextNumber after
-forks before n r N e m = record {
-  unused = λ s q. cases (y .joined s) (λ e. e) (λ e. absurd (next-apart y N r C s (meant-low y _ s q, e) (meant-number y _ s q)));
-  others = λ k d. meant-old y N r C k d;
-  means = meant-new y N r C;
-  out = (omega arith, changed-same (y .joined) (y .revisions) _);
-  shows = λ s q. subst (λ i. SeenSince (y .diagram) (y .terminal i) (after y (Steps.Fork r) .diagram) (after y (Steps.Fork r) .terminal (y .revisions)) []) (let z : r ≡ s = cc m in z) since;
-}
-  where
-    y : Day
-    y = endOf before
-
-    C : CanFork y r
-    C = can-fork y r e
-
-    since : SeenSince (y .diagram) (y .terminal r) (after y (Steps.Fork r) .diagram) (after y (Steps.Fork r) .terminal (y .revisions)) []
-    since =
-        subst (λ y. SeenSince (y .diagram) (y .terminal r) (after y (Steps.Fork r) .diagram) (after y (Steps.Fork r) .terminal (y .revisions)) []) (sym (same-day before))
-        (fork-shows (stepsAfter before) (all-accepted before) r (subst (λ y. accepted y (Steps.Fork r) ≡ true) (same-day before) e))
-
-pub fork-value : (before : List Call) (n : ℕ) → Named (endOf before) → called (dayAfter before) (Fork n) .answer .code ≡ 0 → Forked (endOf before) n (called (dayAfter before) (Fork n))
-fork-value before n N e =
-    let h = was-taken (fork-ends (dayAfter before) n) e in
-    subst (Forked (endOf before) n) (sym (h .is)) (forks before n (h .step .revision) N (h .step .accepts) (h .step .means))
-
 -- 10 of a fork
-module _ (before : List Call) (n : ℕ) (N : Named (endOf before)) where
+not-less : (n m : ℕ) → n ≤ m → (not (ltb n m) ≡ true) ↔ (n ≡ m)
+not-less n m h = (λ e. cases (ltb n m) (λ l. absurd (true≢false (sym (rw l at e)))) (λ l. let k = ltb-false n m l in omega arith), λ e. rw (le-ltb n m (omega arith)))
+
+abbrev idleChecks : Tests → ℕ → List Check
+idleChecks q n = 1 if q .noTable ∷ 3 if q .never n ∷ 4 if q .joined n ∷ 7 if q .busy n ∷ []
+
+module _ (before : List (Call ℕ)) where
+  abbrev p : PlainDay
+  p = dayAfter before
+
   abbrev y : Day
   y = endOf before
-
-  abbrev Full : Type 0
-  Full = Meaning y n (λ r. IsOut y r × IsIdle y r) × (outCount y ≡ revisionLimit)
 
   fine : Fine y
   fine = subst Fine (sym (same-day before)) (fine-run (stepsAfter before) (all-accepted before))
 
-  full : (r : ℕ) → called (dayAfter before) (Fork n) .answer .code ≡ 10 → meant y n ≡ some r → Full
+  pub fork-none : (n : ℕ) → Named y → (called p (Fork n) .answer .code ≡ 10) ↔ (Meaning y n (λ r. IsOut y r × IsIdle y r) × (outCount y ≡ revisionLimit))
   unfolding called noneLeft
-  full r e m =
-      cases (y .joined r) (λ o. absurd (let z : _≡_ {A = ℕ} 4 10 = rw (m, o) at e in omega arith)) (λ o.
-      cases (busy y r) (λ b. absurd (let z : _≡_ {A = ℕ} 7 10 = rw (m, o, b) at e in omega arith)) (λ b.
-      cases (ltb (outCount y) revisionLimit) (λ l. absurd (let z : _≡_ {A = ℕ} 0 10 = rw (m, o, b, l) at e in omega arith)) (λ l.
-      (record { revision = r; means = m; holds = ((meant-low y n r m, o), busy-idle y fine r .0 b) }, let k = ltb-false (outCount y) revisionLimit l in let a = N .counted in let t = N .few in omega arith))))
-
-  there : called (dayAfter before) (Fork n) .answer .code ≡ 10 → Full
-  unfolding called
-  there e = by (meant y n) refl
+  fork-none n N = (λ e. let r = exact .0 e in (idle (r .0), all .0 (r .1)), λ (M, e). exact .1 (refl also given M also M .holds .0 .1 also busy-idle y fine (meant y n) .1 (M .holds .1) also Rows.none, all .1 e))
     where
-      by : (q : Option ℕ) → meant y n ≡ q → Full
-      by none m = absurd (let z : _≡_ {A = ℕ} 3 10 = rw m at e in omega arith)
-      by (some r) m = full r e m
+      exact : (called p (Fork n) .answer .code ≡ 10) ↔ (Passed (idleChecks (asked y) n) × (noneLeft y ≡ true))
+      exact = code-exactly (λ (o : Outcome). o .answer .code) (refused p) (λ k. refl) (ending p (Fork n)) (10 if noneLeft y) (λ e. omega arith) (idleChecks (asked y) n) [] refl refl
 
-  back : Full → called (dayAfter before) (Fork n) .answer .code ≡ 10
-  unfolding called noneLeft
-  back (M, q) = rw (M .means, M .holds .0 .1, busy-idle y fine (M .revision) .1 (M .holds .1), le-ltb (outCount y) revisionLimit (omega arith))
+      all : (noneLeft y ≡ true) ↔ (outCount y ≡ revisionLimit)
+      all = not-less (outCount y) revisionLimit (let a = N .counted in let b = N .few in omega arith)
 
-  pub fork-none : (called (dayAfter before) (Fork n) .answer .code ≡ 10) ↔ Full
-  fork-none = (there, back)
+      idle : Passed (idleChecks (asked y) n) → Meaning y n (λ r. IsOut y r × IsIdle y r)
+      idle (e1 also e3 also e4 also e7 also P) = record { given = not-false (isGiven y n) e3; holds = ((meant-low y n (meant y n) (means p n e3), e4), busy-idle y fine (meant y n) .0 e7) }
 
-pub join-value : (before : List Call) (n m a b : ℕ) → called (dayAfter before) (Join n m) .answer .code ≡ 0 → meant (endOf before) n ≡ some a → meant (endOf before) m ≡ some b
-    → Gained (endOf before) a b (called (dayAfter before) (Join n m))
-join-value before n m a b e na mb = subst (Gained y a b) (sym is) (record { updates = _; gained = gains; brought = brings; value = refl })
-  where
-    y : Day
-    y = endOf before
+  shows : (r : ℕ) → accepted y (Steps.Fork r) ≡ true → SeenSince (y .diagram) (y .terminal r) (after y (Steps.Fork r) .diagram) (after y (Steps.Fork r) .terminal (y .revisions)) []
+  shows r e =
+      subst (λ y. SeenSince (y .diagram) (y .terminal r) (after y (Steps.Fork r) .diagram) (after y (Steps.Fork r) .terminal (y .revisions)) []) (sym (same-day before))
+      (fork-shows (stepsAfter before) (all-accepted before) r (subst (λ y. accepted y (Steps.Fork r) ≡ true) (same-day before) e))
 
-    h : JoinTaken (dayAfter before) n m (called (dayAfter before) (Join n m))
-    h = was-taken (join-ends (dayAfter before) n m) e
+  forks : (n : ℕ) → Named y → accepted y (Steps.Fork (meant y n)) ≡ true → Forked y n (ending p (Fork n))
+  unfolding nextNumber after
+  forks n N e =
+      let C : CanFork y (meant y n) = can-fork y (meant y n) e in
+      record {
+        unused = λ s q. let f = found-means y _ s .1 q in cases (y .joined s) (λ e. e) (λ e. absurd (next-apart y N _ C s (meant-low y _ s f, e) (meant-number y _ s f)));
+        others = λ k r d. (λ m. found-means y k r .0 (sym (meant-old y N _ C k d) ∙ found-means (after y (Steps.Fork (meant y n))) k r .1 m), λ m. found-means (after y (Steps.Fork (meant y n))) k r .0 (meant-old y N _ C k d ∙ found-means y k r .1 m));
+        means = found-means (after y (Steps.Fork (meant y n))) _ _ .0 (meant-new y N _ C);
+        out = (omega arith, changed-same (y .joined) (y .revisions) _);
+        shows = shows (meant y n) e;
+      }
 
-    x : h .joiner ≡ a
-    x = cc (h .means)
+  pub fork-value : (n : ℕ) → Named y → called p (Fork n) .answer .code ≡ 0 → Forked y n (called p (Fork n))
+  fork-value n N e = let w = was-taken p (Fork n) e in subst (Forked y n) (sym (w .1)) (forks n N (fork-accepts p n (w .0)))
 
-    z : h .step .revision ≡ b
-    z = cc (h .step .means)
+  -- the own updates of a revision that is out, by paths
+  owns : (r : ℕ) → IsOut y r → OwnUpdates y r (ownAt y r)
+  owns r o = subst (λ y. OwnUpdates y r (ownAt y r)) (sym (same-day before)) (own-updates (stepsAfter before) (all-accepted before) r (rw (same-day before) at o))
 
-    is : called (dayAfter before) (Join n m) ≡ taken (stepped (dayAfter before) (Steps.Join a b)) (length (own (y .diagram) (y .terminal b)))
-    is = h .is ∙ ap₂ (λ i j. taken (stepped (dayAfter before) (Steps.Join i j)) (length (own (y .diagram) (y .terminal j)))) x z
+  gains : (a b : ℕ) → accepted y (Steps.Join a b) ≡ true → SeenSince (y .diagram) (y .terminal a) (after y (Steps.Join a b) .diagram) (after y (Steps.Join a b) .terminal a) (ownAt y b)
+  gains a b e =
+      subst (λ y. SeenSince (y .diagram) (y .terminal a) (after y (Steps.Join a b) .diagram) (after y (Steps.Join a b) .terminal a) (ownAt y b)) (sym (same-day before))
+      (join-gains (stepsAfter before) (all-accepted before) a b (subst (λ y. accepted y (Steps.Join a b) ≡ true) (same-day before) e))
 
-    accepts : accepted (run (stepsAfter before)) (Steps.Join a b) ≡ true
-    accepts = subst (λ y. accepted y (Steps.Join a b) ≡ true) (same-day before) (rw (x, z) at (h .step .accepts))
+  pub join-value : (n m : ℕ) → called p (Join n m) .answer .code ≡ 0 → Gained y (meant y n) (meant y m) (called p (Join n m))
+  join-value n m e =
+      let w = was-taken p (Join n m) e in
+      let a = join-passes p n m (w .0) .accepts in
+      subst (Gained y (meant y n) (meant y m)) (sym (w .1)) (record { updates = _; gained = gains (meant y n) (meant y m) a; brought = owns (meant y m) (can-join y (meant y n) (meant y m) a .out-b); value = refl })
 
-    gains : SeenSince (y .diagram) (y .terminal a) (after y (Steps.Join a b) .diagram) (after y (Steps.Join a b) .terminal a) (own (y .diagram) (y .terminal b))
-    gains = subst (λ y. SeenSince (y .diagram) (y .terminal a) (after y (Steps.Join a b) .diagram) (after y (Steps.Join a b) .terminal a) (own (y .diagram) (y .terminal b))) (sym (same-day before)) (join-gains (stepsAfter before) (all-accepted before) a b accepts)
+  fill-out : (n : ℕ) → Passes p (Looks (Fill n)) → IsOut y (meant y n)
+  fill-out n (e1 also e3 also e4 also Rows.none) = (meant-low y n (meant y n) (means p n e3), e4)
 
-    brings : OwnUpdates y b (own (y .diagram) (y .terminal b))
-    brings = subst (λ y. OwnUpdates y b (own (y .diagram) (y .terminal b))) (sym (same-day before)) (own-updates (stepsAfter before) (all-accepted before) b (can-join (run (stepsAfter before)) a b accepts .out-b))
-
-pub fill-value : (before : List Call) (n r : ℕ) → called (dayAfter before) (Fill n) .answer .code ≡ 0 → meant (endOf before) n ≡ some r → Filled (endOf before) r (called (dayAfter before) (Fill n) .answer)
-fill-value before n r e m = rw is (record { updates = _; own-updates = brings; value = refl; all = subst (λ y. Numbered (y .diagram) (y .updates)) (sym (same-day before)) (numbered-run (stepsAfter before) (all-accepted before)) })
-  where
-    y : Day
-    y = endOf before
-
-    h : FillTaken (dayAfter before) n (called (dayAfter before) (Fill n))
-    h = was-taken (fill-ends (dayAfter before) n) e
-
-    z : h .revision ≡ r
-    z = cc (h .means)
-
-    is : called (dayAfter before) (Fill n) ≡ told (dayAfter before) (length (own (y .diagram) (y .terminal r))) (y .updates)
-    is = h .is ∙ ap (λ s. told (dayAfter before) (length (own (y .diagram) (y .terminal s))) (y .updates)) z
-
-    out : IsOut y r
-    out = (meant-low y n r m, rw z at (h .out))
-
-    brings : OwnUpdates y r (own (y .diagram) (y .terminal r))
-    brings = subst (λ y. OwnUpdates y r (own (y .diagram) (y .terminal r))) (sym (same-day before)) (own-updates (stepsAfter before) (all-accepted before) r (rw (same-day before) at out))
+  pub fill-value : (n : ℕ) → called p (Looks (Fill n)) .answer .code ≡ 0 → Filled y (meant y n) (called p (Looks (Fill n)) .answer)
+  fill-value n e =
+      let w = was-taken p (Looks (Fill n)) e in
+      let all = subst (λ y. Numbered (y .diagram) (y .updates)) (sym (same-day before)) (numbered-run (stepsAfter before) (all-accepted before)) in
+      subst (λ (o : Outcome). Filled y (meant y n) (o .answer)) (sym (w .1)) (record { updates = _; own-updates = owns (meant y n) (fill-out n (w .0)); value = refl; all = all })

@@ -4,25 +4,25 @@ use mathlib.Core.Bool.{false}
 use mathlib.Core.Path.{_≡_}
 use mathlib.Core.List.{List, [], _∷_}
 use Rattle.bundles.specs.declared.entry.Entry.{Entry}
-use Rattle.plain.specs.Calls.{Call, Update, Yield, Bundle, Batch, entriesOf, isWrongBatch}
+use Rattle.desk.specs.Calls.{Call, Update, Yield, Bundle, Batch, entriesOf, isWrongBatch}
 use Rattle.plain.specs.Record.{PlainDay}
 use Rattle.plain.specs.Answers.{called, dayAfter, dayFrom}
 
 -- the calls that a bundle is
-abbrev pub part : ℕ → ℕ → Entry → Call
+abbrev pub part : ℕ → ℕ → Entry → Call ℕ
 part c n e = Update c n (e .kind) (e .bib) (e .v)
 
-abbrev pub parts : ℕ → ℕ → List Entry → List Call
+abbrev pub parts : ℕ → ℕ → List Entry → List (Call ℕ)
 parts c n [] = Yield c ∷ []
 parts c n (e ∷ es) = part c n e ∷ parts c n es
 
 -- calls that are all taken, one after the other
-abbrev pub AllTaken : PlainDay → List Call → Type 0
+abbrev pub AllTaken : PlainDay → List (Call ℕ) → Type 0
 AllTaken p [] = Unit {0}
 AllTaken p (c ∷ cs) = (called p c .answer .code ≡ 0) × AllTaken (called p c .next) cs
 
 -- a bundle that is taken after some calls
-pub record Bundled (before : List Call) (c n : ℕ) (batch : Batch) : Type 0 where
+pub record Bundled (before : List (Call ℕ)) (c n : ℕ) (batch : Batch) : Type 0 where
   pub right : isWrongBatch batch ≡ false
   pub each : AllTaken (dayAfter before) (parts c n (entriesOf batch))
   pub day : called (dayAfter before) (Bundle c n batch) .next ≡ dayFrom (dayAfter before) (parts c n (entriesOf batch))

@@ -2,50 +2,58 @@
 use Prim.Native.Nat.{ℕ, zero, suc}
 use mathlib.Core.List.{List, [], _∷_, _++_}
 use lib.ListN.{replicate}
-use Rattle.updates.specs.declared.standing.State.{State}
-use Rattle.updates.specs.declared.standing.State.the-variants as state
+use Rattle.updates.specs.declared.standing.Standing.the-variants.{At, Struck}
 use Rattle.bundles.specs.declared.entry.Entry as Sent
-use Rattle.plain.specs.Calls.{Call, Update, Query, Yield, Fork, Join, Show, Fill, Bundle, Answer, Preview, Entries, Records}
+use Rattle.desk.specs.Calls.{Call, Update, Query, Yield, Fork, Join, Bundle, Looks, Show, Fill, Preview, Entries, Records, Answer, plainly, reading, level, answerOn}
 use Rattle.plain.specs.Answers.{answers}
 
--- what a call gives
-pub record Said : Type 0 where
-  pub code : ℕ
-  pub state : State
-  pub value : ℕ
-  pub total : ℕ
-  pub gain : ℕ
+-- what a call gives, the sheet apart
+abbrev pub Said : Type 0
+Said = Answer (Unit {0})
 
 pub record Edge : Type 0 where
-  pub calls : List Call
+  pub calls : List (Call ℕ)
   pub says : List Said
 
-abbrev edge : List Call → List Said → Edge
+abbrev edge : List (Call ℕ) → List Said → Edge
 edge calls says = record { calls = calls; says = says }
 
 -- refused; a query that finds a bib timed, neither or struck; any other call that is taken
 abbrev pub refusal : ℕ → Said
-refusal code = record { code = code; state = state.Neither; value = 0; total = 0; gain = 0 }
+refusal code = plainly code 0 tt
 
 abbrev pub timed : ℕ → Said
-timed value = record { code = 0; state = state.Timed; value = value; total = 0; gain = 0 }
+timed value = reading (At value) 0 tt
 
 abbrev pub neither : Said
-neither = record { code = 0; state = state.Neither; value = 0; total = 0; gain = 0 }
+neither = reading (At 0) 0 tt
 
 abbrev struck : Said
-struck = record { code = 0; state = state.Struck; value = 0; total = 0; gain = 0 }
+struck = reading Struck 0 tt
 
 abbrev pub ok : ℕ → Said
-ok value = record { code = 0; state = state.Neither; value = value; total = 0; gain = 0 }
+ok value = plainly 0 value tt
 
 -- a fill: a revision's own updates, and those of the whole table
 abbrev pub filled : ℕ → ℕ → Said
-filled own total = record { code = 0; state = state.Neither; value = own; total = total; gain = 0 }
+filled own total = level own total tt
 
--- a preview, by what a query there would say, and its gain
-abbrev previewed : Said → ℕ → Said
-previewed s gain = record { code = s .code; state = s .state; value = s .value; total = 0; gain = gain }
+-- a preview, by how the bib stands there, and its gain
+abbrev at : ℕ → ℕ → Said
+at value gain = reading (At value) gain tt
+
+abbrev off : ℕ → Said
+off gain = reading Struck gain tt
+
+-- the calls that only look
+abbrev pub list : ℕ → ℕ → Call ℕ
+list n room = Looks (Show n room)
+
+abbrev pub fill : ℕ → Call ℕ
+fill n = Looks (Fill n)
+
+abbrev preview : ℕ → ℕ → ℕ → Call ℕ
+preview n m bib = Looks (Preview n m bib)
 
 -- the numbers of the kinds
 abbrev time : ℕ
@@ -71,7 +79,7 @@ unknownBib = time ∷ 0 ∷ 232 ∷ 3 ∷ 5 ∷ 0 ∷ 0 ∷ 0 ∷ 0 ∷ 0 ∷ 0 
 abbrev pub lent : ℕ → ℕ → ℕ → Sent.Entry
 lent kind bib v = record { kind = kind; bib = bib; v = v }
 
-abbrev pub sends : ℕ → ℕ → List ℕ → Call
+abbrev pub sends : ℕ → ℕ → List ℕ → Call ℕ
 sends c n bytes = Bundle c n (Records bytes)
 
 abbrev pub edges : List Edge
@@ -120,15 +128,15 @@ codes =
     (Update 16 9 0 1000 0 ∷ Update 0 9 0 1000 0 ∷ Update 0 0 0 7 0 ∷ Update 0 0 5 7 0 ∷ Update 0 0 strike 999 1 ∷ [])
     (refusal 2 ∷ refusal 3 ∷ refusal 5 ∷ refusal 5 ∷ ok 0 ∷ [])
     ∷ edge
-    (Fork 0 ∷ Join 0 1 ∷ Update 0 1 0 1000 0 ∷ Query 0 1 1000 ∷ Show 1 0 ∷ Join 0 1 ∷ Show 0 0 ∷ [])
+    (Fork 0 ∷ Join 0 1 ∷ Update 0 1 0 1000 0 ∷ Query 0 1 1000 ∷ list 1 0 ∷ Join 0 1 ∷ list 0 0 ∷ [])
     (ok 1 ∷ ok 0 ∷ refusal 4 ∷ refusal 4 ∷ refusal 4 ∷ refusal 4 ∷ ok 0 ∷ [])
     ∷ edge
-    (Fork 0 ∷ Update 0 0 time 7 5 ∷ Update 1 1 time 7 6 ∷ Update 0 1 time 7 6 ∷ Update 2 1 time 7 6 ∷ Show 1 0 ∷ Fork 1 ∷ Join 0 1
-    ∷ Yield 0 ∷ Yield 1 ∷ Update 0 1 time 7 6 ∷ Show 1 11 ∷ Show 1 12 ∷ Join 0 1 ∷ [])
+    (Fork 0 ∷ Update 0 0 time 7 5 ∷ Update 1 1 time 7 6 ∷ Update 0 1 time 7 6 ∷ Update 2 1 time 7 6 ∷ list 1 0 ∷ Fork 1 ∷ Join 0 1
+    ∷ Yield 0 ∷ Yield 1 ∷ Update 0 1 time 7 6 ∷ list 1 11 ∷ list 1 12 ∷ Join 0 1 ∷ [])
     (ok 1 ∷ ok 0 ∷ ok 1 ∷ refusal 6 ∷ refusal 7 ∷ refusal 7 ∷ refusal 7 ∷ refusal 7 ∷ ok 0 ∷ ok 0 ∷ refusal 8 ∷ refusal 12 ∷ ok 1 ∷ ok 1 ∷ [])
     -- the calls other than update: 2, 3 and 4; a joinee that was never sent before a joiner that is handed in, and 4 before 11
     ∷ edge
-    (Query 16 1 1000 ∷ Query 0 1 1000 ∷ Yield 16 ∷ Yield 15 ∷ Fork 1 ∷ Join 1 0 ∷ Join 0 1 ∷ Show 1 0 ∷ Fork 0 ∷ Join 0 1 ∷ Fork 1 ∷ Join 1 2
+    (Query 16 1 1000 ∷ Query 0 1 1000 ∷ Yield 16 ∷ Yield 15 ∷ Fork 1 ∷ Join 1 0 ∷ Join 0 1 ∷ list 1 0 ∷ Fork 0 ∷ Join 0 1 ∷ Fork 1 ∷ Join 1 2
     ∷ Join 1 0 ∷ [])
     (refusal 2 ∷ refusal 3 ∷ refusal 2 ∷ ok 0 ∷ refusal 3 ∷ refusal 3 ∷ refusal 3 ∷ refusal 3 ∷ ok 1 ∷ ok 0 ∷ refusal 4 ∷ refusal 3 ∷ refusal 4 ∷ [])
     -- join: 7 of either box; query: 6, 7 and 8, each before the next
@@ -137,50 +145,50 @@ codes =
     (ok 1 ∷ neither ∷ refusal 7 ∷ refusal 7 ∷ refusal 7 ∷ neither ∷ refusal 5 ∷ refusal 6 ∷ ok 0 ∷ refusal 7 ∷ ok 0 ∷ refusal 8 ∷ [])
     -- fill (02, U1): 3 and 4; what was inherited does not count, what was joined in does, through others too, and a busy box is told
     ∷ edge
-    (Update 0 0 time 7 5 ∷ Yield 0 ∷ Fork 0 ∷ Fork 1 ∷ Update 1 1 time 7 6 ∷ Update 2 2 time 7 7 ∷ Fill 0 ∷ Fill 1 ∷ Fill 2 ∷ Fill 3
-    ∷ Yield 1 ∷ Yield 2 ∷ Join 1 2 ∷ Fill 1 ∷ Fill 2 ∷ Join 0 1 ∷ Fill 0 ∷ Fill 1 ∷ [])
+    (Update 0 0 time 7 5 ∷ Yield 0 ∷ Fork 0 ∷ Fork 1 ∷ Update 1 1 time 7 6 ∷ Update 2 2 time 7 7 ∷ fill 0 ∷ fill 1 ∷ fill 2 ∷ fill 3
+    ∷ Yield 1 ∷ Yield 2 ∷ Join 1 2 ∷ fill 1 ∷ fill 2 ∷ Join 0 1 ∷ fill 0 ∷ fill 1 ∷ [])
     (ok 0 ∷ ok 0 ∷ ok 1 ∷ ok 2 ∷ ok 1 ∷ ok 2 ∷ filled 1 3 ∷ filled 1 3 ∷ filled 1 3 ∷ refusal 3
     ∷ ok 0 ∷ ok 0 ∷ ok 1 ∷ filled 2 3 ∷ refusal 4 ∷ ok 2 ∷ filled 3 3 ∷ refusal 4 ∷ [])
     -- bundle (02, U4): an open transaction is continued and closed; the value is the first entry's number
     ∷ edge
-    (Update 0 0 time 8 9 ∷ sends 0 0 (small time 7 50 ++ small earliest 7 40 ++ small strike 8 1) ∷ Fork 0 ∷ Query 1 0 7 ∷ Query 1 0 8 ∷ Fill 0 ∷ sends 0 1 (small time 7 1) ∷ [])
+    (Update 0 0 time 8 9 ∷ sends 0 0 (small time 7 50 ++ small earliest 7 40 ++ small strike 8 1) ∷ Fork 0 ∷ Query 1 0 7 ∷ Query 1 0 8 ∷ fill 0 ∷ sends 0 1 (small time 7 1) ∷ [])
     (ok 0 ∷ ok 1 ∷ ok 1 ∷ timed 40 ∷ struck ∷ filled 4 4 ∷ ok 4 ∷ [])
     -- 14 before 2; then all checks of the first entry, 5 of it before 7, then of the next; the earliest refusal is given and nothing is taken
     ∷ edge
     (sends 16 9 [] ∷ sends 16 9 (1 ∷ small time 7 5) ∷ sends 16 9 (small time 7 5) ∷ sends 0 9 unknownBib ∷ sends 0 0 (small time 7 5 ++ small 5 7 5 ++ small time 7 5)
-    ∷ sends 0 0 (small time 7 5 ++ unknownBib) ∷ Fill 0 ∷ Query 1 0 7 ∷ sends 0 0 (unknownBib ++ small time 7 5) ∷ sends 0 0 (small time 7 5 ++ unknownBib) ∷ sends 1 0 (small time 7 5) ∷ sends 0 0 (small time 7 6) ∷ [])
+    ∷ sends 0 0 (small time 7 5 ++ unknownBib) ∷ fill 0 ∷ Query 1 0 7 ∷ sends 0 0 (unknownBib ++ small time 7 5) ∷ sends 0 0 (small time 7 5 ++ unknownBib) ∷ sends 1 0 (small time 7 5) ∷ sends 0 0 (small time 7 6) ∷ [])
     (refusal 14 ∷ refusal 14 ∷ refusal 2 ∷ refusal 3 ∷ refusal 5
     ∷ refusal 5 ∷ filled 0 0 ∷ neither ∷ refusal 5 ∷ refusal 7 ∷ ok 0 ∷ ok 1 ∷ [])
     -- the same as a lent list of entries: of 14 only the count can apply
     ∷ edge
-    (Bundle 16 9 (Entries []) ∷ Bundle 16 0 (Entries (lent time 7 5 ∷ [])) ∷ Bundle 0 0 (Entries (lent time 7 5 ∷ lent time 1000 5 ∷ [])) ∷ Fill 0 ∷ Update 0 0 time 8 9
-    ∷ Bundle 0 0 (Entries (lent time 7 50 ∷ lent earliest 7 40 ∷ lent strike 8 1 ∷ [])) ∷ Query 1 0 7 ∷ Query 1 0 8 ∷ Fill 0 ∷ [])
+    (Bundle 16 9 (Entries []) ∷ Bundle 16 0 (Entries (lent time 7 5 ∷ [])) ∷ Bundle 0 0 (Entries (lent time 7 5 ∷ lent time 1000 5 ∷ [])) ∷ fill 0 ∷ Update 0 0 time 8 9
+    ∷ Bundle 0 0 (Entries (lent time 7 50 ∷ lent earliest 7 40 ∷ lent strike 8 1 ∷ [])) ∷ Query 1 0 7 ∷ Query 1 0 8 ∷ fill 0 ∷ [])
     (refusal 14 ∷ refusal 2 ∷ refusal 5 ∷ filled 0 0 ∷ ok 0
     ∷ ok 1 ∷ timed 40 ∷ struck ∷ filled 4 4 ∷ [])
     ∷ edge (Update 0 0 time 7 5 ∷ Update 0 0 time 8 6 ∷ Query 0 0 7 ∷ Query 0 0 8 ∷ Query 0 0 9 ∷ []) (ok 0 ∷ ok 1 ∷ timed 5 ∷ timed 6 ∷ neither ∷ [])
     -- preview (02, U6) on the day of E1: 7 of either box; then, before the join, what the query after it gives, with the join's gain;
     -- of another bib neither, with the same gain; nothing is moved by it
     ∷ edge
-    (Update 0 0 time 7 61000 ∷ Yield 0 ∷ Fork 0 ∷ Update 1 1 penalty 7 5000 ∷ Preview 0 1 7 ∷ Yield 1 ∷ Update 0 0 time 7 60000 ∷ Preview 0 1 7
-    ∷ Yield 0 ∷ Preview 0 1 7 ∷ Preview 0 1 8 ∷ Query 0 0 7 ∷ Yield 0 ∷ Preview 0 1 7 ∷ Join 0 1 ∷ Query 1 0 7 ∷ [])
+    (Update 0 0 time 7 61000 ∷ Yield 0 ∷ Fork 0 ∷ Update 1 1 penalty 7 5000 ∷ preview 0 1 7 ∷ Yield 1 ∷ Update 0 0 time 7 60000 ∷ preview 0 1 7
+    ∷ Yield 0 ∷ preview 0 1 7 ∷ preview 0 1 8 ∷ Query 0 0 7 ∷ Yield 0 ∷ preview 0 1 7 ∷ Join 0 1 ∷ Query 1 0 7 ∷ [])
     (ok 0 ∷ ok 0 ∷ ok 1 ∷ ok 1 ∷ refusal 7 ∷ ok 0 ∷ ok 2 ∷ refusal 7
-    ∷ ok 0 ∷ previewed (timed 65000) 1 ∷ previewed neither 1 ∷ timed 60000 ∷ ok 0 ∷ previewed (timed 65000) 1 ∷ ok 1 ∷ timed 65000 ∷ [])
+    ∷ ok 0 ∷ at 65000 1 ∷ at 0 1 ∷ timed 60000 ∷ ok 0 ∷ at 65000 1 ∷ ok 1 ∷ timed 65000 ∷ [])
     -- its refusals are those of the join, in the join's order, and 5 comes last
     ∷ edge
-    (Fork 0 ∷ Preview 0 2 1000 ∷ Preview 2 0 7 ∷ Preview 1 0 1000 ∷ Preview 0 0 7 ∷ Preview 0 1 1000 ∷ Preview 0 1 999 ∷ Query 3 0 7 ∷ Preview 0 0 1000 ∷ Yield 3
-    ∷ Join 0 1 ∷ Preview 0 1 1000 ∷ Preview 1 0 7 ∷ Preview 1 2 1000 ∷ [])
+    (Fork 0 ∷ preview 0 2 1000 ∷ preview 2 0 7 ∷ preview 1 0 1000 ∷ preview 0 0 7 ∷ preview 0 1 1000 ∷ preview 0 1 999 ∷ Query 3 0 7 ∷ preview 0 0 1000 ∷ Yield 3
+    ∷ Join 0 1 ∷ preview 0 1 1000 ∷ preview 1 0 7 ∷ preview 1 2 1000 ∷ [])
     (ok 1 ∷ refusal 3 ∷ refusal 3 ∷ refusal 11 ∷ refusal 11 ∷ refusal 5 ∷ neither ∷ neither ∷ refusal 7 ∷ ok 0
     ∷ ok 0 ∷ refusal 4 ∷ refusal 4 ∷ refusal 3 ∷ [])
     -- it finds a bib struck; what the joinee inherited is not applied again, and what was joined into it is
     ∷ edge
     (Update 0 0 time 7 100 ∷ Update 0 0 penalty 7 10 ∷ Yield 0 ∷ Fork 0 ∷ Fork 1 ∷ Update 0 0 penalty 7 5 ∷ Yield 0 ∷ Update 1 1 penalty 7 1 ∷ Yield 1
-    ∷ Update 2 2 strike 8 0 ∷ Yield 2 ∷ Preview 0 1 7 ∷ Preview 0 1 8 ∷ Preview 1 2 8 ∷ Join 1 2 ∷ Preview 0 1 7 ∷ Preview 0 1 8 ∷ [])
+    ∷ Update 2 2 strike 8 0 ∷ Yield 2 ∷ preview 0 1 7 ∷ preview 0 1 8 ∷ preview 1 2 8 ∷ Join 1 2 ∷ preview 0 1 7 ∷ preview 0 1 8 ∷ [])
     (ok 0 ∷ ok 1 ∷ ok 0 ∷ ok 1 ∷ ok 2 ∷ ok 2 ∷ ok 0 ∷ ok 3 ∷ ok 0
-    ∷ ok 4 ∷ ok 0 ∷ previewed (timed 116) 1 ∷ previewed neither 1 ∷ previewed struck 1 ∷ ok 1 ∷ previewed (timed 116) 2 ∷ previewed struck 2 ∷ [])
+    ∷ ok 4 ∷ ok 0 ∷ at 116 1 ∷ at 0 1 ∷ off 1 ∷ ok 1 ∷ at 116 2 ∷ off 2 ∷ [])
     ∷ []
 
 -- forks of box 0 and what they give: the numbers from one on
-abbrev forks : ℕ → List Call
+abbrev forks : ℕ → List (Call ℕ)
 forks n = replicate n (Fork 0)
 
 abbrev upFrom : ℕ → ℕ → List Said
@@ -207,20 +215,20 @@ reused =
     -- a number handed in: 4. Used again, it means the new box, which shows what that one sees and not what the earlier bearer did; a client whose last
     -- event is there may go on only where that event is seen
     ∷ edge
-    (forks 63 ++ (Update 1 5 time 7 50 ∷ Yield 1 ∷ Fill 5 ∷ Join 0 5 ∷ Query 1 5 7 ∷ Show 5 0 ∷ Fill 5 ∷ Fork 5 ∷ Join 0 5 ∷ Join 5 4 ∷ Preview 0 5 7
-    ∷ Fork 63 ∷ Query 1 5 7 ∷ Query 2 5 7 ∷ Yield 2 ∷ Show 5 0 ∷ Fill 5 ∷ Query 1 0 7 ∷ Yield 1 ∷ Join 0 5 ∷ Join 0 63 ∷ Join 0 5 ∷ [])
+    (forks 63 ++ (Update 1 5 time 7 50 ∷ Yield 1 ∷ fill 5 ∷ Join 0 5 ∷ Query 1 5 7 ∷ list 5 0 ∷ fill 5 ∷ Fork 5 ∷ Join 0 5 ∷ Join 5 4 ∷ preview 0 5 7
+    ∷ Fork 63 ∷ Query 1 5 7 ∷ Query 2 5 7 ∷ Yield 2 ∷ list 5 0 ∷ fill 5 ∷ Query 1 0 7 ∷ Yield 1 ∷ Join 0 5 ∷ Join 0 63 ∷ Join 0 5 ∷ [])
     )
     (upFrom 1 63 ++ (ok 0 ∷ ok 0 ∷ filled 1 1 ∷ ok 1 ∷ refusal 4 ∷ refusal 4 ∷ refusal 4 ∷ refusal 4 ∷ refusal 4 ∷ refusal 4 ∷ refusal 4
     ∷ ok 5 ∷ refusal 8 ∷ neither ∷ ok 0 ∷ ok 0 ∷ filled 0 1 ∷ timed 50 ∷ ok 0 ∷ refusal 11 ∷ ok 0 ∷ ok 0 ∷ []))
     -- the same with a new bearer that sees the event: the client goes on there, and what it enters is the new box's own
     ∷ edge
-    (forks 63 ++ (Update 1 5 time 7 50 ∷ Yield 1 ∷ Join 0 5 ∷ Fork 0 ∷ Query 1 5 7 ∷ Update 1 5 penalty 7 5 ∷ Query 1 5 7 ∷ Yield 1 ∷ Fill 5 ∷ Show 5 24 ∷ Query 1 0 7 ∷ Join 0 5 ∷ Query 1 0 7 ∷ []))
+    (forks 63 ++ (Update 1 5 time 7 50 ∷ Yield 1 ∷ Join 0 5 ∷ Fork 0 ∷ Query 1 5 7 ∷ Update 1 5 penalty 7 5 ∷ Query 1 5 7 ∷ Yield 1 ∷ fill 5 ∷ list 5 24 ∷ Query 1 0 7 ∷ Join 0 5 ∷ Query 1 0 7 ∷ []))
     (upFrom 1 63 ++ (ok 0 ∷ ok 0 ∷ ok 1 ∷ ok 5 ∷ timed 50 ∷ ok 1 ∷ timed 55 ∷ ok 0 ∷ filled 1 2 ∷ ok 2 ∷ refusal 8 ∷ ok 1 ∷ timed 55 ∷ []))
     ∷ []
 
-abbrev pub said : List Answer → List Said
+abbrev pub said : {S : Type 0} → List (Answer S) → List Said
 said [] = []
-said (a ∷ more) = record { code = a .code; state = a .state; value = a .value; total = a .total; gain = a .gain } ∷ said more
+said (a ∷ more) = answerOn (λ s. tt) a ∷ said more
 
 abbrev pub expected : List Edge → List (List Said)
 expected [] = []

@@ -7,37 +7,35 @@ use mathlib.Core.List.{List, [], _∷_}
 use lib.Dec.{eqb}
 use lib.ListN.{length}
 use Rattle.lists.specs.Sums.{sumBelow}
-use Rattle.plain.specs.Calls.{Call, Update, Query, Yield, Fork, Join, Show, Fill, Bundle, Answer, Preview, entriesOf}
+use Rattle.desk.specs.Calls.{Call, Update, Query, Yield, Fork, Join, Bundle, Looks, Fill, Answer, entriesOf}
 use Rattle.plain.specs.Record.{PlainDay}
 use Rattle.plain.specs.Answers.{called, dayAfter, answers}
 
 -- what a fill of each number given out tells; of one that is joined (01: handed in) it tells 0
 abbrev pub fillSum : PlainDay → ℕ
-fillSum p = sumBelow (p .day .numbering .given) (λ n. called p (Fill n) .answer .value)
+fillSum p = sumBelow (p .day .numbering .given) (λ n. called p (Looks (Fill n)) .answer .value)
 
--- the history: the calls and the codes of their answers. An update with code 0 was accepted, and of a bundle with
--- code 0 each of its updates.
-abbrev pub countsOne : Call → ℕ → ℕ
-countsOne (Update c n k bib v) code = cond (eqb code 0) 1 0
-countsOne (Query c n bib) code = 0
-countsOne (Yield c) code = 0
-countsOne (Fork n) code = 0
-countsOne (Join n m) code = 0
-countsOne (Show n room) code = 0
-countsOne (Fill n) code = 0
-countsOne (Bundle c n batch) code = cond (eqb code 0) (length (entriesOf batch)) 0
-countsOne (Preview n m bib) code = 0
+-- how many updates a call enters
+abbrev pub enters : Call ℕ → ℕ
+enters (Update c n k bib v) = 1
+enters (Query c n bib) = 0
+enters (Yield c) = 0
+enters (Fork n) = 0
+enters (Join n m) = 0
+enters (Bundle c n batch) = length (entriesOf batch)
+enters (Looks l) = 0
 
-unfoldable pub acceptedIn : List Call → List ℕ → ℕ
+-- the history: the calls and the codes of their answers; a call with code 0 was accepted
+unfoldable pub acceptedIn : List (Call ℕ) → List ℕ → ℕ
 acceptedIn [] codes = 0
 acceptedIn (c ∷ cs) [] = 0
-acceptedIn (c ∷ cs) (code ∷ codes) = countsOne c code + acceptedIn cs codes
+acceptedIn (c ∷ cs) (code ∷ codes) = cond (eqb code 0) (enters c) 0 + acceptedIn cs codes
 
-abbrev pub codesOf : List Answer → List ℕ
+abbrev pub codesOf : {S : Type 0} → List (Answer S) → List ℕ
 codesOf [] = []
 codesOf (a ∷ more) = a .code ∷ codesOf more
 
-pub record FillsAddUp (cs : List Call) : Type 0 where
+pub record FillsAddUp (cs : List (Call ℕ)) : Type 0 where
   pub sum : fillSum (dayAfter cs) ≡ acceptedIn cs (codesOf (answers cs))
   -- "the number taken by the whole table" is the same number
-  pub total : (n : ℕ) → called (dayAfter cs) (Fill n) .answer .code ≡ 0 → called (dayAfter cs) (Fill n) .answer .total ≡ acceptedIn cs (codesOf (answers cs))
+  pub total : (n : ℕ) → called (dayAfter cs) (Looks (Fill n)) .answer .code ≡ 0 → called (dayAfter cs) (Looks (Fill n)) .answer .total ≡ acceptedIn cs (codesOf (answers cs))

@@ -1,6 +1,5 @@
--- What a reader has to believe of whole days: the calls, the record on paper, each call's answer, the claim about every
+-- What a reader has to believe of whole days: the record on paper, each call's answer, the claim about every
 -- list of calls, and 02's U1, U4 and U6. It is fed the calls' arguments alone.
-pub mod Calls
 pub mod Record
 pub mod Answers
 pub mod Edges

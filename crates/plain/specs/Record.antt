@@ -8,11 +8,16 @@ use Rattle.updates.specs.declared.kind.Kind.the-variants.{Time}
 use Rattle.updates.specs.declared.standing.Standing.{Standing}
 use Rattle.updates.specs.Applied as Applied
 use Rattle.updates.specs.Applied.{Update, applied, freshStanding}
+use Rattle.entries.specs.declared.entry.Entry.{Entry}
 use Rattle.diagram.specs.Effects.{view}
 use Rattle.diagram.specs.Day as Day
 use Rattle.diagram.specs.Day.{Day}
 use Rattle.diagram.specs.Steps.{Event, after}
-use Rattle.plain.specs.Calls.{Entry, Line}
+
+-- a line of the listing: "kind (1 byte), tablet (1), bib (2), v (4), update's number (4)"
+pub record Line : Type 0 where
+  pub entry : Entry
+  pub number : ℕ
 
 -- "It keeps the diagram, .. the updates taken, numbered from 0, .."
 pub record PlainDay : Type 0 where

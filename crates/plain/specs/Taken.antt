@@ -1,52 +1,42 @@
 -- The calls that are taken, as steps of the day of revisions.
-use Prim.Native.Nat.{ℕ, zero, suc}
-use mathlib.Core.Bool.{false, true}
-use mathlib.Core.Option.{Option, none, some}
+use Prim.Native.Nat.{ℕ}
+use mathlib.Core.Bool.{cond, false, true}
 use mathlib.Core.List.{List, [], _∷_, _++_}
+use lib.Dec.{eqb}
 use Rattle.bundles.specs.declared.entry.Entry.{Entry}
+use Rattle.desk.specs.Calls.{Call, Update, Query, Yield, Fork, Join, Bundle, Looks, entriesOf}
 use Rattle.diagram.specs.Day.{Day, meant}
 use Rattle.diagram.specs.Steps as Steps
 use Rattle.diagram.specs.Steps.{Step, Event}
-use Rattle.plain.specs.Calls.{Call, Update, Query, Yield, Fork, Join, Show, Fill, Bundle, Preview, entriesOf}
 use Rattle.plain.specs.Record.{PlainDay, freshDay}
 use Rattle.plain.specs.Answers.{called, dayAfter}
-
--- the step that a call is, where its numbers mean revisions
-abbrev pub onRevision : Option ℕ → (ℕ → List Step) → List Step
-onRevision none f = []
-onRevision (some r) f = f r
 
 -- 02, U4: a bundle is its updates and a yield
 abbrev pub bundleSteps : ℕ → ℕ → List Entry → List Step
 bundleSteps c r [] = Steps.Yield c ∷ []
 bundleSteps c r (e ∷ es) = Event c r true ∷ bundleSteps c r es
 
-abbrev pub stepOf : PlainDay → Call → List Step
-stepOf p (Update c n k bib v) = onRevision (meant (p .day) n) (λ r. Event c r true ∷ [])
-stepOf p (Query c n bib) = onRevision (meant (p .day) n) (λ r. Event c r false ∷ [])
+-- the steps that a call is
+abbrev pub stepOf : PlainDay → Call ℕ → List Step
+stepOf p (Update c n k bib v) = Event c (meant (p .day) n) true ∷ []
+stepOf p (Query c n bib) = Event c (meant (p .day) n) false ∷ []
 stepOf p (Yield c) = Steps.Yield c ∷ []
-stepOf p (Fork n) = onRevision (meant (p .day) n) (λ r. Steps.Fork r ∷ [])
-stepOf p (Join n m) = onRevision (meant (p .day) n) (λ a. onRevision (meant (p .day) m) (λ b. Steps.Join a b ∷ []))
-stepOf p (Show n room) = []
-stepOf p (Fill n) = []
-stepOf p (Bundle c n batch) = onRevision (meant (p .day) n) (λ r. bundleSteps c r (entriesOf batch))
-stepOf p (Preview n m bib) = []
+stepOf p (Fork n) = Steps.Fork (meant (p .day) n) ∷ []
+stepOf p (Join n m) = Steps.Join (meant (p .day) n) (meant (p .day) m) ∷ []
+stepOf p (Bundle c n batch) = bundleSteps c (meant (p .day) n) (entriesOf batch)
+stepOf p (Looks l) = []
 
--- the steps of a call that ended with a code: none if it was refused
-abbrev pub ifTaken : ℕ → List Step → List Step
-ifTaken zero ss = ss
-ifTaken (suc k) ss = []
+-- a call that was refused is none
+abbrev pub stepsOf : PlainDay → Call ℕ → List Step
+stepsOf p c = cond (eqb (called p c .answer .code) 0) (stepOf p c) []
 
-abbrev pub stepsOf : PlainDay → Call → List Step
-stepsOf p c = ifTaken (called p c .answer .code) (stepOf p c)
-
-unfoldable pub stepsFrom : PlainDay → List Call → List Step
+unfoldable pub stepsFrom : PlainDay → List (Call ℕ) → List Step
 stepsFrom p [] = []
 stepsFrom p (c ∷ cs) = stepsOf p c ++ stepsFrom (called p c .next) cs
 
-abbrev pub stepsAfter : List Call → List Step
+abbrev pub stepsAfter : List (Call ℕ) → List Step
 stepsAfter cs = stepsFrom freshDay cs
 
 -- the day of revisions after a list of calls
-abbrev pub endOf : List Call → Day
+abbrev pub endOf : List (Call ℕ) → Day
 endOf cs = dayAfter cs .day

@@ -12,34 +12,33 @@ use Rattle.records.specs.declared.file.FileCheck.the-variants.{Good, Bad}
 use Rattle.records.specs.declared.step.Step.{Step}
 use Rattle.records.specs.declared.step.Step.the-variants.{Update, Query, Yield, Fork, Join, Unknown}
 use Rattle.plain.specs.Record.{PlainDay}
-use Rattle.table.specs.Halves.{bytes}
+use Rattle.table.specs.Out.{bytes}
 use Rattle.consistency.proofs.Table.Stands.{Stands}
-use Rattle.consistency.proofs.Table.Same.{Same}
-use Rattle.consistency.proofs.Table.Calls.{OnTable, update-same, query-same, yield-same, fork-same, join-same}
+use Rattle.consistency.proofs.Table.Calls.{OnTable, refused-same, update-same, query-same, yield-same, fork-same, join-same}
 use Rattle.consistency.proofs.Table.Follows.{fresh-stands}
 use Rattle.report.specs.Run.{stepOut, tableAfter}
 use Rattle.report.specs.Printed.{lines, lineFeed, freshTable, day, printed, printedAs}
 use Rattle.printed.specs.Paper.{outcome, paperAfter, paperLines, paperAs, paper, PrintedIsPaper}
 
-step-same : (p : PlainDay) (t : List ℕ) (S : Stands p t) (s : Step) → Same (OnTable p t S) (outcome p s) (stepOut t s)
+step-same : (p : PlainDay) (t : List ℕ) (S : Stands p t) (s : Step) → OnTable p t S (stepOut t s) (outcome p s)
 step-same p t S (Update c n k bib v) = update-same p t S c n k bib v
 step-same p t S (Query c n bib) = query-same p t S c n bib
 step-same p t S (Yield c) = yield-same p t S c
 step-same p t S (Fork n) = fork-same p t S n
 step-same p t S (Join n m) = join-same p t S n m
-step-same p t S Unknown = record { code = refl; state = refl; value = refl; total = refl; gain = refl; lent = S }
+step-same p t S Unknown = refused-same p t S 13
 
 stands : (f : List ℕ) (i : ℕ) → Stands (paperAfter f i) (tableAfter freshTable f i)
 unfolding paperAfter tableAfter freshTable
 stands f zero = fresh-stands (replicate bytes 0) (length-replicate {A = ℕ} bytes 0)
-stands f (suc i) = step-same (paperAfter f i) (tableAfter freshTable f i) (stands f i) (stepAt f i) .lent
+stands f (suc i) = step-same (paperAfter f i) (tableAfter freshTable f i) (stands f i) (stepAt f i) .stands
 
 lines-same : (f : List ℕ) (n : ℕ) → lines freshTable f n ≡ paperLines f n
 unfolding lines paperLines
 lines-same f zero = refl
 lines-same f (suc i) =
-    let h = step-same (paperAfter f i) (tableAfter freshTable f i) (stands f i) (stepAt f i) in
-    rw (h .code, h .state, h .value, lines-same f i)
+    let h = step-same (paperAfter f i) (tableAfter freshTable f i) (stands f i) (stepAt f i) .reply in
+    rw (ap (λ r. r .code) h, ap (λ r. r .state) h, ap (λ r. r .value) h, lines-same f i)
 
 same-text : (c : FileCheck) (f : List ℕ) → printedAs c f ≡ paperAs c f
 unfolding day

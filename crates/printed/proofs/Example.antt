@@ -9,7 +9,7 @@ use Rattle.updates.specs.Applied.{applied}
 use Rattle.diagram.specs.Sizes.{revisionLimit, clientLimit, updateLimit}
 use Rattle.diagram.specs.Diagram.{leads}
 use Rattle.diagram.specs.Effects.{tabulate}
-use Rattle.diagram.specs.Day.{meant, nextNumber}
+use Rattle.diagram.specs.Day.{isGiven, meant, nextNumber}
 use Rattle.diagram.specs.Checks.{unknownClient, openElsewhere, busyByOther, busy, stale, logFull, noneLeft, notJoinable}
 use Rattle.diagram.specs.Steps.{after}
 use Rattle.plain.specs.Answers.{called}
@@ -37,7 +37,7 @@ unfolding crossing number stepAt stepOf
 as-named = refl
 
 on-paper : paper crossing ≡ given
-unfolding crossing given paper paperLines paperAfter fileCheck number stepAt stepOf line valueText decimal places called after leads tabulate meant nextNumber unknownClient openElsewhere busyByOther busy anyBelow stale logFull noneLeft notJoinable revisionLimit clientLimit updateLimit kindCheck effect earliest penalized stateOf valueIn applied
+unfolding crossing given paper paperLines paperAfter fileCheck number stepAt stepOf line valueText decimal places called after leads tabulate isGiven meant nextNumber unknownClient openElsewhere busyByOther busy anyBelow stale logFull noneLeft notJoinable revisionLimit clientLimit updateLimit kindCheck effect earliest penalized stateOf valueIn applied
 on-paper = refl
 
 pub example-printed : printed crossing ≡ given

@@ -11,9 +11,9 @@ use Rattle.records.specs.declared.file.FileCheck.{FileCheck}
 use Rattle.records.specs.declared.file.FileCheck.the-variants.{Good, Bad}
 use Rattle.records.specs.declared.step.Step.{Step}
 use Rattle.records.specs.declared.step.Step.the-variants.{Update, Query, Yield, Fork, Join, Unknown}
-use Rattle.plain.specs.Calls as Call
-use Rattle.plain.specs.Calls.{Answer}
-use Rattle.plain.specs.Record.{PlainDay, freshDay}
+use Rattle.desk.specs.Calls as Call
+use Rattle.desk.specs.Calls.{Answer}
+use Rattle.plain.specs.Record.{Line, PlainDay, freshDay}
 use Rattle.plain.specs.Answers.{Outcome, called, refused}
 use Rattle.report.specs.Printed.{line, lineFeed, printed}
 
@@ -31,7 +31,7 @@ unfoldable pub paperAfter : List ℕ → ℕ → PlainDay
 paperAfter f zero = freshDay
 paperAfter f (suc i) = outcome (paperAfter f i) (stepAt f i) .next
 
-abbrev pub answerAt : List ℕ → ℕ → Answer
+abbrev pub answerAt : List ℕ → ℕ → Answer (List Line)
 answerAt f i = outcome (paperAfter f i) (stepAt f i) .answer
 
 -- "one line a record: index from 0, code, value"

@@ -8,7 +8,8 @@ use Rattle.cells.specs.Order.{order}
 use Rattle.entries.specs.Sizes as Upper
 use Rattle.entries.specs.Entries.{entryAt}
 use Rattle.entries.specs.Folded.{standingOf}
-use Rattle.table.specs.Halves.{bytes, high, cellsOf}
+use Rattle.table.specs.Halves.{high, cellsOf}
+use Rattle.table.specs.Out.{bytes}
 use Rattle.table.specs.Calls.{standingAt}
 use Rattle.table.proofs.Halves.{high-whole}
 

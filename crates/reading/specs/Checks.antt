@@ -1,3 +1,4 @@
+-- No claim rests on this file: it serves the code.
 -- What the checks of a query find, in their order.
 use Prim.Native.Nat.{ℕ}
 use mathlib.Core.Bool.{cond}

@@ -7,8 +7,10 @@ use lib.ListN.{length, replicate, length-replicate}
 use borrow.Author.Tests.{eq-eqb}
 use Rattle.cells.specs.Steps.{freshBytes}
 use Rattle.entries.specs.Sizes as Upper
-use Rattle.table.specs.Halves.{bytes}
-use Rattle.table.specs.Answers.{Out, check, taken}
+use Rattle.table.specs.Out.{bytes}
+use Rattle.table.specs.Answers.{taken}
+use Rattle.table.specs.Out.{Out}
+use Rattle.table.specs.Found.{check}
 use Rattle.table.specs.Calls.{freshOut}
 use Rattle.report.specs.Printed.{freshTable}
 

@@ -11,7 +11,7 @@ use Rattle.text.specs.Decimal.{ended}
 use Rattle.records.specs.File.{fileCheck}
 use Rattle.records.specs.declared.file.FileCheck.{FileCheck}
 use Rattle.records.specs.declared.file.FileCheck.the-variants.{Good, Bad}
-use Rattle.table.specs.Halves.{bytes}
+use Rattle.table.specs.Out.{bytes}
 use Rattle.table.specs.Calls.{freshOut}
 use Rattle.report.specs.Run.{outAt}
 

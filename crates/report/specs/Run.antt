@@ -4,7 +4,8 @@ use mathlib.Core.List.{List}
 use Rattle.records.specs.Record.{stepAt}
 use Rattle.records.specs.declared.step.Step.{Step}
 use Rattle.records.specs.declared.step.Step.the-variants.{Update, Query, Yield, Fork, Join, Unknown}
-use Rattle.table.specs.Answers.{Out, refused}
+use Rattle.table.specs.Answers.{refused}
+use Rattle.table.specs.Out.{Out}
 use Rattle.table.specs.Calls.{updateOut, queryOut, yieldOut, forkOut, joinOut}
 
 -- 13: "strange step", "given by the program"; "A refusal gives value 0"

@@ -9,7 +9,8 @@ use lib.Dec.{eqb}
 use lib.ListN.{length, set, getD, take}
 use lib.Seq.{take-suc}
 use borrow.Author.Tests.{ne-eqb, lt-ltb}
-use Rattle.lists.specs.Lists.{changed, member}
+use Rattle.lists.specs.Lists.{changed}
+use Rattle.lists.specs.Arranged.{member}
 use Rattle.lists.proofs.Cases.{cases, or-right}
 use Rattle.lists.proofs.Keep.{member-++}
 use Rattle.cells.specs.Sizes.{updates}

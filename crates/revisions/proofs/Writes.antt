@@ -9,7 +9,8 @@ use lib.Dec.{eqb, ltb}
 use lib.ListN.{length, set, take, replicate, length-replicate, length-set}
 use lib.Seq.{getD-set-other, set-getD}
 use borrow.Author.Tests.{eq-eqb, eqb-true, le-ltb, lt-ltb, ne-eqb}
-use Rattle.lists.specs.Lists.{insertBefore, remove, restOf}
+use Rattle.lists.specs.Lists.{restOf}
+use Rattle.lists.specs.Arranged.{insertBefore, remove}
 use Rattle.lists.proofs.Cases.{cases}
 use Rattle.cells.specs.Sizes.{bytes, revisions, clients, closed}
 use Rattle.cells.specs.Parts.{Parts, Sized, size, split, glue, wrote, _⟨_≔_⟩, rowsPart, lowPart, highPart, seenPart, caughtPart, statePart, usedPart, lastPart, firstPart}
@@ -18,7 +19,8 @@ use Rattle.cells.specs.Words.{putWord, putHalf}
 use Rattle.cells.specs.Marks.{pack, putRow}
 use Rattle.cells.specs.Decode.{decode}
 use Rattle.cells.specs.Range.{signature}
-use Rattle.cells.specs.CellSteps.{forkSeen, forkCaught, forkRow, joinSeen, joinCaught}
+use Rattle.lists.specs.Pool.{forkPool, joinPool}
+use Rattle.cells.specs.CellSteps.{forkCaught, forkRow, joinCaught}
 use Rattle.cells.specs.Steps.{queryParts, linkParts, appendParts, putRowOf, inheritParts, forkParts, spliceParts, freshBytes, queryBytes, updateBytes, forkBytes, joinBytes}
 use Rattle.cells.proofs.Parts.{Holds, glue-split, holds-split, holds-step, holds-wrote, sized-with, split-is, with-same}
 use Rattle.cells.proofs.Words.{putWord-length, putHalf-length}
@@ -51,7 +53,7 @@ with-swap p i j a b n = fun-ext (λ x. cases (eqb x j)
 start-sized : {p : Parts} → Sized p → (q c n : ℕ) → Sized (startParts p q c n)
 start-sized {p} h q c n =
     let k = decode p in
-    let a = caught-sized (seen-sized h (forkSeen (k .seen) q c)) (forkCaught (k .caught) q c) in
+    let a = caught-sized (seen-sized h (forkPool (k .seen) q c)) (forkCaught (k .caught) q c) in
     let b = sized-with a statePart (set (p statePart) c 1) (length-set (p statePart) c 1 ∙ h .of statePart) in
     let e = layout-sized b (insertBefore q c (p layoutPart)) (insert-length q c (p layoutPart)) in
     sized-with e countersPart (set (p countersPart) 2 n) (length-set (p countersPart) 2 n ∙ h .of countersPart)
@@ -69,7 +71,7 @@ forked p q c = cases (ltb (decode p .given) revisions)
     T =
         let k = decode p in
         inheritParts p q c
-        ⟨ seenPart ≔ pack revisions (forkSeen (k .seen) q c) ⟩
+        ⟨ seenPart ≔ pack revisions (forkPool (k .seen) q c) ⟩
         ⟨ caughtPart ≔ pack clients (forkCaught (k .caught) q c) ⟩
         ⟨ statePart ≔ set (p statePart) c 1 ⟩
         ⟨ layoutPart ≔ take revisions (insertBefore q c (p layoutPart)) ⟩
@@ -130,12 +132,12 @@ module _ (d : List ℕ) (l : length d ≡ bytes) where
       word-wrote firstPart a first h₂ e₃ .eq ∙ rw (ne-eqb (decode (split d) .count b) 0 (λ z. nz (en ∙ z)), eg, ef, et, ee)
 
   pub retire-done : (d₁ d₂ d₃ d₄ d₅ d₆ : List ℕ) (a b i n : ℕ)
-      → d₁ ≡ wrote d seenPart (pack revisions (joinSeen (decode (split d) .seen) a b)) → d₂ ≡ wrote d₁ caughtPart (pack clients (joinCaught (decode (split d₁) .caught) a b))
+      → d₁ ≡ wrote d seenPart (pack revisions (joinPool (decode (split d) .seen) a b)) → d₂ ≡ wrote d₁ caughtPart (pack clients (joinCaught (decode (split d₁) .caught) a b))
       → d₃ ≡ wrote d₂ statePart (set (split d₂ statePart) b 2) → d₄ ≡ wrote d₃ layoutPart (take revisions (remove b (split d₃ layoutPart) ++ (0 ∷ [])))
       → d₅ ≡ wrote d₄ queuePart (set (split d₄ queuePart) i b) → d₆ ≡ wrote d₅ countersPart (set (split d₅ countersPart) 2 n) → d₆ ≡ glue (retireParts (split d) a b i n)
   retire-done d₁ d₂ d₃ d₄ d₅ d₆ a b i n e₁ e₂ e₃ e₄ e₅ e₆ =
       let h = holds-split d l in
-      let h₁ = seen-wrote (λ f. joinSeen f a b) h e₁ in
+      let h₁ = seen-wrote (λ f. joinPool f a b) h e₁ in
       let h₂ = caught-wrote (λ f. joinCaught f a b) h₁ e₂ in
       let h₃ = byte-wrote statePart b 2 h₂ e₃ in
       let h₄ = holds-step (λ q. q ⟨ layoutPart ≔ take revisions (remove b (q layoutPart) ++ (0 ∷ [])) ⟩) h₃ e₄ (layout-sized (h₃ .sized) (remove b (split d layoutPart) ++ (0 ∷ [])) (remove-length b (split d layoutPart))) in
@@ -174,12 +176,12 @@ module _ (d : List ℕ) (l : length d ≡ bytes) where
       word-wrote countPart c 0 h₃ e₄ .eq ∙ rw (ne-eqb q 0 nz, er, eb)
 
   pub start-done : (d₁ d₂ d₃ d₄ d₅ : List ℕ) (q c n : ℕ)
-      → d₁ ≡ wrote d seenPart (pack revisions (forkSeen (decode (split d) .seen) q c)) → d₂ ≡ wrote d₁ caughtPart (pack clients (forkCaught (decode (split d₁) .caught) q c))
+      → d₁ ≡ wrote d seenPart (pack revisions (forkPool (decode (split d) .seen) q c)) → d₂ ≡ wrote d₁ caughtPart (pack clients (forkCaught (decode (split d₁) .caught) q c))
       → d₃ ≡ wrote d₂ statePart (set (split d₂ statePart) c 1) → d₄ ≡ wrote d₃ layoutPart (take revisions (insertBefore q c (split d₃ layoutPart)))
       → d₅ ≡ wrote d₄ countersPart (set (split d₄ countersPart) 2 n) → d₅ ≡ glue (startParts (split d) q c n)
   start-done d₁ d₂ d₃ d₄ d₅ q c n e₁ e₂ e₃ e₄ e₅ =
       let h = holds-split d l in
-      let h₁ = seen-wrote (λ f. forkSeen f q c) h e₁ in
+      let h₁ = seen-wrote (λ f. forkPool f q c) h e₁ in
       let h₂ = caught-wrote (λ f. forkCaught f q c) h₁ e₂ in
       let h₃ = byte-wrote statePart c 1 h₂ e₃ in
       let h₄ = holds-step (λ p. p ⟨ layoutPart ≔ take revisions (insertBefore q c (p layoutPart)) ⟩) h₃ e₄ (layout-sized (h₃ .sized) (insertBefore q c (split d layoutPart)) (insert-length q c (split d layoutPart))) in

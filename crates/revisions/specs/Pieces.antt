@@ -1,22 +1,25 @@
+-- No claim rests on this file: it serves the code.
 -- The larger steps in pieces, as the code makes them. `cells` has the whole of each.
 use Prim.Native.Nat.{ℕ, suc}
 use mathlib.Core.Bool.{cond}
 use mathlib.Core.List.{[], _∷_, _++_}
 use lib.Dec.{ltb}
 use lib.ListN.{set, take}
-use Rattle.lists.specs.Lists.{insertBefore, remove, restOf}
+use Rattle.lists.specs.Lists.{restOf}
+use Rattle.lists.specs.Arranged.{insertBefore, remove}
 use Rattle.cells.specs.Sizes.{revisions, clients, stateOut, stateJoined}
 use Rattle.cells.specs.Parts.{Parts, _⟨_≔_⟩, seenPart, caughtPart, statePart, layoutPart, queuePart, countersPart}
 use Rattle.cells.specs.Marks.{pack}
 use Rattle.cells.specs.Decode.{decode}
-use Rattle.cells.specs.CellSteps.{forkSeen, forkCaught, joinSeen, joinCaught}
+use Rattle.lists.specs.Pool.{forkPool, joinPool}
+use Rattle.cells.specs.CellSteps.{forkCaught, joinCaught}
 
 -- b is joined into a: the marks, b's state, the layout, place i of the queue, and n revisions out
 abbrev pub retireParts : Parts → ℕ → ℕ → ℕ → ℕ → Parts
 retireParts p a b i n =
     let k = decode p in
     p
-    ⟨ seenPart ≔ pack revisions (joinSeen (k .seen) a b) ⟩
+    ⟨ seenPart ≔ pack revisions (joinPool (k .seen) a b) ⟩
     ⟨ caughtPart ≔ pack clients (joinCaught (k .caught) a b) ⟩
     ⟨ statePart ≔ set (p statePart) b stateJoined ⟩
     ⟨ layoutPart ≔ take revisions (remove b (p layoutPart) ++ (0 ∷ [])) ⟩
@@ -28,7 +31,7 @@ abbrev pub startParts : Parts → ℕ → ℕ → ℕ → Parts
 startParts p q c n =
     let k = decode p in
     p
-    ⟨ seenPart ≔ pack revisions (forkSeen (k .seen) q c) ⟩
+    ⟨ seenPart ≔ pack revisions (forkPool (k .seen) q c) ⟩
     ⟨ caughtPart ≔ pack clients (forkCaught (k .caught) q c) ⟩
     ⟨ statePart ≔ set (p statePart) c stateOut ⟩
     ⟨ layoutPart ≔ take revisions (insertBefore q c (p layoutPart)) ⟩

@@ -10,7 +10,8 @@ use Rattle.updates.specs.declared.kind.Kind.{Kind}
 use Rattle.updates.specs.declared.kind.KindCheck.{KindCheck}
 use Rattle.updates.specs.declared.kind.KindCheck.the-variants as kinds
 use Rattle.bundles.specs.declared.entry.Entry.{Entry}
-use Rattle.bundles.specs.Records.{bundleCheck, entriesFrom, entriesIn, entryAt}
+use Rattle.bundles.specs.Records.{entriesFrom, entriesIn, entryAt}
+use Rattle.bundles.specs.Packed.{bundleCheck}
 use Rattle.bundles.specs.declared.check.BundleCheck.the-variants.{Wrong}
 use Rattle.bundles.proofs.First.{Counted, some-of, uncounted}
 use Rattle.cells.specs.Decode.{cells}

@@ -1,14 +1,14 @@
 -- 1, 5 and 9 of an entry from the counts alone: an update that fits is taken, and one that does not is refused so.
 use Prim.Native.Nat.{ℕ, _<_, _≤_}
-use mathlib.Core.Bool.{Bool, true, false, cond, not}
+use mathlib.Core.Bool.{Bool, true, false, cond, not, _||_}
 use mathlib.Core.Path.{_≡_, refl, sym, _∙_, ap}
-use mathlib.Core.List.{List, _++_}
+use mathlib.Core.List.{List, [], _∷_, _++_}
 use native.Mathlib.Omega.{arith}
 use lib.Dec.{ltb}
 use borrow.Author.Tests.{le-ltb, lt-ltb, ltb-false, ltb-true}
 use Rattle.lists.proofs.Cases.{cases}
 use Rattle.lists.proofs.Told.{Told, told}
-use Rattle.updates.specs.Kinds.{kindCheck, badBib}
+use Rattle.updates.specs.Kinds.{badBib, badKind, isUnknown, kindCheck, kindIn, kindOf}
 use Rattle.updates.specs.declared.kind.Kind.{Kind}
 use Rattle.updates.specs.declared.kind.KindCheck.{KindCheck}
 use Rattle.updates.specs.declared.kind.KindCheck.the-variants as kinds
@@ -20,7 +20,9 @@ use Rattle.checks.specs.declared.log.LogCheck.the-variants as log
 use Rattle.entries.specs.Stored.{entry}
 use Rattle.entries.specs.Entries.{wrote}
 use Rattle.table.specs.Halves.{low, high, cellsOf}
-use Rattle.table.specs.Answers.{Out, check, named, refused, taken}
+use Rattle.desk.specs.Checks.{_if_, settle}
+use Rattle.table.specs.Answers.{refused, taken}
+use Rattle.table.specs.Out.{Out}
 use Rattle.table.specs.Calls.{updateOut}
 use Rattle.table.specs.Found.{onKind}
 use Rattle.sending.specs.Bundles.{Going, entered, entryCheck, fitCheck, onFit, ownCheck, roomCheck}
@@ -64,7 +66,7 @@ rest-fits false true (kinds.Known kind) e = (kind, refl, refl, refl)
 
 -- an update with that refusal, and one without
 rest-refused : (b l : Bool) (q : KindCheck) (t : List ℕ) (out : Kind → Out) (code : ℕ) → rest-of (cond b kinds.Unknown q) l ≡ Refused code
-    → (check b 5 t (named q t (λ kind. check (not l) 9 t (out kind))) ≡ refused t code) × (code ≡ 0 → ⊥)
+    → (settle (5 if (b || isUnknown q) ∷ 9 if not l ∷ []) (refused t) (out (kindIn q)) ≡ refused t code) × (code ≡ 0 → ⊥)
 unfolding onKind
 rest-refused true l q t out code e = let z : _≡_ {A = ℕ} 5 code = cc in (ap (refused t) z, λ h. omega arith)
 rest-refused false l kinds.Unknown t out code e = let z : _≡_ {A = ℕ} 5 code = cc in (ap (refused t) z, λ h. omega arith)
@@ -77,7 +79,7 @@ module _ (c n : ℕ) where
   Allowed t e kind = taken (updateBytes (low t) c n ++ wrote (high t) (cellsOf t .updates) (entry kind c (e .bib) (e .v))) (cellsOf t .updates)
 
   update-is : (t : List ℕ) → Going t c n → (e : Entry)
-      → updateOut t c n (e .kind) (e .bib) (e .v) ≡ check (badBib (e .bib)) 5 t (named (kindCheck (e .kind)) t (λ kind. check (logFull (cellsOf t)) 9 t (Allowed t e kind)))
+      → updateOut t c n (e .kind) (e .bib) (e .v) ≡ settle (5 if (badBib (e .bib) || badKind (e .kind)) ∷ 9 if logFull (cellsOf t) ∷ []) (refused t) (Allowed t e (kindOf (e .kind)))
   unfolding updateOut
   update-is t G e = rw (G .sound, G .client, G .given, G .out, G .here, G .alone, G .seen)
 

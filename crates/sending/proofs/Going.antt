@@ -28,7 +28,8 @@ use Rattle.cells.proofs.Range.{ranges}
 use Rattle.entries.specs.Stored.{entry}
 use Rattle.entries.specs.Entries.{wrote}
 use Rattle.entries.proofs.Entries.{wrote-length}
-use Rattle.table.specs.Halves.{bytes, low, high, cellsOf, isTable}
+use Rattle.table.specs.Halves.{low, high, cellsOf, isTable}
+use Rattle.table.specs.Out.{bytes}
 use Rattle.table.specs.Found.{onKind}
 use Rattle.table.proofs.Halves.{low-of}
 use Rattle.sending.specs.Bundles.{Going, entered}

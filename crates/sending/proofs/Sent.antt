@@ -11,7 +11,8 @@ use Rattle.bundles.specs.declared.entry.Entry.{Entry}
 use Rattle.cells.specs.Sizes.{updates}
 use Rattle.cells.specs.Steps.{closeBytes}
 use Rattle.table.specs.Halves.{low, high, cellsOf, isTable}
-use Rattle.table.specs.Answers.{Out, afterTaken, refused, taken}
+use Rattle.table.specs.Answers.{afterTaken, refused, taken}
+use Rattle.table.specs.Out.{Out}
 use Rattle.table.specs.Calls.{sentOut, settled, yieldOut}
 use Rattle.sending.specs.Bundles.{Going, entered, enteredAll, fitCheck, onFit, ownCheck, sentCheck}
 use Rattle.sending.specs.declared.bundle.FitCheck.{FitCheck}

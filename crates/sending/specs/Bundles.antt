@@ -1,3 +1,4 @@
+-- No claim rests on this file: it serves the code.
 -- What is known of a bundle before anything is written, and what its updates leave: 02, U4.
 use Prim.Native.Nat.{ℕ, suc}
 use mathlib.Core.Bool.{true, false, cond}

@@ -11,8 +11,8 @@ use Rattle.checks.specs.declared.given.GivenCheck.{GivenCheck}
 use Rattle.checks.specs.declared.given.GivenCheck.the-variants as given
 use Rattle.table.specs.Halves.{low, isTable}
 use Rattle.table.specs.Answers.{refused}
-use Rattle.table.specs.Calls.{listOut, shownOut, fillOut, fillIn, noFill, told}
-use Rattle.table.specs.Found.{onGiven, onIdle}
+use Rattle.table.specs.Calls.{listOut, fillOut, noFill, told}
+use Rattle.table.specs.Found.{onGiven, onIdle, fillIn, shownOut}
 use Rattle.table.specs.Checks.{idleCheck}
 use Rattle.table.specs.declared.idle.IdleCheck.{IdleCheck}
 use Rattle.table.proofs.Calls.{given-is, idle-cond}
@@ -29,7 +29,7 @@ module _ (t : List ℕ) (h : isTable t ≡ false) where
 
 -- a list on a table, from what its checks find
 pub list-by : (t : List ℕ) → isTable t ≡ true → (n : ℕ) (s : List ℕ) (z : IdleCheck) → idleCheck (low t) n ≡ z → onIdle z (refused s) (λ r. shownOut t (r .0) s) ≡ listOut t n s
-unfolding idleCheck listOut onIdle
+unfolding idleCheck listOut shownOut onIdle
 list-by t h n s z e = rw (← e) (simp (given-is, idle-cond, h))
 
 -- a fill on the lower half, from what its checks find; and of bytes that are a table
@@ -51,5 +51,5 @@ module _ (d : List ℕ) (n : ℕ) where
   fill-told r e f = rw f at (fill-by (given.Given r) e)
 
 pub fill-of : (t : List ℕ) (n : ℕ) → isTable t ≡ true → fillIn (cells (low t)) n ≡ fillOut t n
-unfolding fillOut
+unfolding fillIn fillOut
 fill-of t n h = rw h

@@ -9,10 +9,12 @@ use Rattle.lists.proofs.Told.{Told, told}
 use Rattle.cells.specs.Order.{order}
 use Rattle.entries.specs.Sizes as Upper
 use Rattle.entries.specs.Entries.{entryAt}
-use Rattle.listing.specs.Lines.{sheet}
-use Rattle.table.specs.Halves.{bytes, high, cellsOf}
-use Rattle.table.specs.Answers.{Out, check, refused, taken}
-use Rattle.table.specs.Calls.{shownOut}
+use Rattle.listing.specs.Sheet.{sheet}
+use Rattle.table.specs.Halves.{high, cellsOf}
+use Rattle.table.specs.Out.{bytes}
+use Rattle.table.specs.Answers.{refused, taken}
+use Rattle.table.specs.Out.{Out}
+use Rattle.table.specs.Found.{check, shownOut}
 use Rattle.showing.specs.Checks.{sheetCheck}
 use Rattle.showing.specs.declared.list.SheetCheck.the-variants.{Fits, Short}
 use Rattle.table.proofs.Halves.{high-whole}

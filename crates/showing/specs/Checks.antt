@@ -1,3 +1,4 @@
+-- No claim rests on this file: it serves the code.
 -- What the check of a list's sheet finds.
 use Prim.Native.Nat.{ℕ, _*_}
 use mathlib.Core.Bool.{cond}

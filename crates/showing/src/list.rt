@@ -7,10 +7,12 @@ ghost use lib.ListN.{length, take};
 ghost use Rattle.cells.specs.Sizes.{revisions, updates};
 ghost use Rattle.cells.specs.Range.{inRange};
 ghost use Rattle.entries.specs.Entries.{entryAt};
-ghost use Rattle.listing.specs.Lines as Lines;
-ghost use Rattle.table.specs.Halves.{bytes, high, isTable, low};
-ghost use Rattle.table.specs.Answers.{check, left, taken};
-ghost use Rattle.table.specs.Calls.{listOut, shownOut};
+ghost use Rattle.listing.specs.Sheet as Sheet;
+ghost use Rattle.table.specs.Halves.{high, isTable, low};
+ghost use Rattle.table.specs.Out.{bytes};
+ghost use Rattle.table.specs.Answers.{left, taken};
+ghost use Rattle.table.specs.Calls.{listOut};
+ghost use Rattle.table.specs.Found.{check, shownOut};
 ghost use Rattle.showing.specs.Checks.{sheetCheck};
 use bundles::sizes::Record;
 use fields::table::Revision;
@@ -44,7 +46,7 @@ fn check_sheet(sheet: &[u8], n: usize) -> SheetCheck
 // The lines of the first n numbers of `order`, if the sheet has room for them.
 fn put(t: &[u8], order: &[u16], n: usize, sheet: &mut [u8]) -> Answer
     requires { ⌜ (length (now t) ≡ bytes) × (n ≤ updates) × (n ≤ length (now order)) ⌝ }
-    ensures { λ a. ⌜ left a (now (sheet .exit)) ≡ check (ltb (length (now (sheet .entry))) (12 * n)) 12 (now (sheet .entry)) (taken (Lines.sheet (entryAt (high (now (t .entry)))) (take n (now (order .entry))) (now (sheet .entry))) n) ⌝ }
+    ensures { λ a. ⌜ left a (now (sheet .exit)) ≡ check (ltb (length (now (sheet .entry))) (12 * n)) 12 (now (sheet .entry)) (taken (Sheet.sheet (entryAt (high (now (t .entry)))) (take n (now (order .entry))) (now (sheet .entry))) n) ⌝ }
 {
     let SheetCheck::Fits = check_sheet(sheet, n) else {
         return Answer { code: 12, value: 0 };

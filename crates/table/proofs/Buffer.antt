@@ -11,7 +11,8 @@ use Rattle.lists.proofs.Told.{held, failed, Told, told}
 use Rattle.cells.specs.Range.{inRange}
 use Rattle.checks.specs.Answers.{rangeCheck}
 use Rattle.checks.specs.declared.range.RangeCheck.the-variants as range
-use Rattle.table.specs.Halves.{bytes, low, isTable}
+use Rattle.table.specs.Halves.{low, isTable}
+use Rattle.table.specs.Out.{bytes}
 use Rattle.table.specs.Checks.{lengthCheck, tableCheck}
 use Rattle.table.specs.declared.sound.LengthCheck.the-variants as buffer
 use Rattle.table.specs.declared.sound.TableCheck.the-variants as table

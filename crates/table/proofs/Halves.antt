@@ -8,7 +8,8 @@ use lib.Seq.{take-at, take-all, drop-at}
 use borrow.Rule.Slice.PartMut.{midOf, putMid}
 use Rattle.cells.specs.Sizes as Lower
 use Rattle.entries.specs.Sizes as Upper
-use Rattle.table.specs.Halves.{bytes, low, high}
+use Rattle.table.specs.Halves.{low, high}
+use Rattle.table.specs.Out.{bytes}
 
 pub low-of : (a b : List ℕ) → length a ≡ Lower.bytes → low (a ++ b) ≡ a
 unfolding low

@@ -1,13 +1,18 @@
--- Each call, check by check in 01's order: 01, "Codes of the desk". A list has its sheet lent; the table is only read.
+-- Each call on bytes, by its row of 01's table of codes (`checks`, crate desk) and its end; the code is proved equal to these definitions. What they say
+-- of a day need not be read here: `Explained.agreement` (`consistency` specs/Demand, proved in proofs/Table/Follows) ties them to the plain day, for every
+-- buffer made fresh and every list of calls. Of other contents "answers .. follow from the cells alone". A list has its sheet lent, and only reads the table.
 use Prim.Native.Nat.{ℕ, _*_}
-use mathlib.Core.Bool.{not, cond, _||_}
+use mathlib.Core.Bool.{not, cond}
 use mathlib.Core.List.{List, [], _∷_, _++_}
 use lib.Dec.{eqb, ltb}
 use lib.ListN.{length, replicate}
 use Rattle.bundles.specs.declared.entry.Entry.{Entry}
-use Rattle.bundles.specs.Records.{entriesIn, isWrong}
-use Rattle.updates.specs.Kinds.{kindCheck, badBib}
+use Rattle.updates.specs.Kinds.{kindOf}
 use Rattle.updates.specs.Effect.{stateOf, valueIn}
+use Rattle.updates.specs.declared.standing.Standing.{Standing}
+use Rattle.updates.specs.declared.standing.State.the-variants.{Neither}
+use Rattle.desk.specs.Calls.{Update, Query, Yield, Fork, Join, Bundle, Looks, Show, Fill, Preview, Batch, Records, Entries, entriesOf}
+use Rattle.desk.specs.Checks.{Tests, _if_, checks, settle}
 use Rattle.cells.specs.Cells.{Cells, nextNumber}
 use Rattle.cells.specs.Order.{order}
 use Rattle.cells.specs.Checks.{isClient, givenOut, joined, openElsewhere, busy, busyByOther, stale, logFull, noneLeft, joinable}
@@ -16,92 +21,62 @@ use Rattle.entries.specs.Sizes as Upper
 use Rattle.entries.specs.Stored.{entry}
 use Rattle.entries.specs.Entries.{entryAt, wrote}
 use Rattle.entries.specs.Folded.{standingOf}
-use Rattle.listing.specs.Lines.{sheet}
-use Rattle.table.specs.Halves.{bytes, low, high, cellsOf, isTable}
-use Rattle.table.specs.Answers.{Out, refused, taken, answered, check, named, afterTaken}
-use Rattle.updates.specs.declared.standing.Standing.{Standing}
+use Rattle.listing.specs.Sheet.{sheet}
+use Rattle.table.specs.Halves.{low, high, cellsOf, isTable}
+use Rattle.table.specs.Out.{bytes}
+use Rattle.table.specs.Answers.{refused, taken, answered, afterTaken}
+use Rattle.table.specs.Out.{Out}
 use Rattle.table.specs.declared.answer.Level.{Level}
-use Rattle.updates.specs.declared.standing.State.the-variants.{Neither}
 use Rattle.table.specs.declared.answer.Prospect.{Prospect}
 
 -- the standing of a bib after the updates visible at revision n
 unfoldable pub standingAt : List ℕ → ℕ → ℕ → Standing
 standingAt t n bib = standingOf (entryAt (high t)) bib (order (cellsOf t) n)
 
+-- the questions of the codes, asked of the bytes: "answers that follow from the cells alone"
+abbrev pub asked : List ℕ → Tests
+asked t = record {
+  noTable = not (isTable t);
+  strange = λ c. not (isClient c);
+  never = λ n. not (givenOut (cellsOf t) n);
+  joined = joined (cellsOf t);
+  elsewhere = openElsewhere (cellsOf t);
+  byOther = busyByOther (cellsOf t);
+  busy = busy (cellsOf t);
+  stale = stale (cellsOf t);
+  full = logFull (cellsOf t);
+  allOut = noneLeft (cellsOf t);
+  unjoinable = λ n m. not (joinable (cellsOf t) n m);
+  short = λ n room. ltb room (12 * length (order (cellsOf t) n));
+}
+
 -- fresh: of 1, the length only
 unfoldable pub freshOut : List ℕ → Out
-freshOut t = check (not (eqb (length t) bytes)) 1 t (taken (freshBytes ++ replicate Upper.bytes 0) 0)
+freshOut t = settle (1 if not (eqb (length t) bytes) ∷ []) (refused t) (taken (freshBytes ++ replicate Upper.bytes 0) 0)
 
--- "Update: 1 to 9"
 unfoldable pub updateOut : List ℕ → ℕ → ℕ → ℕ → ℕ → ℕ → Out
 updateOut t c n k bib v =
-    check (not (isTable t)) 1 t (
-    check (not (isClient c)) 2 t (
-    check (not (givenOut (cellsOf t) n)) 3 t (
-    check (joined (cellsOf t) n) 4 t (
-    check (badBib bib) 5 t (
-    named (kindCheck k) t (λ kind.
-    check (openElsewhere (cellsOf t) c n) 6 t (
-    check (busyByOther (cellsOf t) c n) 7 t (
-    check (stale (cellsOf t) c n) 8 t (
-    check (logFull (cellsOf t)) 9 t (
-    taken (updateBytes (low t) c n ++ wrote (high t) (cellsOf t .updates) (entry kind c bib v)) (cellsOf t .updates)))))))))))
+    settle (checks (asked t) (Update c n k bib v)) (refused t)
+    (taken (updateBytes (low t) c n ++ wrote (high t) (cellsOf t .updates) (entry (kindOf k) c bib v)) (cellsOf t .updates))
 
--- "Query: 1 to 8 (of 5, the bib only)"
 unfoldable pub queryOut : List ℕ → ℕ → ℕ → ℕ → Out
-queryOut t c n bib =
-    check (not (isTable t)) 1 t (
-    check (not (isClient c)) 2 t (
-    check (not (givenOut (cellsOf t) n)) 3 t (
-    check (joined (cellsOf t) n) 4 t (
-    check (badBib bib) 5 t (
-    check (openElsewhere (cellsOf t) c n) 6 t (
-    check (busyByOther (cellsOf t) c n) 7 t (
-    check (stale (cellsOf t) c n) 8 t (
-    answered (queryBytes (low t) c n ++ high t) (standingAt t n bib)))))))))
+queryOut t c n bib = settle (checks (asked t) (Query c n bib)) (refused t) (answered (queryBytes (low t) c n ++ high t) (standingAt t n bib))
 
--- "Yield: 1, 2"
 unfoldable pub yieldOut : List ℕ → ℕ → Out
-yieldOut t c =
-    check (not (isTable t)) 1 t (
-    check (not (isClient c)) 2 t (
-    taken (closeBytes (low t) c ++ high t) 0))
+yieldOut t c = settle (checks (asked t) (Yield c)) (refused t) (taken (closeBytes (low t) c ++ high t) 0)
 
--- "Fork: 1, 3, 4, 7, 10"
 unfoldable pub forkOut : List ℕ → ℕ → Out
-forkOut t n =
-    check (not (isTable t)) 1 t (
-    check (not (givenOut (cellsOf t) n)) 3 t (
-    check (joined (cellsOf t) n) 4 t (
-    check (busy (cellsOf t) n) 7 t (
-    check (noneLeft (cellsOf t)) 10 t (
-    taken (forkBytes (low t) n (nextNumber (cellsOf t)) ++ high t) (nextNumber (cellsOf t)))))))
+forkOut t n = settle (checks (asked t) (Fork n)) (refused t) (taken (forkBytes (low t) n (nextNumber (cellsOf t)) ++ high t) (nextNumber (cellsOf t)))
 
--- "Join: 1, 3, 4, 7, 11"
+abbrev pub joinEnd : List ℕ → ℕ → ℕ → Out
+joinEnd t n m = taken (joinBytes (low t) n m ++ high t) (cellsOf t .count m)
+
 unfoldable pub joinOut : List ℕ → ℕ → ℕ → Out
-joinOut t n m =
-    check (not (isTable t)) 1 t (
-    check (not (givenOut (cellsOf t) n)) 3 t (
-    check (not (givenOut (cellsOf t) m)) 3 t (
-    check (joined (cellsOf t) n || joined (cellsOf t) m) 4 t (
-    check (busy (cellsOf t) n || busy (cellsOf t) m) 7 t (
-    check (not (joinable (cellsOf t) n m)) 11 t (
-    taken (joinBytes (low t) n m ++ high t) (cellsOf t .count m)))))))
+joinOut t n m = settle (checks (asked t) (Join n m)) (refused t) (joinEnd t n m)
 
--- 12 of a list, and its end
-unfoldable pub shownOut : List ℕ → ℕ → List ℕ → Out
-shownOut t n s =
-    check (ltb (length s) (12 * length (order (cellsOf t) n))) 12 s (
-    taken (sheet (entryAt (high t)) (order (cellsOf t) n) s) (length (order (cellsOf t) n)))
-
--- "List: 1, 3, 4, 7, 12"
 unfoldable pub listOut : List ℕ → ℕ → List ℕ → Out
 listOut t n s =
-    check (not (isTable t)) 1 s (
-    check (not (givenOut (cellsOf t) n)) 3 s (
-    check (joined (cellsOf t) n) 4 s (
-    check (busy (cellsOf t) n) 7 s (
-    shownOut t n s))))
+    settle (checks (asked t) (Looks (Show n (length s)))) (refused s) (taken (sheet (entryAt (high t)) (order (cellsOf t) n) s) (length (order (cellsOf t) n)))
 
 -- 02, U1: "in a refusal both are 0"
 abbrev pub noFill : ℕ → Level
@@ -111,16 +86,8 @@ noFill code = record { code = code; own = 0; total = 0 }
 abbrev pub told : Cells → ℕ → Level
 told k n = record { code = 0; own = k .count n; total = k .updates }
 
--- 3, 4 of a fill, and its end
-unfoldable pub fillIn : Cells → ℕ → Level
-fillIn k n =
-    cond (not (givenOut k n)) (noFill 3) (
-    cond (joined k n) (noFill 4) (
-    told k n))
-
--- "Checks: 1, 3, 4"
 unfoldable pub fillOut : List ℕ → ℕ → Level
-fillOut t n = cond (not (isTable t)) (noFill 1) (fillIn (cellsOf t) n)
+fillOut t n = settle (checks (asked t) (Looks (Fill n))) noFill (told (cellsOf t) n)
 
 -- 02, U4: "sending the updates one by one and then a yield"; the first that is refused ends it
 unfoldable pub sentOut : List ℕ → ℕ → ℕ → List Entry → Out
@@ -132,19 +99,15 @@ sentOut t c n (e ∷ es) = afterTaken (updateOut t c n (e .kind) (e .bib) (e .v)
 abbrev pub settled : List ℕ → Out → Out
 settled t o = cond (eqb (o .code) 0) (taken (o .lent) (cellsOf t .updates)) (refused t (o .code))
 
--- "14 wrong bundle, ..; checked right after 1"
-unfoldable pub bundleOut : List ℕ → ℕ → ℕ → List ℕ → Out
-bundleOut t c n records =
-    check (not (isTable t)) 1 t (
-    check (isWrong records) 14 t (
-    settled t (sentOut t c n (entriesIn records))))
+abbrev pub batchOut : List ℕ → ℕ → ℕ → Batch → Out
+batchOut t c n batch = settle (checks (asked t) (Bundle c n batch)) (refused t) (settled t (sentOut t c n (entriesOf batch)))
 
--- the same of "a lent list of entries": of 14 only the count can apply
+-- "first as 12-byte records, then as a lent list of entries"
+unfoldable pub bundleOut : List ℕ → ℕ → ℕ → List ℕ → Out
+bundleOut t c n records = batchOut t c n (Records records)
+
 unfoldable pub entriesOut : List ℕ → ℕ → ℕ → List Entry → Out
-entriesOut t c n es =
-    check (not (isTable t)) 1 t (
-    check (eqb (length es) 0 || ltb 64 (length es)) 14 t (
-    settled t (sentOut t c n es)))
+entriesOut t c n es = batchOut t c n (Entries es)
 
 -- 02, U6: refusals are "with state neither and gain 0"
 abbrev pub noProspect : ℕ → Prospect
@@ -157,11 +120,8 @@ foreseen s gain = record { code = 0; state = stateOf s; value = valueIn s; gain 
 -- read at n on the joined copy. A reading is no query: no client's checks are asked there. A copy that is no table any more is refused as every
 -- call refuses it; no day makes one
 unfoldable pub readOn : List ℕ → ℕ → ℕ → ℕ → Prospect
-readOn copy n bib gain = cond (not (isTable copy)) (noProspect 1) (foreseen (standingAt copy n bib) gain)
+readOn copy n bib gain = settle (1 if not (isTable copy) ∷ []) noProspect (foreseen (standingAt copy n bib) gain)
 
--- "equal to joining on a copy of the table and reading there"; "Refusals are those of the join, then 5 for the bib"
+-- "equal to joining on a copy of the table and reading there"
 unfoldable pub previewOut : List ℕ → ℕ → ℕ → ℕ → Prospect
-previewOut t n m bib =
-    cond (not (eqb (joinOut t n m .code) 0)) (noProspect (joinOut t n m .code)) (
-    cond (badBib bib) (noProspect 5) (
-    readOn (joinOut t n m .lent) n bib (joinOut t n m .value)))
+previewOut t n m bib = settle (checks (asked t) (Looks (Preview n m bib))) noProspect (readOn (joinEnd t n m .lent) n bib (joinEnd t n m .value))

@@ -1,4 +1,4 @@
--- The answers of the table's own checks, codes 1 and 5, and what the checks that several calls share find, in their order.
+-- No claim rests on this file: it serves the code. The answers of the table's own checks, codes 1 and 5, and what the checks that several calls share find, in their order.
 use Prim.{Unit}
 use Prim.Native.Nat.{ℕ, _<_}
 use mathlib.Core.Bool.{not, cond}
@@ -12,7 +12,8 @@ use Rattle.cells.specs.Checks.{joined, openElsewhere, busy, busyByOther, stale,
 use Rattle.fields.specs.declared.table.Client.{Client}
 use Rattle.fields.specs.declared.table.Revision.{Revision}
 use Rattle.checks.specs.Answers.{clientCheck, givenCheck}
-use Rattle.table.specs.Halves.{bytes, isTable}
+use Rattle.table.specs.Halves.{isTable}
+use Rattle.table.specs.Out.{bytes}
 use Rattle.table.specs.Found.{onClient, onGiven, onPair}
 use Rattle.table.specs.declared.sound.LengthCheck.{LengthCheck}
 use Rattle.table.specs.declared.sound.LengthCheck.the-variants as buffer

@@ -1,5 +1,20 @@
--- A check's answer taken apart: the checks go on with what it found, or end.
-use Prim.Native.Nat.{ℕ}
+-- No claim rests on this file: it serves the code. A check's answer taken apart: the checks go on with what it found, or end; and parts of rows.
+use Prim.Native.Nat.{ℕ, _*_}
+use mathlib.Core.Bool.{Bool, not}
+use mathlib.Core.List.{List, [], _∷_}
+use lib.Dec.{ltb}
+use lib.ListN.{length}
+use Rattle.desk.specs.Checks.{_if_, settle}
+use Rattle.cells.specs.Cells.{Cells}
+use Rattle.cells.specs.Order.{order}
+use Rattle.cells.specs.Checks.{givenOut, joined}
+use Rattle.entries.specs.Entries.{entryAt}
+use Rattle.listing.specs.Sheet.{sheet}
+use Rattle.table.specs.Halves.{high, cellsOf}
+use Rattle.table.specs.Answers.{refused, taken}
+use Rattle.table.specs.Out.{Out}
+use Rattle.table.specs.Calls.{noFill, told}
+use Rattle.table.specs.declared.answer.Level.{Level}
 use Rattle.fields.specs.declared.table.Client.{Client}
 use Rattle.fields.specs.declared.table.Revision.{Revision}
 use Rattle.checks.specs.declared.client.ClientCheck.{ClientCheck}
@@ -28,7 +43,7 @@ unfoldable pub onGiven : {A : Type 0} → GivenCheck → A → (Revision → A) 
 onGiven given.Never end rest = end
 onGiven (given.Given r) end rest = rest r
 
--- 10 "64 boxes started"
+-- 10, 02, U7: "exactly if 64 boxes are out"
 unfoldable pub onNext : {A : Type 0} → NextCheck → A → (Revision → A) → A
 onNext left.Exhausted end rest = end
 onNext (left.Next r) end rest = rest r
@@ -65,3 +80,17 @@ eventCode (event.Allowed c r) = 0
 abbrev pub pairCode : PairCheck → ℕ
 pairCode (pair.Refused k) = k
 pairCode (pair.Allowed a b) = 0
+
+-- one check that applies ends the call
+abbrev pub check : Bool → ℕ → List ℕ → Out → Out
+check applies code lent rest = settle (code if applies ∷ []) (refused lent) rest
+
+-- 12 of a list, and its end
+unfoldable pub shownOut : List ℕ → ℕ → List ℕ → Out
+shownOut t n s =
+    check (ltb (length s) (12 * length (order (cellsOf t) n))) 12 s (
+    taken (sheet (entryAt (high t)) (order (cellsOf t) n) s) (length (order (cellsOf t) n)))
+
+-- 3, 4 of a fill, and its end
+unfoldable pub fillIn : Cells → ℕ → Level
+fillIn k n = settle (3 if not (givenOut k n) ∷ 4 if joined k n ∷ []) noFill (told k n)

@@ -1,16 +1,14 @@
--- The lent buffer "of exactly 65,536 bytes": the revisions' 40,960, then the entries' 24,576.
+-- No claim rests on this file: it serves the definitions of the calls. The lent buffer in halves: the revisions' 40,960 bytes, then the entries' 24,576.
 use Prim.Native.Nat.{ℕ}
 use mathlib.Core.Bool.{Bool, _&&_}
 use mathlib.Core.List.{List}
 use lib.Dec.{eqb}
 use lib.ListN.{length, take, drop}
+use Rattle.table.specs.Out.{bytes}
 use Rattle.cells.specs.Sizes as Lower
 use Rattle.cells.specs.Cells.{Cells}
 use Rattle.cells.specs.Decode.{cells}
 use Rattle.cells.specs.Range.{inRange}
-
-abbrev pub bytes : ℕ
-bytes = 65536
 
 unfoldable pub low : List ℕ → List ℕ
 low t = take Lower.bytes t

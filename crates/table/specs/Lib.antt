@@ -1,4 +1,5 @@
 -- What each call answers with and leaves in the table: 01, "Codes of the desk", on bytes. And what the checks that the calls share find.
+pub mod Out
 pub mod Halves
 pub mod Answers
 pub mod Calls

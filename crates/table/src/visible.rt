@@ -6,7 +6,8 @@ ghost use lib.ListN.{length, take};
 ghost use Rattle.cells.specs.Sizes.{revisions, updates};
 ghost use Rattle.cells.specs.Order.{order};
 ghost use Rattle.cells.specs.Range.{inRange};
-ghost use Rattle.table.specs.Halves.{bytes, cellsOf, low};
+ghost use Rattle.table.specs.Halves.{cellsOf, low};
+ghost use Rattle.table.specs.Out.{bytes};
 use fields::table::Revision;
 use fields::table::Table;
 

@@ -1,6 +1,6 @@
 -- The numbers of the four kinds of update, 01, "Updates (each total)"; and code 5, "bib above 999, or update kind not 1 to 4".
 use Prim.Native.Nat.{ℕ}
-use mathlib.Core.Bool.{Bool, cond, not}
+use mathlib.Core.Bool.{Bool, true, false, cond, not}
 use lib.Dec.{eqb, ltb}
 use Rattle.updates.specs.declared.kind.Kind.{Kind}
 use Rattle.updates.specs.declared.kind.Kind.the-variants.{Time, Earliest, Penalty, Strike}
@@ -23,3 +23,18 @@ kindCheck n =
 -- "bib above 999"
 abbrev pub badBib : ℕ → Bool
 badBib bib = not (ltb bib 1000)
+
+-- "update kind not 1 to 4"; and the kind that a byte names, which no call asks where it names none
+abbrev pub isUnknown : KindCheck → Bool
+isUnknown Unknown = true
+isUnknown (Known kind) = false
+
+abbrev pub badKind : ℕ → Bool
+badKind k = isUnknown (kindCheck k)
+
+abbrev pub kindIn : KindCheck → Kind
+kindIn Unknown = Time
+kindIn (Known kind) = kind
+
+abbrev pub kindOf : ℕ → Kind
+kindOf k = kindIn (kindCheck k)

@@ -1,100 +1,90 @@
--- Every call ends on the table as on the plain day.
-use Prim.Native.Nat.{ℕ, _<_, _*_, suc}
-use mathlib.Core.Bool.{Bool, true, false, cond, not, _||_, Bool·not-not}
+-- Every call that is taken ends on the table as on the plain day.
+use Prim.Native.Nat.{ℕ, _<_, suc}
+use mathlib.Core.Bool.{true, false, not}
 use mathlib.Core.Path.{_≡_, refl, sym, _∙_, ap, subst}
-use mathlib.Core.Option.{Option, none, some}
-use mathlib.Core.List.{List, _++_}
+use mathlib.Core.List.{List, _++_, []}
 use native.Mathlib.Omega.{arith}
-use lib.Dec.{eqb, ltb}
+use lib.Dec.{eqb}
 use lib.ListN.{length}
 use borrow.Author.Tests.{eqb-false, ltb-true, not-false}
 use Rattle.lists.specs.Lists.{changed}
 use Rattle.lists.proofs.Cases.{cases, or-false}
 use Rattle.updates.specs.declared.kind.Kind.{Kind}
-use Rattle.updates.specs.declared.standing.Standing.{Standing}
-use Rattle.updates.specs.declared.standing.State.the-variants.{Neither}
+use Rattle.updates.specs.declared.standing.State.{State}
 use Rattle.updates.specs.Effect.{stateOf, valueIn}
-use Rattle.updates.specs.Kinds.{kindCheck, badBib}
-use Rattle.diagram.specs.Day.{Day, meant, numberOf}
-use Rattle.diagram.specs.Day as Days
+use Rattle.updates.specs.Kinds.{badBib, kindOf}
+use Rattle.desk.specs.Calls.{Update, Query, Yield, Fork, Join, Looks, Show, Fill, Answer, answerOn}
+use Rattle.desk.proofs.Checks as Checks
+use Rattle.desk.proofs.Checks.{_also_, same-end}
+use Rattle.diagram.specs.Day.{Day, meant, isGiven, numberOf}
 use Rattle.diagram.specs.Checks as Day
 use Rattle.diagram.specs.Steps as Steps
-use Rattle.diagram.specs.Steps.{Step, accepted, after}
+use Rattle.diagram.specs.Steps.{Step, after}
+use Rattle.diagram.specs.Accepted.{accepted}
 use Rattle.diagram.proofs.Days.Moves.{yield-updates}
-use Rattle.diagram.proofs.Days.Naming.{meant-given, meant-number}
-use Rattle.diagram.proofs.Days.Accepting.{accept-event, accept-yield, accept-fork, accept-join}
+use Rattle.diagram.proofs.Days.Naming.{meant-number}
 use Rattle.cells.specs.Sizes as Lower
 use Rattle.cells.specs.Cells.{nextNumber}
-use Rattle.cells.specs.Checks as Asked
-use Rattle.cells.specs.Steps.{forkBytes, joinBytes, queryBytes}
-use Rattle.diagram.specs.Effects.{own, view}
+use Rattle.cells.specs.Order.{order}
+use Rattle.cells.specs.Steps.{forkBytes, joinBytes, queryBytes, updateBytes}
 use Rattle.entries.specs.Sizes as Upper
 use Rattle.entries.specs.Stored.{entry}
 use Rattle.entries.specs.Entries.{entryAt, wrote}
 use Rattle.entries.proofs.Entries.{entry-wrote, wrote-length}
-use Rattle.plain.specs.Calls as Paper
-use Rattle.plain.specs.Calls.{Line}
+use Rattle.listing.specs.Sheet.{sheet}
 use Rattle.plain.specs.Record.{PlainDay, noted}
 use Rattle.plain.specs.Answers as Plain
-use Rattle.plain.specs.Answers.{Outcome, called, stepped}
+use Rattle.plain.specs.Answers.{Outcome, called, ending, stepped}
+use Rattle.plain.proofs.Ends.{Passes, fork-accepts, join-passes, known-kind, means, query-accepts, update-accepts, yield-accepts}
 use Rattle.table.specs.Halves.{low, high, cellsOf}
 use Rattle.table.specs.Answers as Table
-use Rattle.table.specs.Answers.{Out}
-use Rattle.table.specs.Calls.{updateOut, queryOut, yieldOut, forkOut, joinOut, listOut, shownOut, fillOut, fillIn, noFill, told}
-use Rattle.table.specs.declared.answer.Level.{Level}
+use Rattle.table.specs.Out.{Out}
+use Rattle.table.specs.Calls.{updateOut, queryOut, yieldOut, forkOut, joinEnd, joinOut, listOut, fillOut, noFill, standingAt, told}
 use Rattle.following.specs.Reached.{byNumber, stepBytes}
-use Rattle.following.specs.Numbers.{Number}
-use Rattle.following.specs.Follow.{isGiven}
-use Rattle.consistency.specs.Table.{sheetWith}
-use Rattle.following.proofs.Cells.Passing.{client-is, known}
-use Rattle.consistency.proofs.Table.Stands.{Stands, asEntered, bytes-are, high-size, is-table, numbers-are, stands-next}
-use Rattle.consistency.proofs.Table.Same.{Same, by-check, by-table, by-given, by-named}
+use Rattle.consistency.specs.Table.{Served, levelReply, onTable, outReply, sheetWith}
+use Rattle.consistency.proofs.Table.Stands.{Stands, bytes-are, high-size, stands-next}
+use Rattle.consistency.proofs.Table.Rows.{agree, number}
 use Rattle.consistency.proofs.Table.Values.{same-order, same-sheet, same-standing}
+
+-- a call's end at the table and on the day: the same answer, on the sheet that it was lent, and a table that stands for the day
+pub record Same (sheet : List ℕ) (s : Served) (o : Outcome) : Type 0 where
+  pub reply : s .reply ≡ answerOn (λ ls. sheetWith ls sheet) (o .answer)
+  pub stands : Stands (o .next) (s .table)
+
+pub same-answer : {S : Type 0} {a b : State} {v w g h : ℕ} {s z : S} (code total : ℕ) → a ≡ b → v ≡ w → g ≡ h → s ≡ z
+    → _≡_ {A = Answer S} (record { code = code; state = a; value = v; total = total; gain = g; sheet = s }) (record { code = code; state = b; value = w; total = total; gain = h; sheet = z })
+same-answer code total e f g h = rw (e, f, g, h)
 
 module _ (p : PlainDay) (t : List ℕ) (S : Stands p t) where
   abbrev y : Day
   y = p .day
 
-  -- a call that has the table lent leaves one that stands for the day
-  abbrev pub OnTable : PlainDay → List Line → List ℕ → Type 0
-  OnTable q ls b = Stands q b
+  -- a call that has the table lent
+  abbrev pub OnTable : Out → Outcome → Type 0
+  OnTable u o = Same [] (onTable u) o
 
-  check-table : (a b : Bool) (code : ℕ) (o : Outcome) (u : Out) → a ≡ b → (b ≡ false → Same OnTable o u) → Same OnTable (Plain.check b code p o) (Table.check a code t u)
-  check-table = by-check p t S OnTable t S
+  pub refused-same : (k : ℕ) → OnTable (Table.refused t k) (Plain.refused p k)
+  refused-same k = record { reply = refl; stands = S }
 
-  check-given : (n : ℕ) (rest : ℕ → Outcome) (u : Out) → ((r : ℕ) → meant y n ≡ some r → Same OnTable (rest r) u) → Same OnTable (Plain.given (meant y n) p rest) (Table.check (not (Asked.givenOut (cellsOf t) n)) 3 t u)
-  check-given = by-given p t S OnTable t S
+  numbered : (n : ℕ) → not (isGiven y n) ≡ false → numberOf y (meant y n) ≡ n
+  numbered n e = meant-number y n (meant y n) (means p n e)
 
-  -- a step that notes no entry: the table that it leaves, and the call's end, of a query and of any other
+  -- a step that notes no entry
   stepped-on : (s : Step) → accepted y s ≡ true → after y s .updates ≡ y .updates → (b : List ℕ) → b ≡ stepBytes (low t) (byNumber y s) → Stands (stepped p s) (b ++ high t)
   stepped-on s e q b x = subst (λ k. Stands (stepped p s) (k ++ high t)) (sym x) (stands-next p t S s e (stepped p s) refl (high t) (high-size p t S) (λ n h. S .entries-are n (subst (λ k. n < k) q h)))
 
-  by-step : (s : Step) → accepted y s ≡ true → after y s .updates ≡ y .updates → (value w : ℕ) → w ≡ value → (b : List ℕ) → b ≡ stepBytes (low t) (byNumber y s) → Same OnTable (Plain.taken (stepped p s) value) (Table.taken (b ++ high t) w)
-  by-step s e q value w z b x = record { code = refl; state = refl; value = z; total = refl; gain = refl; lent = stepped-on s e q b x }
-
-  by-query : (s : Step) → accepted y s ≡ true → after y s .updates ≡ y .updates → (standing w : Standing) → w ≡ standing → (b : List ℕ) → b ≡ stepBytes (low t) (byNumber y s)
-      → Same OnTable (Plain.answered (stepped p s) standing) (Table.answered (b ++ high t) w)
-  by-query s e q standing w z b x = record { code = refl; state = ap stateOf z; value = ap valueIn z; total = refl; gain = refl; lent = stepped-on s e q b x }
-
-  client : (c : ℕ) → not (Asked.isClient c) ≡ Day.unknownClient c
-  client c = client-is y (cellsOf t) (bytes-are p t S .follow) c
-
-  number : (n r : ℕ) → meant y n ≡ some r → Number y (cellsOf t) n r
-  number n r e = numbers-are p t S .number n r e
+  by-step : (s : Step) → accepted y s ≡ true → after y s .updates ≡ y .updates → (value w : ℕ) → w ≡ value → (b : List ℕ) → b ≡ stepBytes (low t) (byNumber y s) → OnTable (Table.taken (b ++ high t) w) (Plain.taken (stepped p s) value)
+  by-step s e q value w z b x = record { reply = same-answer 0 0 refl z refl refl; stands = stepped-on s e q b x }
 
   room : Day.logFull y ≡ false → cellsOf t .updates < Upper.updates
   room e = ltb-true (cellsOf t .updates) Lower.updates (not-false _ (bytes-are p t S .follow .same-full ∙ e))
 
   noted-same : (c r : ℕ) (kind : Kind) (bib v : ℕ) → accepted y (Steps.Event c r true) ≡ true → badBib bib ≡ false → Day.logFull y ≡ false
-      → Same OnTable (Plain.taken (noted p c r kind bib v) (y .updates)) (Table.taken (stepBytes (low t) (byNumber y (Steps.Event c r true)) ++ wrote (high t) (cellsOf t .updates) (entry kind c bib v)) (cellsOf t .updates))
+      → OnTable (Table.taken (stepBytes (low t) (byNumber y (Steps.Event c r true)) ++ wrote (high t) (cellsOf t .updates) (entry kind c bib v)) (cellsOf t .updates)) (Plain.taken (noted p c r kind bib v) (y .updates))
   unfolding after
   noted-same c r kind bib v e e5 e9 = record {
-    code = refl;
-    state = refl;
-    value = is;
-    total = refl;
-    gain = refl;
-    lent = stands-next p t S (Steps.Event c r true) e (noted p c r kind bib v) refl (wrote (high t) (cellsOf t .updates) (entry kind c bib v)) (wrote-length (high t) (cellsOf t .updates) (entry kind c bib v) (high-size p t S) (room e9)) kept;
+    reply = same-answer 0 0 refl is refl refl;
+    stands = stands-next p t S (Steps.Event c r true) e (noted p c r kind bib v) refl (wrote (high t) (cellsOf t .updates) (entry kind c bib v)) (wrote-length (high t) (cellsOf t .updates) (entry kind c bib v) (high-size p t S) (room e9)) kept;
   }
     where
       is : cellsOf t .updates ≡ y .updates
@@ -103,106 +93,78 @@ module _ (p : PlainDay) (t : List ℕ) (S : Stands p t) where
       low-bib : bib < Upper.bibRange
       low-bib = omega (arith, ltb-true bib 1000 (not-false _ e5))
 
-      kept : (n : ℕ) → n < suc (y .updates) → asEntered (entryAt (wrote (high t) (cellsOf t .updates) (entry kind c bib v)) n) ≡ changed (p .entries) (y .updates) (record { kind = kind; client = c; bib = bib; v = v }) n
+      kept : (n : ℕ) → n < suc (y .updates) → entryAt (wrote (high t) (cellsOf t .updates) (entry kind c bib v)) n ≡ changed (p .entries) (y .updates) (record { kind = kind; client = c; bib = bib; v = v }) n
       kept n h =
-          ap asEntered (entry-wrote (high t) (cellsOf t .updates) (entry kind c bib v) n (high-size p t S) (room e9) low-bib)
+          entry-wrote (high t) (cellsOf t .updates) (entry kind c bib v) n (high-size p t S) (room e9) low-bib
           ∙ rw is (cases (eqb n (y .updates)) (λ q. rw q) (λ q. rw q (S .entries-are n (let z = eqb-false n (y .updates) q in omega arith))))
 
-  pub update-same : (c n k bib v : ℕ) → Same OnTable (called p (Paper.Update c n k bib v)) (updateOut t c n k bib v)
-  unfolding called updateOut stepBytes
-  update-same c n k bib v =
-      by-table p t S OnTable t S _ _ (
-      check-table _ (Day.unknownClient c) 2 _ _ (client c) λ e2.
-      check-given n _ _ λ r e3.
-      check-table _ (y .joined r) 4 _ _ (number n r e3 .same-joined) λ e4.
-      check-table _ (badBib bib) 5 _ _ refl λ e5.
-      by-named p t S OnTable t S (kindCheck k) _ _ λ kind.
-      check-table _ (Day.openElsewhere y c r) 6 _ _ (number n r e3 .same-elsewhere c (known y (cellsOf t) (bytes-are p t S .follow) c e2)) λ e6.
-      check-table _ (Day.busyByOther y c r) 7 _ _ (number n r e3 .same-busyByOther c) λ e7.
-      check-table _ (Day.stale y c r) 8 _ _ (number n r e3 .out e4 .same-stale c (known y (cellsOf t) (bytes-are p t S .follow) c e2)) λ e8.
-      check-table _ (Day.logFull y) 9 _ _ (bytes-are p t S .follow .same-full) λ e9.
-      rw (← meant-number y n r e3) (noted-same c r kind bib v (accept-event y c r true e2 (meant-given y n r e3) e4 e6 e7 e8 e9) e5 e9))
+  -- the ends of the calls that no check stops
+  update-end : (c n k bib v : ℕ) → Passes p (Update c n k bib v)
+      → OnTable (Table.taken (updateBytes (low t) c n ++ wrote (high t) (cellsOf t .updates) (entry (kindOf k) c bib v)) (cellsOf t .updates)) (ending p (Update c n k bib v))
+  unfolding stepBytes
+  update-end c n k bib v (e1 also e2 also e3 also e4 also e5 also e6 also e7 also e8 also e9 also Checks.none) =
+      subst (λ z. OnTable (Table.taken (updateBytes (low t) c z ++ wrote (high t) (cellsOf t .updates) (entry (kindOf k) c bib v)) (cellsOf t .updates)) (ending p (Update c n k bib v))) (numbered n e3)
+      (noted-same c (meant y n) (kindOf k) bib v (update-accepts p c n k bib v (e1 also e2 also e3 also e4 also e5 also e6 also e7 also e8 also e9 also Checks.none)) (known-kind bib k e5 .0) e9)
 
-  pub query-same : (c n bib : ℕ) → Same OnTable (called p (Paper.Query c n bib)) (queryOut t c n bib)
-  unfolding called queryOut stepBytes after
-  query-same c n bib =
-      by-table p t S OnTable t S _ _ (
-      check-table _ (Day.unknownClient c) 2 _ _ (client c) λ e2.
-      check-given n _ _ λ r e3.
-      check-table _ (y .joined r) 4 _ _ (number n r e3 .same-joined) λ e4.
-      check-table _ (badBib bib) 5 _ _ refl λ e5.
-      check-table _ (Day.openElsewhere y c r) 6 _ _ (number n r e3 .same-elsewhere c (known y (cellsOf t) (bytes-are p t S .follow) c e2)) λ e6.
-      check-table _ (Day.busyByOther y c r) 7 _ _ (number n r e3 .same-busyByOther c) λ e7.
-      check-table _ (Day.stale y c r) 8 _ _ (number n r e3 .out e4 .same-stale c (known y (cellsOf t) (bytes-are p t S .follow) c e2)) λ e8.
-      let standing = same-standing p t S n r e3 e4 c bib in
-      let accepts = accept-event y c r false e2 (meant-given y n r e3) e4 e6 e7 e8 refl in
-      by-query (Steps.Event c r false) accepts refl _ _ standing _ (ap (queryBytes (low t) c) (sym (meant-number y n r e3))))
+  query-end : (c n bib : ℕ) → Passes p (Query c n bib) → OnTable (Table.answered (queryBytes (low t) c n ++ high t) (standingAt t n bib)) (ending p (Query c n bib))
+  unfolding stepBytes after
+  query-end c n bib (e1 also e2 also e3 also e4 also P) =
+      let z = same-standing p t S n e3 e4 c bib in
+      record {
+        reply = same-answer 0 0 (ap stateOf z) (ap valueIn z) refl refl;
+        stands = stepped-on (Steps.Event c (meant y n) false) (query-accepts p c n bib (e1 also e2 also e3 also e4 also P)) refl _ (ap (queryBytes (low t) c) (sym (numbered n e3)));
+      }
 
-  pub yield-same : (c : ℕ) → Same OnTable (called p (Paper.Yield c)) (yieldOut t c)
+  fork-end : (n : ℕ) → Passes p (Fork n) → OnTable (Table.taken (forkBytes (low t) n (nextNumber (cellsOf t)) ++ high t) (nextNumber (cellsOf t))) (ending p (Fork n))
+  unfolding stepBytes after
+  fork-end n (e1 also e3 also e4 also e7 also e10 also Checks.none) =
+      by-step (Steps.Fork (meant y n)) (fork-accepts p n (e1 also e3 also e4 also e7 also e10 also Checks.none)) refl _ _ (bytes-are p t S .follow .same-number e10) _ (ap (λ z. forkBytes (low t) z (nextNumber (cellsOf t))) (sym (numbered n e3)))
+
+  pub join-end : (n m : ℕ) → Passes p (Join n m) → OnTable (joinEnd t n m) (ending p (Join n m))
+  unfolding stepBytes after
+  join-end n m (e1 also e3 also e4 also P) =
+      let J = join-passes p n m (e1 also e3 also e4 also P) in
+      let g = or-false (not (isGiven y n)) (not (isGiven y m)) e3 in
+      let o = or-false (y .joined (meant y n)) (y .joined (meant y m)) e4 in
+      by-step (Steps.Join (meant y n) (meant y m)) (J .accepts) refl _ _ (number p t S m (g .1) .out (o .1) .same-gain) _ (ap (λ z. joinBytes (low t) z m) (sym (numbered n (g .0))) ∙ ap (joinBytes (low t) (numberOf y (meant y n))) (sym (numbered m (g .1))))
+
+  -- each call: the rows agree, and so do the ends
+  pub update-same : (c n k bib v : ℕ) → OnTable (updateOut t c n k bib v) (called p (Update c n k bib v))
+  unfolding called updateOut
+  update-same c n k bib v = same-end OnTable (Table.refused t) (Plain.refused p) refused-same _ _ (agree p t S (Update c n k bib v)) (update-end c n k bib v)
+
+  pub query-same : (c n bib : ℕ) → OnTable (queryOut t c n bib) (called p (Query c n bib))
+  unfolding called queryOut
+  query-same c n bib = same-end OnTable (Table.refused t) (Plain.refused p) refused-same _ _ (agree p t S (Query c n bib)) (query-end c n bib)
+
+  pub yield-same : (c : ℕ) → OnTable (yieldOut t c) (called p (Yield c))
   unfolding called yieldOut stepBytes after
   yield-same c =
-      by-table p t S OnTable t S _ _ (
-      check-table _ (Day.unknownClient c) 2 _ _ (client c) λ e2.
-      by-step (Steps.Yield c) (accept-yield y c e2) (yield-updates y c (y .openBy c)) 0 0 refl _ refl)
+      same-end OnTable (Table.refused t) (Plain.refused p) refused-same _ _ (agree p t S (Yield c))
+      (λ P. by-step (Steps.Yield c) (yield-accepts p c P) (yield-updates y c (y .openBy c)) 0 0 refl _ refl)
 
-  pub fork-same : (n : ℕ) → Same OnTable (called p (Paper.Fork n)) (forkOut t n)
-  unfolding called forkOut stepBytes after
-  fork-same n =
-      by-table p t S OnTable t S _ _ (
-      check-given n _ _ λ r e3.
-      check-table _ (y .joined r) 4 _ _ (number n r e3 .same-joined) λ e4.
-      check-table _ (Day.busy y r) 7 _ _ (number n r e3 .same-busy) λ e7.
-      check-table _ (Day.noneLeft y) 10 _ _ (bytes-are p t S .follow .same-left) λ e10.
-      by-step (Steps.Fork r) (accept-fork y r (meant-given y n r e3) e4 e7 e10) refl (Days.nextNumber y) _ (bytes-are p t S .follow .same-number e10) _ (ap (λ z. forkBytes (low t) z (nextNumber (cellsOf t))) (sym (meant-number y n r e3))))
+  pub fork-same : (n : ℕ) → OnTable (forkOut t n) (called p (Fork n))
+  unfolding called forkOut
+  fork-same n = same-end OnTable (Table.refused t) (Plain.refused p) refused-same _ _ (agree p t S (Fork n)) (fork-end n)
 
-  pub join-same : (n m : ℕ) → Same OnTable (called p (Paper.Join n m)) (joinOut t n m)
-  unfolding called joinOut stepBytes after
-  join-same n m =
-      by-table p t S OnTable t S _ _ (
-      check-given n _ _ λ a e3.
-      check-given m _ _ λ b f3.
-      check-table (Asked.joined (cellsOf t) n || Asked.joined (cellsOf t) m) (y .joined a || y .joined b) 4 _ _ (rw (number n a e3 .same-joined, number m b f3 .same-joined)) λ e4.
-      check-table (Asked.busy (cellsOf t) n || Asked.busy (cellsOf t) m) (Day.busy y a || Day.busy y b) 7 _ _ (rw (number n a e3 .same-busy, number m b f3 .same-busy)) λ e7.
-      let o = or-false (y .joined a) (y .joined b) e4 in
-      let i = or-false (Day.busy y a) (Day.busy y b) e7 in
-      check-table _ (Day.notJoinable y a b) 11 _ _ (ap not (numbers-are p t S .same-joinable n m a b e3 f3 (o .0) (o .1)) ∙ Bool·not-not (Day.notJoinable y a b)) λ e11.
-      let gain = number m b f3 .out (o .1) .same-gain in
-      let accepts = accept-join y a b (meant-given y n a e3) (meant-given y m b f3) (o .0) (o .1) (i .0) (i .1) e11 in
-      by-step (Steps.Join a b) accepts refl _ _ gain _ (ap (λ z. joinBytes (low t) z m) (sym (meant-number y n a e3)) ∙ ap (joinBytes (low t) (numberOf y a)) (sym (meant-number y m b f3))))
+  pub join-same : (n m : ℕ) → OnTable (joinOut t n m) (called p (Join n m))
+  unfolding called joinOut
+  join-same n m = same-end OnTable (Table.refused t) (Plain.refused p) refused-same _ _ (agree p t S (Join n m)) (join-end n m)
 
-  -- a call that has a sheet lent leaves the table as it is, and the day's lines on the sheet
-  abbrev pub OnSheet : List ℕ → PlainDay → List Line → List ℕ → Type 0
-  OnSheet s q ls b = Stands q t × (b ≡ sheetWith ls s)
+  -- a list, which has a sheet lent; and a fill
+  abbrev OnSheet : List ℕ → Out → Outcome → Type 0
+  OnSheet s u o = Same s (record { reply = outReply u (u .lent); table = t }) o
 
-  pub list-same : (n : ℕ) (s : List ℕ) → Same (OnSheet s) (called p (Paper.Show n (length s))) (listOut t n s)
-  unfolding called listOut shownOut
-  list-same n s =
-      by-table p t S (OnSheet s) s (S, refl) _ _ (
-      by-given p t S (OnSheet s) s (S, refl) n _ _ λ r e3.
-      by-check p t S (OnSheet s) s (S, refl) _ (y .joined r) 4 _ _ (number n r e3 .same-joined) λ e4.
-      by-check p t S (OnSheet s) s (S, refl) _ (Day.busy y r) 7 _ _ (number n r e3 .same-busy) λ e7.
-      let same = same-order p t S n r e3 e4 in
-      by-check p t S (OnSheet s) s (S, refl) _ (ltb (length s) (12 * length (view (y .diagram) (y .terminal r)))) 12 _ _ (ap (λ z. ltb (length s) (12 * length z)) same) λ e12.
-      record { code = refl; state = refl; value = ap length same; total = refl; gain = refl; lent = (S, same-sheet p t S n r e3 e4 s) })
-
-  -- a fill's end: the same numbers, and the day stays
-  pub record SameLevel (o : Outcome) (f : Level) : Type 0 where
-    pub code : f .code ≡ o .answer .code
-    pub state : Neither ≡ o .answer .state
-    pub own : f .own ≡ o .answer .value
-    pub total : f .total ≡ o .answer .total
-    pub gain : 0 ≡ o .answer .gain
-    pub next : o .next ≡ p
-
-  pub fill-same : (n : ℕ) → SameLevel (called p (Paper.Fill n)) (fillOut t n)
-  unfolding called fillOut fillIn
-  fill-same n = rw (is-table p t S, numbers-are p t S .same-given n) (pick (meant y n) refl)
+  pub list-same : (n : ℕ) (s : List ℕ) → OnSheet s (listOut t n s) (called p (Looks (Show n (length s))))
+  unfolding called listOut
+  list-same n s = same-end (OnSheet s) (Table.refused s) (Plain.refused p) (λ k. record { reply = refl; stands = S }) _ _ (agree p t S (Looks (Show n (length s)))) by
     where
-      out : (r : ℕ) → meant y n ≡ some r → (b : Bool) → y .joined r ≡ b → SameLevel (Plain.check b 4 p (Plain.told p (length (own (y .diagram) (y .terminal r))) (y .updates))) (cond b (noFill 4) (told (cellsOf t) n))
-      out r e true j = record { code = refl; state = refl; own = refl; total = refl; gain = refl; next = refl }
-      out r e false j = record { code = refl; state = refl; own = number n r e .out j .same-gain; total = bytes-are p t S .follow .same-updates; gain = refl; next = refl }
+      by : Passes p (Looks (Show n (length s))) → OnSheet s (Table.taken (sheet (entryAt (high t)) (order (cellsOf t) n) s) (length (order (cellsOf t) n))) (ending p (Looks (Show n (length s))))
+      by (e1 also e3 also e4 also P) = record { reply = same-answer 0 0 refl (ap length (same-order p t S n e3 e4)) refl (same-sheet p t S n e3 e4 s); stands = S }
 
-      pick : (m : Option ℕ) → meant y n ≡ m
-          → SameLevel (Plain.given m p (λ r. Plain.check (y .joined r) 4 p (Plain.told p (length (own (y .diagram) (y .terminal r))) (y .updates)))) (cond (not (isGiven m)) (noFill 3) (cond (Asked.joined (cellsOf t) n) (noFill 4) (told (cellsOf t) n)))
-      pick none e = record { code = refl; state = refl; own = refl; total = refl; gain = refl; next = refl }
-      pick (some r) e = rw (number n r e .same-joined) (out r e (y .joined r) refl)
+  pub fill-same : (n : ℕ) → Same [] (record { reply = levelReply (fillOut t n); table = t }) (called p (Looks (Fill n)))
+  unfolding called fillOut
+  fill-same n = same-end (λ f o. Same [] (record { reply = levelReply f; table = t }) o) noFill (Plain.refused p) (λ k. record { reply = refl; stands = S }) (told (cellsOf t) n) _ (agree p t S (Looks (Fill n))) by
+    where
+      by : Passes p (Looks (Fill n)) → Same [] (record { reply = levelReply (told (cellsOf t) n); table = t }) (ending p (Looks (Fill n)))
+      by (e1 also e3 also e4 also Checks.none) = record { reply = rw (number p t S n e3 .out e4 .same-gain, bytes-are p t S .follow .same-updates); stands = S }

@@ -7,15 +7,15 @@ use native.Mathlib.Omega.{arith}
 use lib.ListN.{length, length-append, length-drop}
 use borrow.Author.Tests.{eq-eqb}
 use Rattle.diagram.specs.Day.{Day, fresh}
-use Rattle.diagram.specs.Steps.{Step, Accepted, accepted, after, run, runFrom}
+use Rattle.diagram.specs.Steps.{Step, after, run, runFrom}
+use Rattle.diagram.specs.Accepted.{Accepted, accepted}
 use Rattle.diagram.proofs.Order.Runs.{accepted-both, run-step}
 use Rattle.cells.specs.Sizes as Lower
 use Rattle.entries.specs.Sizes as Upper
-use Rattle.entries.specs.declared.entry.Entry as Stored
 use Rattle.entries.specs.Entries.{entryAt}
-use Rattle.plain.specs.Calls.{Entry}
 use Rattle.plain.specs.Record.{PlainDay}
-use Rattle.table.specs.Halves.{bytes, low, high, cellsOf, isTable}
+use Rattle.table.specs.Halves.{low, high, cellsOf, isTable}
+use Rattle.table.specs.Out.{bytes}
 use Rattle.table.proofs.Halves.{low-of, high-of}
 use Rattle.following.specs.Reached.{byNumber, bytesAfter, bytesFrom, stepBytes}
 use Rattle.following.specs.Follow.{BytesFollow}
@@ -23,17 +23,13 @@ use Rattle.following.specs.Numbers.{NumbersFollow}
 use Rattle.following.proofs.Cells.Numbers.{numbers-follow}
 use Rattle.following.proofs.Follow.{bytes-follow}
 
--- an entry as it was entered
-abbrev pub asEntered : Stored.Entry → Entry
-asEntered e = record { kind = e .kind; client = e .client; bib = e .bib; v = e .v }
-
 pub record Stands (p : PlainDay) (t : List ℕ) : Type 0 where
   pub steps : List Step
   pub ok : Accepted steps
   pub day-is : p .day ≡ run steps
   pub low-is : low t ≡ bytesAfter steps
   pub size : length t ≡ bytes
-  pub entries-are : (n : ℕ) → n < p .day .updates → asEntered (entryAt (high t) n) ≡ p .entries n
+  pub entries-are : (n : ℕ) → n < p .day .updates → entryAt (high t) n ≡ p .entries n
 
 bytes-both : (ss : List Step) (s : Step) (y : Day) (d : List ℕ) → bytesFrom y d (ss ++ (s ∷ [])) ≡ stepBytes (bytesFrom y d ss) (byNumber (runFrom y ss) s)
 unfolding bytesFrom runFrom
@@ -65,14 +61,14 @@ module _ (p : PlainDay) (t : List ℕ) (S : Stands p t) where
 
   -- a step taken, with any upper half that has the entries
   pub stands-next : (s : Step) → accepted (p .day) s ≡ true → (q : PlainDay) → q .day ≡ after (p .day) s → (h : List ℕ) → length h ≡ Upper.bytes
-      → ((n : ℕ) → n < q .day .updates → asEntered (entryAt h n) ≡ q .entries n) → Stands q (stepBytes (low t) (byNumber (p .day) s) ++ h)
+      → ((n : ℕ) → n < q .day .updates → entryAt h n ≡ q .entries n) → Stands q (stepBytes (low t) (byNumber (p .day) s) ++ h)
   stands-next s e q d h l f = let w = byNumber (p .day) s in record {
     steps = S .steps ++ (s ∷ []);
     ok = ok′;
     day-is = d ∙ ap (λ z. after z s) (S .day-is) ∙ sym (run-step (S .steps) s);
     low-is = low-of (stepBytes (low t) w) h size′ ∙ is;
     size = length-append (stepBytes (low t) w) h ∙ omega (arith, size′, l);
-    entries-are = λ n k. ap (λ z. asEntered (entryAt z n)) (high-of (stepBytes (low t) w) h size′) ∙ f n k;
+    entries-are = λ n k. ap (λ z. entryAt z n) (high-of (stepBytes (low t) w) h size′) ∙ f n k;
   }
     where
       ok′ : Accepted (S .steps ++ (s ∷ []))

@@ -1,38 +1,39 @@
 -- A revision that a number means, on the table and on the day: what it shows, and the standing of a bib on it.
 use Prim.Native.Nat.{ℕ, suc, _*_, _<_}
-use mathlib.Core.Bool.{false}
+use mathlib.Core.Bool.{false, not}
 use mathlib.Core.Path.{_≡_, refl, sym, _∙_, ap}
-use mathlib.Core.Option.{some}
 use mathlib.Core.List.{List, [], _∷_, _++_}
 use lib.ListN.{length, drop}
 use Rattle.lists.specs.Lists.{_∈_}
 use Rattle.updates.specs.Applied.{applied, freshStanding}
-use Rattle.diagram.specs.Day.{meant}
+use Rattle.diagram.specs.Day.{Day, meant, isGiven}
 use Rattle.diagram.specs.Effects.{view}
-use Rattle.diagram.specs.Steps.{Event}
+use Rattle.diagram.specs.Steps.{Event, Step, run}
+use Rattle.diagram.specs.Accepted.{Accepted}
 use Rattle.diagram.proofs.Order.Runs.{fine-run}
 use Rattle.cells.specs.Order.{order}
-use Rattle.entries.specs.declared.entry.Entry as Stored
+use Rattle.entries.specs.declared.entry.Entry.{Entry}
 use Rattle.entries.specs.Entries.{entryAt}
 use Rattle.entries.specs.Folded as Folded
-use Rattle.listing.specs.Lines.{line, lines, sheet}
-use Rattle.plain.specs.Calls.{Entry}
+use Rattle.listing.specs.Lines.{line}
+use Rattle.listing.specs.Sheet.{lines, sheet}
 use Rattle.plain.specs.Record as Plain
 use Rattle.plain.specs.Record.{PlainDay, linesOf, pathResult}
 use Rattle.plain.specs.Answers.{stepped}
+use Rattle.plain.proofs.Ends.{meaning}
 use Rattle.plain.proofs.Previews.{reads-terminal}
 use Rattle.plain.proofs.LineUp.{view-low, ofBib-same, linesOf-same}
 use Rattle.table.specs.Halves.{cellsOf, high}
 use Rattle.table.specs.Calls as Table
 use Rattle.consistency.specs.Table.{inBytes, sheetWith}
-use Rattle.consistency.proofs.Table.Stands.{Stands, asEntered, numbers-are}
+use Rattle.consistency.proofs.Table.Stands.{Stands, numbers-are}
 
 -- a bib's standing by entries that are stored as they were entered
-pub standing-same : (f : ℕ → Stored.Entry) (g : ℕ → Entry) (bib : ℕ) (ns ms : List ℕ) → ns ≡ ms → ((k : ℕ) → k ∈ ms → asEntered (f k) ≡ g k) → Folded.standingOf f bib ns ≡ Plain.standingOf g bib ms
-standing-same f g bib ns ms e h = ap (λ us. applied us freshStanding) (ap (Folded.ofBib f bib) e ∙ ofBib-same (λ n. asEntered (f n)) g bib ms h)
+pub standing-same : (f : ℕ → Entry) (g : ℕ → Entry) (bib : ℕ) (ns ms : List ℕ) → ns ≡ ms → ((k : ℕ) → k ∈ ms → f k ≡ g k) → Folded.standingOf f bib ns ≡ Plain.standingOf g bib ms
+standing-same f g bib ns ms e h = ap (λ us. applied us freshStanding) (ap (Folded.ofBib f bib) e ∙ ofBib-same (f) g bib ms h)
 
 -- the lines in bytes, of the entries as they are stored and as they were entered
-inBytes-is : (f : ℕ → Stored.Entry) (ns : List ℕ) → inBytes (linesOf (λ n. asEntered (f n)) ns) ≡ lines f ns
+inBytes-is : (f : ℕ → Entry) (ns : List ℕ) → inBytes (linesOf (f) ns) ≡ lines f ns
 unfolding lines
 inBytes-is f [] = refl
 inBytes-is f (n ∷ ns) = ap (λ z. line (f n) n ++ z) (inBytes-is f ns)
@@ -41,15 +42,21 @@ linesOf-length : (f : ℕ → Entry) (ns : List ℕ) → length (linesOf f ns) �
 linesOf-length f [] = refl
 linesOf-length f (n ∷ ns) = ap suc (linesOf-length f ns)
 
-module _ (p : PlainDay) (t : List ℕ) (S : Stands p t) (n r : ℕ) (m : meant (p .day) n ≡ some r) (o : p .day .joined r ≡ false) where
+shown-of : (ss : List Step) → Accepted ss → (y : Day) → y ≡ run ss → (r k : ℕ) → k ∈ view (y .diagram) (y .terminal r) → k < y .updates
+shown-of ss A y e r k = rw e (λ i. view-low ss A _ k (fine-run ss A .sound .real .linked .bound r) i)
+
+module _ (p : PlainDay) (t : List ℕ) (S : Stands p t) (n : ℕ) (g : not (isGiven (p .day) n) ≡ false) (o : p .day .joined (meant (p .day) n) ≡ false) where
+  abbrev r : ℕ
+  r = meant (p .day) n
+
   pub same-order : order (cellsOf t) n ≡ view (p .day .diagram) (p .day .terminal r)
-  same-order = numbers-are p t S .number n r m .out o .same-order
+  same-order = numbers-are p t S .number n r (meaning p n g) .out o .same-order
 
   -- every number shown is that of an update taken
   pub shown-low : (k : ℕ) → k ∈ view (p .day .diagram) (p .day .terminal r) → k < p .day .updates
-  shown-low = rw (S .day-is) (λ k i. view-low (S .steps) (S .ok) _ k (fine-run (S .steps) (S .ok) .sound .real .linked .bound r) i)
+  shown-low = shown-of (S .steps) (S .ok) (p .day) (S .day-is) r
 
-  entries-same : (k : ℕ) → k ∈ view (p .day .diagram) (p .day .terminal r) → asEntered (entryAt (high t) k) ≡ p .entries k
+  entries-same : (k : ℕ) → k ∈ view (p .day .diagram) (p .day .terminal r) → entryAt (high t) k ≡ p .entries k
   entries-same k i = S .entries-are k (shown-low k i)
 
   pub same-reading : (bib : ℕ) → Table.standingAt t n bib ≡ pathResult p (p .day .terminal r) bib

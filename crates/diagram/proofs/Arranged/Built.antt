@@ -13,7 +13,7 @@ use lib.Dec.{eqb}
 use borrow.Author.Tests.{eq-eqb, eqb-false, eqb-true, ne-eqb}
 use Rattle.blocks.proofs.Invariant.{fork-inv, join-inv, update-inv}
 use Rattle.blocks.proofs.Past.{held-grow, held-join}
-use Rattle.blocks.specs.Blocks.{Contents, Held, Inv, blocks, forkContents, forkJ, grow, joinJ, seen}
+use Rattle.blocks.specs.Blocks.{Contents, Held, Inv, blocks, forkContents, grow, seen}
 use Rattle.diagram.proofs.Arranged.Advance.{Linked, May, advance, contents, inv-same, may, may-next, may-true, next, on}
 use Rattle.diagram.proofs.Arranged.Advance.{on-bound, on-other, on-self, one-may, one-older, sees-before, sees-on, sees-other}
 use Rattle.diagram.proofs.Arranged.Advance.{true-may, unseen-before}
@@ -26,7 +26,9 @@ use Rattle.lists.proofs.Cases.{cases, either, or-left, or-right, split}
 use Rattle.lists.proofs.Changed.{changed-other, changed-same}
 use Rattle.lists.proofs.Places.{Place, Places, insert-at, place, places, remove-at}
 use Rattle.lists.proofs.Sublists.{nodup-apart, ⊑-⊆}
-use Rattle.lists.specs.Lists.{_∈_, _⊆_, _⊑_, changed, insertBefore, remove}
+use Rattle.lists.specs.Lists.{_∈_, _⊑_, changed}
+use Rattle.lists.specs.Arranged.{_⊆_, insertBefore, remove}
+use Rattle.lists.specs.Pool.{forkPool, joinPool}
 
 blocks-from : (s : Contents) (l : List ℕ) (n : ℕ) → n ∈ blocks s l → (x : ℕ) × (n ∈ s x .own)
 blocks-from s [] n i = absurd (List·Memᴰ·not-nil i)
@@ -58,8 +60,8 @@ linked-update d layout terminal starts L b i t k =
     few : (n : ℕ) → n ∈ (ownEvents d (terminal b) ++ (length d ∷ [])) → n < length (v ∷ d)
     few n k = either (List·Memᴰ·append-cases (ownEvents d (terminal b)) k) (λ j. omega (arith, L .small (terminal b) n j)) (λ j. omega (arith, List·Memᴰ·eq-of-singleton j))
 
-joinJ-keep : (J : ℕ → ℕ → Bool) (a b x y : ℕ) → J x y ≡ true → joinJ J a b x y ≡ true
-joinJ-keep J a b x y h = cases (eqb x a) (λ e. rw e (or-left (J a y) (J b y) (rw (eqb-true x a e) at h))) (λ e. rw e h)
+join-keeps : (J : ℕ → ℕ → Bool) (a b x y : ℕ) → J x y ≡ true → joinPool J a b x y ≡ true
+join-keeps J a b x y h = cases (eqb x a) (λ e. rw e (or-left (J a y) (J b y) (rw (eqb-true x a e) at h))) (λ e. rw e h)
 
 -- a join
 module _ (d : Diagram) (layout : List ℕ) (terminal starts : ℕ → ℕ) (L : Linked d layout terminal starts) (a b : ℕ) (a-in : a ∈ layout) (b-in : b ∈ layout) (m : May d terminal starts a b) where
@@ -81,11 +83,11 @@ module _ (d : Diagram) (layout : List ℕ) (terminal starts : ℕ → ℕ) (L : 
   rest : remove b layout ≡ P .above ++ (P .between ++ (a ∷ P .below))
   rest = ap (remove b) (P .eq) ∙ remove-at b (P .above) (P .between ++ (a ∷ P .below)) (λ i. nodup-apart (P .above) _ (whole .distinct) b i (List·Memᴰ·head refl))
 
-  join-may : (x y : ℕ) → x ∈ remove b layout → y ∈ remove b layout → May (jv ∷ d) (next d layout terminal starts L a jv refl) starts x y → joinJ (may d terminal starts) a b x y ≡ true
+  join-may : (x y : ℕ) → x ∈ remove b layout → y ∈ remove b layout → May (jv ∷ d) (next d layout terminal starts L a jv refl) starts x y → joinPool (may d terminal starts) a b x y ≡ true
   join-may x y i k h = pick (may-next d layout terminal starts L a jv refl x y h)
     where
-      pick : May d terminal starts x y ⊎ ((x ≡ a) × ((p : ℕ) → List·Memᴰ p (sources jv) → leads d (starts y) p ≡ false) × ((p : ℕ) × List·Memᴰ p (sources jv) × ((f : ℕ) × (forkVertex d (terminal y) ≡ some f) × (leads d f p ≡ true)))) → joinJ (may d terminal starts) a b x y ≡ true
-      pick (inl q) = joinJ-keep (may d terminal starts) a b x y (true-may d terminal starts x y q)
+      pick : May d terminal starts x y ⊎ ((x ≡ a) × ((p : ℕ) → List·Memᴰ p (sources jv) → leads d (starts y) p ≡ false) × ((p : ℕ) × List·Memᴰ p (sources jv) × ((f : ℕ) × (forkVertex d (terminal y) ≡ some f) × (leads d f p ≡ true)))) → joinPool (may d terminal starts) a b x y ≡ true
+      pick (inl q) = join-keeps (may d terminal starts) a b x y (true-may d terminal starts x y q)
       pick (inr q) = rw (q .0, eq-eqb a a refl) (side (List·Memᴰ·cases-cons (q .2 .1)))
         where
           t : (f : ℕ) × (forkVertex d (terminal y) ≡ some f) × (leads d f (q .2 .0) ≡ true)
@@ -100,7 +102,7 @@ module _ (d : Diagram) (layout : List ℕ) (terminal starts : ℕ → ℕ) (L : 
 
   pub linked-join : Linked (join (terminal a) (terminal b) ∷ d) (remove b layout) (changed terminal a (length d)) starts
   linked-join =
-      advance d layout terminal starts L a jv refl (remove b layout) (grow js a (js b .own)) (joinJ (may d terminal starts) a b) (both-older (length d) (terminal a) (terminal b) (L .bound a) (L .bound b)) (m .at, m .start-of, leads-path d (m .at) (terminal a) (m .leads))
+      advance d layout terminal starts L a jv refl (remove b layout) (grow js a (js b .own)) (joinPool (may d terminal starts) a b) (both-older (length d) (terminal a) (terminal b) (L .bound a) (L .bound b)) (m .at, m .start-of, leads-path d (m .at) (terminal a) (m .leads))
       (rw rest (Memᴰ·append-right (P .above) (Memᴰ·append-right (P .between) (List·Memᴰ·head refl)))) (changed-same js a _) (λ x i h. changed-other js a _ x h)
       (rw rest (join-inv (P .above) b (P .between) a (P .below) js (may d terminal starts) whole (ordered-pair .1))) join-may held few
     where
@@ -109,13 +111,6 @@ module _ (d : Diagram) (layout : List ℕ) (terminal starts : ℕ → ℕ) (L : 
 
       few : (n : ℕ) → n ∈ (ownEvents d (terminal a) ++ ownEvents d (terminal b)) → n < suc (length d)
       few n k = either (List·Memᴰ·append-cases (ownEvents d (terminal a)) k) (λ j. omega (arith, L .small (terminal a) n j)) (λ j. omega (arith, L .small (terminal b) n j))
-
-forkJ-keep : (J : ℕ → ℕ → Bool) (p c x y : ℕ) → (x ≡ c → ⊥) → J x y ≡ true → forkJ J p c x y ≡ true
-forkJ-keep J p c x y n h = rw (ne-eqb x c n) (pick (split (eqb x p)))
-  where
-    pick : (eqb x p ≡ true) ⊎ (eqb x p ≡ false) → cond (eqb x p) (J p y || eqb y c) (J x y) ≡ true
-    pick (inl e) = rw e (or-left (J p y) (eqb y c) (rw (eqb-true x p e) at h))
-    pick (inr e) = rw e h
 
 -- a fork, from the diagram in which the fork vertex is: its number is f, and b is there
 module _ (d : Diagram) (layout : List ℕ) (terminal starts : ℕ → ℕ) (L : Linked d layout terminal starts) (b : ℕ) (b-in : b ∈ layout) (c : ℕ) (c-new : c ∈ layout → ⊥) (f : ℕ) (at-f : terminal b ≡ f) (last : suc f ≡ length d) (lone : (x : ℕ) → x ∈ layout → (x ≡ b → ⊥) → leads d f (terminal x) ≡ false) where
@@ -127,10 +122,6 @@ module _ (d : Diagram) (layout : List ℕ) (terminal starts : ℕ → ℕ) (L : 
 
   abbrev t2 : ℕ → ℕ
   t2 = on d sv terminal (L .bound) c
-
-  -- nobody is asked to join c before it is there
-  abbrev asked : ℕ → ℕ → Bool
-  asked x y = cond (eqb y c) false (may d terminal starts x y)
 
   not-new : (x : ℕ) → x ∈ layout → x ≡ c → ⊥
   not-new x i e = c-new (Memᴰ·cast (sym e) i)
@@ -161,22 +152,14 @@ module _ (d : Diagram) (layout : List ℕ) (terminal starts : ℕ → ℕ) (L : 
   fork-content : (x : ℕ) → contents (sv ∷ d) t2 x ≡ forkContents (contents d terminal) b c x
   fork-content x = cases (eqb x c) (λ e. rw (eqb-true x c e, on-self d sv terminal (L .bound) c inheritedStep [], on-self d sv terminal (L .bound) c ownEventStep [], changed-same (contents d terminal) c _, ← (view-split (L .ordered) (terminal b) (L .bound b)), at-f)) (λ e. let q = eqb-false x c e in rw (on-other d sv terminal (L .bound) c inheritedStep [] x q, on-other d sv terminal (L .bound) c ownEventStep [] x q, changed-other (contents d terminal) c _ x q))
 
-  asked-may : (x y : ℕ) → (y ≡ c → ⊥) → May d terminal starts x y → asked x y ≡ true
-  asked-may x y n h = rw (ne-eqb y c n) (true-may d terminal starts x y h)
+  fork-inv′ : Inv (insertBefore b c layout) (forkContents (contents d terminal) b c) (forkPool (may d terminal starts) b c)
+  fork-inv′ = rw FL (fork-inv (FP .above) b (FP .below) (contents d terminal) (may d terminal starts) c (rw (FP .eq) at (L .inv)) (rw (FP .eq) at c-new))
 
-  fork-inv′ : Inv (insertBefore b c layout) (forkContents (contents d terminal) b c) (forkJ asked b c)
-  fork-inv′ =
-      let j : Inv layout (contents d terminal) asked = inv-same layout (contents d terminal) (contents d terminal) (may d terminal starts) asked (L .inv) (λ x i. refl) less in
-      rw FL (fork-inv (FP .above) b (FP .below) (contents d terminal) asked c (rw (FP .eq) at j) (rw (FP .eq) at c-new) (λ x. rw (eq-eqb c c refl)))
-    where
-      less : (x y : ℕ) → x ∈ layout → y ∈ layout → asked x y ≡ true → may d terminal starts x y ≡ true
-      less x y i k e = rw (ne-eqb y c (not-new y k)) at e
-
-  fork-may : (x y : ℕ) → x ∈ insertBefore b c layout → y ∈ insertBefore b c layout → May (sv ∷ d) t2 starts2 x y → forkJ asked b c x y ≡ true
+  fork-may : (x y : ℕ) → x ∈ insertBefore b c layout → y ∈ insertBefore b c layout → May (sv ∷ d) t2 starts2 x y → forkPool (may d terminal starts) b c x y ≡ true
   fork-may x y i k h = at-y (split (eqb y c)) (split (eqb x c))
     where
-      to-c : y ≡ c → (x ≡ c → ⊥) → (eqb x b ≡ true) ⊎ (eqb x b ≡ false) → forkJ asked b c x y ≡ true
-      to-c q n (inl e) = rw (q, ne-eqb x c n, e, eq-eqb c c refl)
+      to-c : y ≡ c → (x ≡ c → ⊥) → (eqb x b ≡ true) ⊎ (eqb x b ≡ false) → forkPool (may d terminal starts) b c x y ≡ true
+      to-c q n (inl e) = rw (q, eq-eqb c c refl) e
       to-c q n (inr e) =
           let r : f ≡ h .at = cc (on-self d sv terminal (L .bound) c forkStep none, h .start-of, q) in
           let s : leads d f (terminal x) ≡ true = rw r (sym (sees-other d sv terminal (L .bound) c (h .at) x n) ∙ h .leads) in
@@ -189,14 +172,14 @@ module _ (d : Diagram) (layout : List ℕ) (terminal starts : ℕ → ℕ) (L : 
       unseen : (y ≡ c → ⊥) → leads (sv ∷ d) (starts y) (t2 x) ≡ false
       unseen n = ap (λ w. leads (sv ∷ d) w (t2 x)) (sym (changed-other starts c (length d) y n)) ∙ h .outside
 
-      by-c : x ≡ c → (y ≡ c → ⊥) → forkJ asked b c x y ≡ true
+      by-c : x ≡ c → (y ≡ c → ⊥) → forkPool (may d terminal starts) b c x y ≡ true
       by-c q n =
           let g = sees-before d sv terminal (L .bound) c (h .at) (inherited-from (L .ordered) (terminal y) (L .bound y) (h .at) (from-old n) .0) (rw q at (h .leads)) in
           let e : g .0 ≡ terminal b = List·Memᴰ·eq-of-singleton (g .1) ∙ sym at-f in
           let u : leads d (starts y) f ≡ false = unseen-before d sv terminal (L .bound) c (starts y) (rw q at (unseen n)) f (List·Memᴰ·head refl) in
-          rw (q, eq-eqb c c refl) (asked-may b y n (record { outside = rw at-f u; at = h .at; start-of = from-old n; leads = subst (λ w. leads d (h .at) w ≡ true) e (g .2) }))
+          rw (q, ne-eqb y c n, eq-eqb c c refl) (true-may d terminal starts b y (record { outside = rw at-f u; at = h .at; start-of = from-old n; leads = subst (λ w. leads d (h .at) w ≡ true) e (g .2) }))
 
-      at-y : (eqb y c ≡ true) ⊎ (eqb y c ≡ false) → (eqb x c ≡ true) ⊎ (eqb x c ≡ false) → forkJ asked b c x y ≡ true
+      at-y : (eqb y c ≡ true) ⊎ (eqb y c ≡ false) → (eqb x c ≡ true) ⊎ (eqb x c ≡ false) → forkPool (may d terminal starts) b c x y ≡ true
       at-y (inl p) (inl q) =
           let t : leads (sv ∷ d) (starts2 c) (t2 c) ≡ false = rw (eqb-true y c p, eqb-true x c q) at (h .outside) in
           let u : leads (sv ∷ d) (length d) (t2 c) ≡ false = rw (changed-same starts c (length d)) at t in
@@ -206,7 +189,7 @@ module _ (d : Diagram) (layout : List ℕ) (terminal starts : ℕ → ℕ) (L : 
       at-y (inr p) (inr q) =
           let n = eqb-false x c q in
           let o = eqb-false y c p in
-          forkJ-keep asked b c x y n (asked-may x y o (record { outside = sym (sees-other d sv terminal (L .bound) c (starts y) x n) ∙ unseen o; at = h .at; start-of = from-old o; leads = sym (sees-other d sv terminal (L .bound) c (h .at) x n) ∙ h .leads }))
+          rw (p, q) (true-may d terminal starts x y (record { outside = sym (sees-other d sv terminal (L .bound) c (starts y) x n) ∙ unseen o; at = h .at; start-of = from-old o; leads = sym (sees-other d sv terminal (L .bound) c (h .at) x n) ∙ h .leads }))
 
   start-older : (p : ℕ) → List·Memᴰ p (f ∷ []) → p < length d
   start-older p i = omega (arith, List·Memᴰ·eq-of-singleton i)
@@ -235,7 +218,7 @@ module _ (d : Diagram) (layout : List ℕ) (terminal starts : ℕ → ℕ) (L : 
     joins-ok = (tt, L .joins-ok);
     bound = on-bound d sv terminal (L .bound) c;
     small = start-small;
-    inv = inv-same (insertBefore b c layout) (forkContents (contents d terminal) b c) (contents (sv ∷ d) t2) (forkJ asked b c) (may (sv ∷ d) t2 starts2) fork-inv′ (λ x i. fork-content x) (λ x y i k e. fork-may x y i k (may-true (sv ∷ d) t2 starts2 x y e));
+    inv = inv-same (insertBefore b c layout) (forkContents (contents d terminal) b c) (contents (sv ∷ d) t2) (forkPool (may d terminal starts) b c) (may (sv ∷ d) t2 starts2) fork-inv′ (λ x i. fork-content x) (λ x y i k e. fork-may x y i k (may-true (sv ∷ d) t2 starts2 x y e));
     past = start-past;
   }
 

@@ -4,7 +4,8 @@ use mathlib.Core.Bool.{Bool, _&&_, and-false, false, false≢true, true}
 use mathlib.Core.Path.{_≡_, refl}
 use Rattle.diagram.specs.Checks.{busy, busyByOther, logFull, noneLeft, notJoinable, openElsewhere, stale, unknownClient}
 use Rattle.diagram.specs.Day.{Day}
-use Rattle.diagram.specs.Steps.{Event, Fork, Join, Yield, accepted, notGiven}
+use Rattle.diagram.specs.Steps.{Event, Fork, Join, Yield}
+use Rattle.diagram.specs.Accepted.{accepted, notGiven}
 
 -- a test that is not true
 pub ruled-out : (b : Bool) → (b ≡ true → ⊥) → b ≡ false

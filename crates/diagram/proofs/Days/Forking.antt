@@ -23,7 +23,8 @@ use Rattle.diagram.specs.Steps.{forkAt}
 use Rattle.lists.proofs.Cases.{cases, either, split}
 use Rattle.lists.proofs.Changed.{changed-other}
 use Rattle.lists.proofs.Places.{insert-back, insert-old}
-use Rattle.lists.specs.Lists.{_∈_, changed, flat, insertBefore}
+use Rattle.lists.specs.Lists.{_∈_, changed, flat}
+use Rattle.lists.specs.Arranged.{insertBefore}
 
 module _ (y : Day) (layout : List ℕ) (hold : ℕ → List ℕ) (S : Sound y layout hold) (r : ℕ) (N : CanFork y r) where
   abbrev d : Diagram

@@ -25,7 +25,8 @@ use Rattle.lists.proofs.Blocks.{flat-++}
 use Rattle.lists.proofs.Cases.{cases, either, split}
 use Rattle.lists.proofs.Changed.{changed-other, changed-same}
 use Rattle.lists.proofs.Places.{remove-back, remove-keep}
-use Rattle.lists.specs.Lists.{_∈_, changed, flat, remove}
+use Rattle.lists.specs.Lists.{_∈_, changed, flat}
+use Rattle.lists.specs.Arranged.{remove}
 
 module _ (y : Day) (layout : List ℕ) (hold : ℕ → List ℕ) (S : Sound y layout hold) (a b : ℕ) (H : CanJoin y a b) where
   abbrev d : Diagram

@@ -13,7 +13,8 @@ use Rattle.diagram.specs.Sizes.{clientLimit, revisionLimit}
 use Rattle.diagram.specs.Diagram.{leads}
 use Rattle.diagram.specs.Day.{Day, IsOut, outCount}
 use Rattle.diagram.specs.Checks.{unknownClient, isOn, openElsewhere, busyByOther, busy, stale, noneLeft, notJoinable}
-use Rattle.diagram.specs.Steps.{Step, Event, Yield, Fork, Join, notGiven, accepted, enter, yield, forkAt, joinInto, after}
+use Rattle.diagram.specs.Steps.{Step, Event, Yield, Fork, Join, enter, yield, forkAt, joinInto, after}
+use Rattle.diagram.specs.Accepted.{notGiven, accepted}
 use Rattle.diagram.proofs.Days.Accepting.{event-given, event-tests, fork-given, fork-tests, join-given, join-tests, ruled-out, yield-test}
 
 -- a number given out that is not the last one

@@ -16,31 +16,33 @@ use Rattle.lists.proofs.Changed.{changed-other, changed-same}
 use Rattle.lists.proofs.Sublists.{nodup-more}
 use Rattle.lists.proofs.Sums.{sum-changed, sum-same}
 use Rattle.diagram.specs.Sizes.{revisionLimit}
-use Rattle.diagram.specs.Numbering.{Numbering, latest, next, started}
-use Rattle.diagram.specs.Day.{Day, IsOut, fresh, meant, numberOf, outCount}
-use Rattle.diagram.specs.Steps.{forkAt, joinInto, notGiven, yield}
+use Rattle.diagram.specs.Numbering.{Numbering, next, started}
+use Rattle.diagram.specs.Day.{Day, IsOut, fresh, numberOf, outCount}
+use Rattle.diagram.specs.Steps.{forkAt, joinInto, yield}
+use Rattle.diagram.specs.Accepted.{notGiven}
+use Rattle.diagram.proofs.Days.Found.{found, searched}
 use Rattle.diagram.proofs.Days.Moves.{CanFork, CanJoin, Moves, enters, forked-out, forksAt, joined-out, joinsInto, yields}
 
--- the latest of the revisions below m that bore n
-pub latest-bore : (of : ℕ → ℕ) (n m r : ℕ) → latest of n m ≡ some r → (r < m) × (of r ≡ n)
+-- the searched of the revisions below m that bore n
+pub latest-bore : (of : ℕ → ℕ) (n m r : ℕ) → searched of n m ≡ some r → (r < m) × (of r ≡ n)
 latest-bore of n zero r e = let z : _≡_ {A = ℕ} 0 1 = cc in absurd (omega arith)
 latest-bore of n (suc m) r e =
     cases (eqb (of m) n)
     (λ q. let s : some m ≡ some r = rw q at e in let z : m ≡ r = cc in (omega arith, ap of (sym z) ∙ eqb-true (of m) n q))
     (λ q. let k = latest-bore of n m r (rw q at e) in (omega (arith, k .0), k .1))
 
-latest-kept : (of : ℕ → ℕ) (m v n k : ℕ) → k ≤ m → latest (changed of m v) n k ≡ latest of n k
+latest-kept : (of : ℕ → ℕ) (m v n k : ℕ) → k ≤ m → searched (changed of m v) n k ≡ searched of n k
 latest-kept of m v n zero l = refl
 latest-kept of m v n (suc k) l = rw (ne-eqb k m (λ e. omega arith), latest-kept of m v n k (omega arith))
 
-pub latest-last : (of : ℕ → ℕ) (n m r s : ℕ) → latest of n m ≡ some s → r < m → of r ≡ n → r ≤ s
+pub latest-last : (of : ℕ → ℕ) (n m r s : ℕ) → searched of n m ≡ some s → r < m → of r ≡ n → r ≤ s
 latest-last of n zero r s e l q = absurd (omega arith)
 latest-last of n (suc m) r s e l q =
     cases (eqb (of m) n)
     (λ t. let a : some m ≡ some s = rw t at e in let z : m ≡ s = cc in omega arith)
     (λ t. let d : r ≡ m → ⊥ = λ z. eqb-false (of m) n t (ap of (sym z) ∙ q) in latest-last of n m r s (rw t at e) (omega arith) q)
 
--- what each number's latest bearer counts for, summed over the numbers, is what the revisions count for, where an earlier bearer counts for nothing
+-- what each number's searched meant counts for, summed over the numbers, is what the revisions count for, where an earlier meant counts for nothing
 abbrev pub countFor : (ℕ → ℕ) → Option ℕ → ℕ
 countFor f none = 0
 countFor f (some r) = f r
@@ -49,62 +51,62 @@ none-counts : (g : ℕ) → sumBelow g (λ n. 0) ≡ 0
 none-counts zero = refl
 none-counts (suc g) = let a = none-counts g in omega arith
 
-pub sum-latest : (of f : ℕ → ℕ) (g m : ℕ) → ((r : ℕ) → r < m → of r < g) → ((s r : ℕ) → s < r → r < m → of s ≡ of r → f s ≡ 0) → sumBelow g (λ n. countFor f (latest of n m)) ≡ sumBelow m f
+pub sum-latest : (of f : ℕ → ℕ) (g m : ℕ) → ((r : ℕ) → r < m → of r < g) → ((s r : ℕ) → s < r → r < m → of s ≡ of r → f s ≡ 0) → sumBelow g (λ n. countFor f (searched of n m)) ≡ sumBelow m f
 sum-latest of f g zero low early = none-counts g
 sum-latest of f g (suc m) low early =
     let was = sum-latest of f g m (λ r l. low r (omega arith)) (λ s r k l. early s r k (omega arith)) in
-    let moved = sum-changed g (of m) (λ n. countFor f (latest of n m)) (λ n. countFor f (latest of n (suc m))) (low m (omega arith)) (λ x l d. rw (ne-eqb (of m) x (λ q. d (sym q)))) in
-    let new : countFor f (latest of (of m) (suc m)) ≡ f m = rw (eq-eqb (of m) (of m) refl) in
-    let old = by (latest of (of m) m) refl in
+    let moved = sum-changed g (of m) (λ n. countFor f (searched of n m)) (λ n. countFor f (searched of n (suc m))) (low m (omega arith)) (λ x l d. rw (ne-eqb (of m) x (λ q. d (sym q)))) in
+    let new : countFor f (searched of (of m) (suc m)) ≡ f m = rw (eq-eqb (of m) (of m) refl) in
+    let old = by (searched of (of m) m) refl in
     omega arith
   where
-    by : (q : Option ℕ) → latest of (of m) m ≡ q → countFor f q ≡ 0
+    by : (q : Option ℕ) → searched of (of m) m ≡ q → countFor f q ≡ 0
     by none e = refl
     by (some s) e = let b = latest-bore of (of m) m s e in early s m (b .0) (omega arith) (b .1)
 
 pub record Named (y : Day) : Type 0 where
   pub few : y .numbering .given ≤ revisionLimit
   -- a number given out means a revision, and no other does; that of a revision out means it
-  pub used : (n : ℕ) → n < y .numbering .given → (r : ℕ) × (meant y n ≡ some r)
+  pub used : (n : ℕ) → n < y .numbering .given → (r : ℕ) × (found y n ≡ some r)
   pub low : (r : ℕ) → r < y .revisions → numberOf y r < y .numbering .given
-  pub means : (r : ℕ) → IsOut y r → meant y (numberOf y r) ≡ some r
+  pub means : (r : ℕ) → IsOut y r → found y (numberOf y r) ≡ some r
   -- the numbers handed in: given out, each once, of no revision out
   pub freed-low : (n : ℕ) → n ∈ y .numbering .freed → n < y .numbering .given
   pub freed-once : List·Nodup (y .numbering .freed)
   pub freed-in : (n r : ℕ) → n ∈ y .numbering .freed → IsOut y r → numberOf y r ≡ n → ⊥
-  -- and every number whose bearer is not out is among them
-  pub freed-all : (n r : ℕ) → meant y n ≡ some r → y .joined r ≡ true → n ∈ y .numbering .freed
+  -- and every number whose meant is not out is among them
+  pub freed-all : (n r : ℕ) → found y n ≡ some r → y .joined r ≡ true → n ∈ y .numbering .freed
   pub counted : outCount y + length (y .numbering .freed) ≡ y .numbering .given
 
 -- what a number means
 module _ (y : Day) where
-  pub meant-low : (n r : ℕ) → meant y n ≡ some r → r < y .revisions
-  unfolding meant
+  pub meant-low : (n r : ℕ) → found y n ≡ some r → r < y .revisions
+  unfolding found
   meant-low n r e = latest-bore (y .numbering .of) n (y .revisions) r e .0
 
-  pub meant-number : (n r : ℕ) → meant y n ≡ some r → numberOf y r ≡ n
-  unfolding meant
+  pub meant-number : (n r : ℕ) → found y n ≡ some r → numberOf y r ≡ n
+  unfolding found
   meant-number n r e = latest-bore (y .numbering .of) n (y .revisions) r e .1
 
-  pub meant-given : (n r : ℕ) → meant y n ≡ some r → notGiven y r ≡ false
+  pub meant-given : (n r : ℕ) → found y n ≡ some r → notGiven y r ≡ false
   meant-given n r e = rw (lt-ltb r (y .revisions) (meant-low n r e))
 
   -- no two revisions out bear one number
   pub numbers-apart : Named y → (r s : ℕ) → IsOut y r → IsOut y s → numberOf y r ≡ numberOf y s → r ≡ s
-  numbers-apart N r s o p e = let a = N .means r o in let b : meant y (numberOf y r) ≡ some s = rw e (N .means s p) in cc
+  numbers-apart N r s o p e = let a = N .means r o in let b : found y (numberOf y r) ≡ some s = rw e (N .means s p) in cc
 
-  -- an earlier bearer of a revision's number is not out
+  -- an earlier meant of a revision's number is not out
   pub earlier-in : Named y → (s r : ℕ) → s < r → r < y .revisions → numberOf y s ≡ numberOf y r → y .joined s ≡ true
-  unfolding meant
+  unfolding found
   earlier-in N s r k l e =
       cases (y .joined s) (λ q. q) (λ q.
       absurd (let a = latest-last (y .numbering .of) (numberOf y s) (y .revisions) r s (N .means s (omega arith, q)) l (sym e) in omega arith))
 
   -- a number that was not given out means nothing
-  pub not-meant : Named y → (n : ℕ) → y .numbering .given ≤ n → meant y n ≡ none
-  not-meant N n l = by (meant y n) refl
+  pub not-meant : Named y → (n : ℕ) → y .numbering .given ≤ n → found y n ≡ none
+  not-meant N n l = by (found y n) refl
     where
-      by : (q : Option ℕ) → meant y n ≡ q → q ≡ none
+      by : (q : Option ℕ) → found y n ≡ q → q ≡ none
       by none e = refl
       by (some r) e = absurd (let a = N .low r (meant-low n r e) in let b = meant-number n r e in omega arith)
 
@@ -113,7 +115,7 @@ unfolding revisionLimit
 limit-some = omega arith
 
 pub named-fresh : Named fresh
-unfolding meant
+unfolding found
 named-fresh = record {
   few = limit-some;
   used = λ n l. let z : n ≡ 0 = omega arith in (0, rw z);
@@ -198,12 +200,12 @@ module _ (y : Day) (N : Named y) where
     number-old s l = changed-other (y .numbering .of) R (next (y .numbering)) s (λ e. omega arith)
 
     -- the number given means the new revision, the others mean what they did
-    pub meant-new : meant (forkAt y r) (next (y .numbering)) ≡ some R
-    unfolding meant
+    pub meant-new : found (forkAt y r) (next (y .numbering)) ≡ some R
+    unfolding found
     meant-new = rw (number-new, eq-eqb (next (y .numbering)) (next (y .numbering)) refl)
 
-    pub meant-old : (n : ℕ) → (n ≡ next (y .numbering) → ⊥) → meant (forkAt y r) n ≡ meant y n
-    unfolding meant
+    pub meant-old : (n : ℕ) → (n ≡ next (y .numbering) → ⊥) → found (forkAt y r) n ≡ found y n
+    unfolding found
     meant-old n d = rw (number-new, ne-eqb (next (y .numbering)) n (λ e. d (sym e))) (latest-kept (y .numbering .of) R (next (y .numbering)) n R (omega arith))
 
     pub fork-count : outCount (forkAt y r) ≡ suc (outCount y)
@@ -211,9 +213,9 @@ module _ (y : Day) (N : Named y) where
         let s = sum-same R (λ x. cond (forkAt y r .joined x) 0 1) f (λ x l. rw (ne-eqb x R (λ e. omega arith))) in
         rw (eq-eqb R R refl) (omega arith)
 
-    new-out : (n s : ℕ) → n ≡ next (y .numbering) → meant (forkAt y r) n ≡ some s → forkAt y r .joined s ≡ false
+    new-out : (n s : ℕ) → n ≡ next (y .numbering) → found (forkAt y r) n ≡ some s → forkAt y r .joined s ≡ false
     new-out n s q e =
-        let a : meant (forkAt y r) n ≡ some R = rw q meant-new in
+        let a : found (forkAt y r) n ≡ some R = rw q meant-new in
         let z : s ≡ R = cc in
         rw (eq-eqb s R z)
 
@@ -236,7 +238,7 @@ module _ (y : Day) (N : Named y) where
           (λ e. let was = forked-out y r s o e in N .freed-in n s (gives .still n i .0) was (sym (number-old s (was .0)) ∙ q));
       freed-all = λ n s e j. cases (eqb n (next (y .numbering)))
           (λ q. absurd (false≢true (sym (new-out n s (eqb-true n (next (y .numbering)) q) e) ∙ j)))
-          (λ q. let d = eqb-false n (next (y .numbering)) q in let m : meant y n ≡ some s = sym (meant-old n d) ∙ e in
+          (λ q. let d = eqb-false n (next (y .numbering)) q in let m : found y n ≡ some s = sym (meant-old n d) ∙ e in
           gives .kept n (N .freed-all n s m (sym (changed-other (y .joined) R false s (λ z. let l = meant-low y n s m in omega arith)) ∙ j)) d);
       counted = rw fork-count (gives .counted);
     }
@@ -250,7 +252,7 @@ module _ (y : Day) (N : Named y) where
         omega arith
 
     named-join : Named (joinInto y a b)
-    unfolding meant
+    unfolding found
     named-join = record {
       few = N .few;
       used = N .used;
@@ -269,7 +271,7 @@ module _ (y : Day) (N : Named y) where
     }
 
   pub named-moves : (z : Day) → Moves y z → Named z
-  unfolding meant
+  unfolding found
   named-moves z (enters c r u E) = record { few = N .few; used = N .used; low = N .low; means = N .means; freed-low = N .freed-low; freed-once = N .freed-once; freed-in = N .freed-in; freed-all = N .freed-all; counted = N .counted }
   named-moves z (yields c l) = by (y .openBy c)
     where

@@ -17,7 +17,8 @@ use Rattle.diagram.specs.Diagram.{Diagram, leads}
 use Rattle.diagram.specs.Effects.{tabulate}
 use Rattle.diagram.specs.Sizes.{clientLimit}
 use Rattle.lists.proofs.Blocks.{flat-++, flat-in, flat-nodup, flatBack-from}
-use Rattle.lists.specs.Lists.{_∈_, flat, flatBack}
+use Rattle.lists.specs.Lists.{_∈_, flat}
+use Rattle.lists.specs.Arranged.{flatBack}
 
 -- each revision that is out holds its transactions whole, one after another
 pub record Filed (y : Day) (layout : List ℕ) (hold : ℕ → List ℕ) : Type 0 where

@@ -17,9 +17,11 @@ use Rattle.lists.proofs.Sublists.{⊑-⊆}
 use Rattle.lists.proofs.Sums.{any-never, any-same}
 use Rattle.diagram.specs.Sizes.{revisionLimit}
 use Rattle.diagram.specs.Numbering.{next}
-use Rattle.diagram.specs.Day.{Day, IsOut, meant, numberOf}
-use Rattle.diagram.specs.Steps.{AcceptedFrom, Event, Fork, Join, Step, Yield, after, forkAt, joinInto, runFrom, yield}
+use Rattle.diagram.specs.Day.{Day, IsOut, numberOf}
+use Rattle.diagram.specs.Steps.{Event, Fork, Join, Step, Yield, after, forkAt, joinInto, runFrom, yield}
+use Rattle.diagram.specs.Accepted.{AcceptedFrom}
 use Rattle.diagram.specs.Reuse.{handIns, usedAgain}
+use Rattle.diagram.proofs.Days.Found.{found}
 use Rattle.diagram.proofs.Days.Moves.{CanFork, CanJoin, can-fork, can-join, step-moves}
 use Rattle.diagram.proofs.Days.Naming.{Named, latest-last, named-moves, number-new, number-old}
 
@@ -54,7 +56,7 @@ module _ (y : Day) (N : Named y) (hs : List ℕ) (W : Waits y hs) where
 
   -- a revision out is the last that bears its number
   out-last : (b : ℕ) → IsOut y b → usedAgain y b ≡ false
-  unfolding meant
+  unfolding found
   out-last b o =
       any-never R (λ s. ltb b s && eqb (numberOf y s) (numberOf y b)) (λ s l. cases (ltb b s && eqb (numberOf y s) (numberOf y b)) (λ e.
       let p = and-true (ltb b s) _ e in

@@ -11,7 +11,7 @@ use Rattle.diagram.proofs.Graph.Paths.{Ordered, edge-bounds, no-vertex,
 use Rattle.diagram.proofs.Graph.Tables.{by-vertex, tabulate-newest, tabulate-older}
 use Rattle.diagram.specs.Diagram.{Diagram, Edge, HasPath, Vertex, event, fork, go, join, newest, older, root, sources, start, stay}
 use Rattle.diagram.specs.Effects.{forkStep, forkVertex, tabulate}
-use Rattle.lists.specs.Lists.{_⊆_}
+use Rattle.lists.specs.Arranged.{_⊆_}
 
 abbrev pub ownEventStep : Diagram → (ℕ → List ℕ) → Vertex → List ℕ
 ownEventStep d f root = []

@@ -23,7 +23,8 @@ use Rattle.diagram.specs.Day.{Day, IsOut, fresh}
 use Rattle.diagram.specs.Diagram.{Diagram, Edge, HasPath, Terminal, Vertex, event, f-sources, fork, j-sources, join, leads, newest}
 use Rattle.diagram.specs.Diagram.{older, root, s-sources, sources, start}
 use Rattle.diagram.specs.Effects.{forkVertex, startStep, startVertex, tabulate}
-use Rattle.diagram.specs.Steps.{Accepted, Event, Fork, Join, Step, Yield, accepted, after, close, enter, forkAt, joinInto, newUpdate}
+use Rattle.diagram.specs.Steps.{Event, Fork, Join, Step, Yield, after, close, enter, forkAt, joinInto, newUpdate}
+use Rattle.diagram.specs.Accepted.{Accepted, accepted}
 use Rattle.diagram.specs.Steps.{run, yield}
 use Rattle.lists.proofs.Cases.{cases, split}
 use Rattle.lists.specs.Lists.{changed}

@@ -12,11 +12,12 @@ use Rattle.diagram.proofs.Days.Moves.{CanJoin, Moves, enters, forksAt, 
 use Rattle.diagram.proofs.Graph.Tables.{tabulate-newest, tabulate-older}
 use Rattle.diagram.proofs.Order.Growth.{Fine, fine-fresh}
 use Rattle.diagram.proofs.Order.Runs.{along, fine-step}
-use Rattle.diagram.specs.Counts.{OwnAddsUp, ownIfOut}
+use Rattle.diagram.specs.Summed.{OwnAddsUp, ownIfOut}
 use Rattle.diagram.specs.Day.{Day, fresh}
 use Rattle.diagram.specs.Diagram.{Vertex, event, fork, join, start}
 use Rattle.diagram.specs.Effects.{entry, own, ownStep, tabulate}
-use Rattle.diagram.specs.Steps.{Accepted, Step, accepted, after, enter, forkAt, joinInto, newUpdate, run, yield}
+use Rattle.diagram.specs.Steps.{Step, after, enter, forkAt, joinInto, newUpdate, run, yield}
+use Rattle.diagram.specs.Accepted.{Accepted, accepted}
 use Rattle.lists.proofs.Cases.{cases}
 use Rattle.lists.proofs.Changed.{changed-other, changed-same}
 use Rattle.lists.proofs.Sums.{sum-changed, sum-same}

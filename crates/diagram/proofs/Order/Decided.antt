@@ -7,7 +7,8 @@ use Rattle.diagram.proofs.Order.Lawful.{runs-exactly}
 use Rattle.diagram.proofs.Order.Runs.{accepted-more, accepted-rest}
 use Rattle.diagram.specs.Day.{Day, fresh}
 use Rattle.diagram.specs.Lawful.{EachMayFollow}
-use Rattle.diagram.specs.Steps.{Accepted, Step, accepted, after, run, runFrom}
+use Rattle.diagram.specs.Steps.{Step, after, run, runFrom}
+use Rattle.diagram.specs.Accepted.{Accepted, accepted}
 use Rattle.lists.proofs.Cases.{same-truth}
 
 module _ (test : Day → Step → Bool) where

@@ -15,7 +15,8 @@ use Rattle.diagram.proofs.Days.Sound.{Sound, some≢none}
 use Rattle.diagram.proofs.Order.Growth.{Fine}
 use Rattle.diagram.specs.Arbitration.{eventsOf}
 use Rattle.diagram.specs.Day.{Day}
-use Rattle.diagram.specs.Steps.{Event, Fork, Join, Step, Yield, accepted, after, close, countedWith, enter, entersInto, eventsBefore, yield}
+use Rattle.diagram.specs.Steps.{Event, Fork, Join, Step, Yield, after, close, countedWith, enter, entersInto, eventsBefore, yield}
+use Rattle.diagram.specs.Accepted.{accepted}
 use Rattle.lists.proofs.Cases.{cases}
 use Rattle.lists.proofs.Changed.{changed-other, changed-same}
 use Rattle.lists.specs.Lists.{_∈_}

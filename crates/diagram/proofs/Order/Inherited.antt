@@ -23,7 +23,8 @@ use Rattle.diagram.specs.Effects.{entry, number, numbers, own, view}
 use Rattle.lists.proofs.Blocks.{flat-++, flat-from}
 use Rattle.lists.proofs.Cases.{either, split}
 use Rattle.lists.proofs.Sublists.{⊑-left, ⊑-right}
-use Rattle.lists.specs.Lists.{_∈_, _⊑_, behind, flatBack}
+use Rattle.lists.specs.Lists.{_∈_, _⊑_}
+use Rattle.lists.specs.Arranged.{behind, flatBack}
 
 -- numbers of sublists, and of lists without duplicates
 pub numbers-sub : (d : Diagram) {w l : List ℕ} → w ⊑ l → numbers d w ⊑ numbers d l

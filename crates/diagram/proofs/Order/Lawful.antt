@@ -21,9 +21,11 @@ use Rattle.diagram.specs.Checks.{busy, busyByOther, isElsewhere, isOn, l
 use Rattle.diagram.specs.Construction.{Constructed, Joinable, entered, forked, joined}
 use Rattle.diagram.specs.Day.{Day, fresh}
 use Rattle.diagram.specs.Diagram.{Diagram, Edge, HasPath, Terminal, Vertex, event, fork, join, leads, newest, older, s-sources, start}
-use Rattle.diagram.specs.Lawful.{MayFollow, EachMayFollow, Lawful, RunsExactly, TakenExactly, Within, YieldsLawful}
+use Rattle.diagram.specs.Lawful.{MayFollow, EachMayFollow, Lawful, Within}
+use Rattle.diagram.specs.Accepted.{RunsExactly, TakenExactly, YieldsLawful}
 use Rattle.diagram.specs.Sizes.{clientLimit, revisionLimit, updateLimit}
-use Rattle.diagram.specs.Steps.{Accepted, AcceptedFrom, Event, Fork, Join, Step, Yield, accepted, after, newUpdate, notGiven, run, runFrom}
+use Rattle.diagram.specs.Steps.{Event, Fork, Join, Step, Yield, after, newUpdate, run, runFrom}
+use Rattle.diagram.specs.Accepted.{Accepted, AcceptedFrom, accepted, notGiven}
 use Rattle.diagram.specs.Witness.{NoEvent, NoYield}
 use Rattle.lists.proofs.Cases.{cases, either}
 use Rattle.lists.proofs.Sums.{any-never}

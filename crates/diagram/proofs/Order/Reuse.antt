@@ -10,10 +10,12 @@ use borrow.Author.Tests.{eqb-false, ltb-false, ltb-true}
 use Rattle.lists.proofs.Cases.{cases}
 use Rattle.lists.proofs.Changed.{changed-other}
 use Rattle.diagram.specs.Sizes.{revisionLimit}
-use Rattle.diagram.specs.Numbering.{latest, next}
-use Rattle.diagram.specs.Day.{Day, fresh, meant, nextNumber, numberOf, outCount}
-use Rattle.diagram.specs.Steps.{Accepted, Event, Fork, Join, Step, Yield, accepted, after, forkAt, run, runFrom, yield}
+use Rattle.diagram.specs.Numbering.{next}
+use Rattle.diagram.specs.Day.{Day, fresh, nextNumber, numberOf, outCount}
+use Rattle.diagram.specs.Steps.{Event, Fork, Join, Step, Yield, after, forkAt, run, runFrom, yield}
+use Rattle.diagram.specs.Accepted.{Accepted, accepted}
 use Rattle.diagram.specs.Reuse.{Bears, ByNumbers, Takes, Used, longest-ago, never-used, waiting}
+use Rattle.diagram.proofs.Days.Found.{found, found-means, searched}
 use Rattle.diagram.proofs.Days.Moves.{can-fork}
 use Rattle.diagram.proofs.Days.Naming.{Named, latest-bore, latest-last, meant-low, meant-number, named-fresh, number-new}
 use Rattle.diagram.proofs.Days.Sound.{some≢none}
@@ -44,8 +46,8 @@ stays-from (s ∷ ss) y =
     let b = stays-from ss (after y s) in
     record { more = (let k = a .more in let m = b .more in omega arith); number = λ r l. b .number r (let k = a .more in omega arith) ∙ a .number r l }
 
--- a number that was borne has a latest bearer
-latest-some : (of : ℕ → ℕ) (n m r : ℕ) → r < m → of r ≡ n → latest of n m ≡ none → ⊥
+-- a number that was borne has a searched meant
+latest-some : (of : ℕ → ℕ) (n m r : ℕ) → r < m → of r ≡ n → searched of n m ≡ none → ⊥
 latest-some of n zero r l e q = omega arith
 latest-some of n (suc m) r l e q = cases (eqb (of m) n) (λ t. let z : some m ≡ none = rw t at q in some≢none none (sym z) refl)
     (λ t. latest-some of n m r (let d : r ≡ m → ⊥ = λ z. eqb-false (of m) n t (ap of (sym z) ∙ e) in omega arith) e (rw t at q))
@@ -76,15 +78,15 @@ module _ (ss : List Step) (A : Accepted ss) where
       (λ e. let f = first-waits y N r (can-fork y r a) e in let l = ltb-false (y .numbering .given) revisionLimit e in
       rw (e, f .2) (longest-ago (λ m k. used m (omega arith)) (f .1) (sym (waits-run ss A) ∙ f .2)))
 
-  bears : (n r : ℕ) → meant y n ≡ some r → Bears y r n
-  unfolding meant
+  bears : (n r : ℕ) → found y n ≡ some r → Bears y r n
+  unfolding found
   bears n r e = record { bore = latest-bore (y .numbering .of) n (y .revisions) r e; no-later = λ s l k q. let m = latest-last (y .numbering .of) n (y .revisions) s r e k q in omega arith }
 
-  borne : (n r : ℕ) → Bears y r n → meant y n ≡ some r
-  unfolding meant
-  borne n r B = by (latest (y .numbering .of) n (y .revisions)) refl
+  borne : (n r : ℕ) → Bears y r n → found y n ≡ some r
+  unfolding found
+  borne n r B = by (searched (y .numbering .of) n (y .revisions)) refl
     where
-      by : (q : Option ℕ) → latest (y .numbering .of) n (y .revisions) ≡ q → q ≡ some r
+      by : (q : Option ℕ) → searched (y .numbering .of) n (y .revisions) ≡ q → q ≡ some r
       by none e = absurd (latest-some (y .numbering .of) n (y .revisions) r (B .bore .0) (B .bore .1) e)
       by (some s) e =
           let b = latest-bore (y .numbering .of) n (y .revisions) s e in
@@ -111,8 +113,8 @@ pub by-numbers : (ss : List Step) → Accepted ss → ByNumbers ss
 by-numbers ss A = record {
   main = at-start ss;
   forked = forked ss A;
-  means = λ n r. (bears ss A n r, borne ss A n r);
-  out = N ss A .means;
+  means = λ n r. (λ m. bears ss A n r (found-means (run ss) n r .1 m), λ B. found-means (run ss) n r .0 (borne ss A n r B));
+  out = λ r o. found-means (run ss) _ r .0 (N ss A .means r o);
   given = λ n. (used ss A n, λ u. let k = N ss A .low (u .0) (u .1) in let z = u .2 in omega arith);
   freed = waits-run ss A;
   most = few ss A;

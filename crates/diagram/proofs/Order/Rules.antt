@@ -3,7 +3,8 @@ use mathlib.Core.List.{List}
 use Rattle.diagram.proofs.Graph.RootPaths.{composed-at}
 use Rattle.diagram.proofs.Order.Constructed.{made-run}
 use Rattle.diagram.specs.Rules.{ByRules}
-use Rattle.diagram.specs.Steps.{Accepted, Step}
+use Rattle.diagram.specs.Steps.{Step}
+use Rattle.diagram.specs.Accepted.{Accepted}
 
 pub by-rules : (ss : List Step) → Accepted ss → ByRules ss
 by-rules ss A =

@@ -1,14 +1,22 @@
 -- Runs of accepted steps in parts, and what holds along them.
-use mathlib.Core.Bool.{true}
-use mathlib.Core.Path.{_≡_, refl}
-use mathlib.Core.List.{List, [], _++_, _∷_}
-use Rattle.diagram.proofs.Days.Moves.{step-moves}
+use Prim.Native.Nat.{ℕ, _<_}
+use mathlib.Core.Bool.{true, false, true≢false}
+use mathlib.Core.Path.{_∙_, _≡_, ap, refl, sym}
+use mathlib.Core.Option.{Option, none, some}
+use mathlib.Core.List.{List, [], _++_, _∷_, append-assoc, append-nil}
+use native.Mathlib.Omega.{arith}
+use lib.Dec.{eqb}
+use Rattle.lists.proofs.Cases.{cases}
+use Rattle.lists.proofs.Changed.{changed-other}
+use Rattle.diagram.proofs.Days.Moves.{Moves, enters, forksAt, joinsInto, step-moves, yields}
 use Rattle.diagram.proofs.Days.Naming.{Named, named-fresh, named-moves}
-use Rattle.diagram.proofs.Order.Growth.{Fine, Older, fine-fresh, fine-moves, older-moves, older-trans, same}
+use Rattle.diagram.proofs.Order.Growth.{Fine, Older, extends, fine-fresh, fine-moves, older-moves, older-trans, same}
 use Rattle.diagram.proofs.Order.Numbered.{numbered-fresh, numbered-moves}
-use Rattle.diagram.specs.Arbitration.{Numbered}
+use Rattle.diagram.specs.Arbitration.{Extends, Numbered}
 use Rattle.diagram.specs.Day.{Day, fresh}
-use Rattle.diagram.specs.Steps.{Accepted, AcceptedFrom, Step, accepted, after, run, runFrom}
+use Rattle.diagram.specs.Effects.{view}
+use Rattle.diagram.specs.Steps.{Step, after, run, runFrom, yield}
+use Rattle.diagram.specs.Accepted.{Accepted, AcceptedFrom, accepted}
 
 -- a run in two parts, and what is accepted of it
 pub run-both : (a b : List Step) (y : Day) → runFrom y (a ++ b) ≡ runFrom (runFrom y a) b
@@ -72,3 +80,43 @@ older-from ss y A = along (λ z. Older (y .diagram) (z .diagram)) (λ z s e o. o
 pub named-run : (ss : List Step) → Accepted ss → Named (run ss)
 unfolding run
 named-run ss A = along Named (λ y s e N. named-moves y N (after y s) (step-moves y s e)) ss fresh A named-fresh
+
+-- a revision is there for good, and one that is joined stays so
+stays-there : (y z : Day) → Moves y z → (r : ℕ) → r < y .revisions → r < z .revisions
+stays-there y z (enters c s u E) r l = l
+stays-there y z (yields c h) r l = by (y .openBy c)
+  where
+    by : (o : Option ℕ) → r < yield y c o .revisions
+    by none = l
+    by (some t) = l
+stays-there y z (forksAt s C) r l = omega arith
+stays-there y z (joinsInto a b C) r l = l
+
+stays-joined : (y z : Day) → Moves y z → (r : ℕ) → r < y .revisions → y .joined r ≡ true → z .joined r ≡ true
+stays-joined y z (enters c s u E) r l j = j
+stays-joined y z (yields c h) r l j = by (y .openBy c)
+  where
+    by : (o : Option ℕ) → yield y c o .joined r ≡ true
+    by none = j
+    by (some t) = j
+stays-joined y z (forksAt s C) r l j = changed-other (y .joined) (y .revisions) false r (λ e. omega arith) ∙ j
+stays-joined y z (joinsInto a b C) r l j = cases (eqb r b) (λ e. rw e) (λ e. rw e j)
+
+joined-from : (ss : List Step) (y : Day) → AcceptedFrom y ss → (r : ℕ) → r < y .revisions → y .joined r ≡ true → runFrom y ss .joined r ≡ true
+unfolding runFrom
+joined-from [] y A r l j = j
+joined-from (s ∷ ss) y A r l j = let m = step-moves y s (A .0) in joined-from ss (after y s) (A .1) r (stays-there y (after y s) m r l) (stays-joined y (after y s) m r l j)
+
+-- so the list of a revision that stays out grows along every run
+pub extends-run : (ss : List Step) (y : Day) → Fine y → AcceptedFrom y ss → Extends y (runFrom y ss)
+unfolding runFrom
+extends-run [] y F A r o q = ([], sym (append-nil _))
+extends-run (s ∷ ss) y F A r o q =
+    let m = step-moves y s (A .0) in
+    let there = stays-there y (after y s) m r (o .0) in
+    cases (after y s .joined r)
+    (λ j. absurd (true≢false (sym (joined-from ss (after y s) (A .1) r there j) ∙ q .1)))
+    (λ j.
+    let a = extends y (after y s) F m r o (there, j) in
+    let b = extends-run ss (after y s) (fine-step y s (A .0) F) (A .1) r (there, j) q in
+    (a .0 ++ b .0, b .1 ∙ ap (λ l. l ++ b .0) (a .1) ∙ append-assoc (view (y .diagram) (y .terminal r)) (a .0) (b .0)))

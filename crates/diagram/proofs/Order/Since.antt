@@ -23,7 +23,8 @@ use Rattle.diagram.specs.Counts.{OwnUpdates, SeenSince}
 use Rattle.diagram.specs.Day.{IsOut}
 use Rattle.diagram.specs.Diagram.{Diagram, HasPath, Vertex, event, fork, join, root, sources, start}
 use Rattle.diagram.specs.Effects.{entry, number, numberStep, own, startStep, startVertex, view, viewStep}
-use Rattle.diagram.specs.Steps.{Accepted, Fork, Join, Step, accepted, after, run}
+use Rattle.diagram.specs.Steps.{Fork, Join, Step, after, run}
+use Rattle.diagram.specs.Accepted.{Accepted, accepted}
 use Rattle.lists.proofs.Blocks.{flat-++, flat-from, flat-in}
 use Rattle.lists.proofs.Cases.{either}
 use Rattle.lists.proofs.Changed.{changed-same}

@@ -21,17 +21,36 @@ use Rattle.diagram.proofs.Order.Growth.{Fine, Older, busy-idle, extends
 use Rattle.diagram.proofs.Order.Inherited.{entry-is, numbers-nodup, numbers-sub}
 use Rattle.diagram.proofs.Order.Numbered.{number-event}
 use Rattle.diagram.proofs.Order.Runs.{accepted-first, accepted-rest, fine-run, fine-step, numbered-run, older-from, run-append, run-step}
-use Rattle.diagram.specs.Arbitration.{Arbitration, ExtendsEach, IsEvent, Numbered, Sees, SeesTransaction, Shows, WholeAt, eventsOf}
+use Rattle.diagram.specs.Arbitration.{Explains, Extends, IsEvent, Numbered, Sees, SeesTransaction, Shows, WholeAt, eventsOf}
 use Rattle.diagram.specs.Arbitration.{newest-is, older-is}
 use Rattle.diagram.specs.Construction.{entered}
 use Rattle.diagram.specs.Day.{Day, IsIdle, IsOut, fresh}
 use Rattle.diagram.specs.Diagram.{Diagram, event}
 use Rattle.diagram.specs.Effects.{entry, number, numbers, view}
-use Rattle.diagram.specs.Steps.{Accepted, AcceptedFrom, Event, Step, after, run}
+use Rattle.diagram.specs.Steps.{Event, Step, after, nextVertex, run}
+use Rattle.diagram.specs.Accepted.{Accepted, AcceptedFrom}
 use Rattle.lists.proofs.Blocks.{flat-from, flat-in, flat-pair, flatBack-from, flatBack-in, same-block}
 use Rattle.lists.proofs.Cases.{either}
 use Rattle.lists.proofs.Sublists.{mem?, only, ∈-⊑, ⊑-⊆}
-use Rattle.lists.specs.Lists.{_∈_, _⊑_, flat, flatBack}
+use Rattle.lists.specs.Lists.{_∈_, _⊑_, flat}
+use Rattle.lists.specs.Arranged.{flatBack}
+
+-- the list of each revision that stays out grows
+abbrev pub ExtendsEach : Day → List Step → Type 0
+ExtendsEach y [] = Unit {0}
+ExtendsEach y (s ∷ ss) = Extends y (after y s) × ExtendsEach (after y s) ss
+
+-- one arbitration order for the whole run: what it explains at the end, and what was shown at any time of the run, at a query, and by a list of a
+-- revision that is out and idle
+pub record Arbitration (ss : List Step) : Type 0 where
+  pub order : List ℕ
+  pub explains : Explains (run ss) order
+  pub ever : (before rest : List Step) → ss ≡ before ++ rest → (x : ℕ) → x < length (run before .diagram) → Shows (run ss) order x (view (run before .diagram) x)
+  pub queries : (before rest : List Step) (c r : ℕ) → ss ≡ before ++ (Event c r false ∷ rest)
+      → Shows (run ss) order (nextVertex before) (view (after (run before) (Event c r false) .diagram) (nextVertex before))
+  pub lists : (before rest : List Step) → ss ≡ before ++ rest → (r : ℕ) → IsOut (run before) r → IsIdle (run before) r
+      → (t : ℕ) → t < run before .transactions → WholeAt (run before) t (run before .terminal r) (length (run before .diagram))
+  pub grows : ExtendsEach fresh ss
 
 grows-from : (ss : List Step) (y : Day) → Fine y → AcceptedFrom y ss → ExtendsEach y ss
 grows-from [] y F A = tt
@@ -159,22 +178,24 @@ module _ (ss : List Step) (A : Accepted ss) (F : Fine (run ss)) where
   pub arbitrated : Arbitration ss
   arbitrated = record {
     order = order;
-    once = order-once y layout hold S;
-    complete = complete;
-    entered = λ x. (event-in x, λ p. in-event x (p .0) (p .1) (p .2));
-    one-each = flat-once y layout hold S;
-    numbered = numbered;
-    updates-once = numbers-nodup d (y .updates) (flat (eventsOf y) order) numbered (flat-once y layout hold S);
-    updates-all = updates-all;
-    after-seen = after-seen;
-    listed = λ r o. shows (y .terminal r) (S .real .linked .bound r);
-    in-order = λ r o. let h = S .real .linked .bound r in subst (λ z. z ⊑ numbers d (flat (eventsOf y) order)) (sym (view-numbers (L .ordered) (y .terminal r) h .1)) (numbers-sub d (in-order (y .terminal r) h));
-    queries = queries;
+    explains = record {
+      once = order-once y layout hold S;
+      complete = complete;
+      entered = λ x. (event-in x, λ p. in-event x (p .0) (p .1) (p .2));
+      one-each = flat-once y layout hold S;
+      numbered = numbered;
+      updates-once = numbers-nodup d (y .updates) (flat (eventsOf y) order) numbered (flat-once y layout hold S);
+      updates-all = updates-all;
+      after-seen = after-seen;
+      visible = λ r o. shows (y .terminal r) (S .real .linked .bound r);
+      in-order = λ r o. let h = S .real .linked .bound r in subst (λ z. z ⊑ numbers d (flat (eventsOf y) order)) (sym (view-numbers (L .ordered) (y .terminal r) h .1)) (numbers-sub d (in-order (y .terminal r) h));
+      whole = whole-of y F;
+      sessions = λ s t e f l h q i j. leads-path d e f (S .sessions .later s t e f l h q i j);
+    };
     ever = ever;
-    grows = grows-from ss fresh fine-fresh A;
-    whole = whole-of y F;
+    queries = queries;
     lists = lists;
-    sessions = λ s t e f l h q i j. leads-path d e f (S .sessions .later s t e f l h q i j);
+    grows = grows-from ss fresh fine-fresh A;
   }
 
 -- the theorem: every run of accepted steps has one arbitration order

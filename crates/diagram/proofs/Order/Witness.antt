@@ -18,7 +18,8 @@ use Rattle.diagram.proofs.Order.Runs.{accepted-first, accepted-rest, al
 use Rattle.diagram.specs.Arbitration.{eventsOf}
 use Rattle.diagram.specs.Day.{Day, Transaction, fresh}
 use Rattle.diagram.specs.Diagram.{Diagram, Edge, HasPath, Terminal, Vertex, newest, older, s-sources}
-use Rattle.diagram.specs.Steps.{Accepted, AcceptedFrom, Event, Step, Yield, accepted, after, entersInto, run, runFrom}
+use Rattle.diagram.specs.Steps.{Event, Step, Yield, after, entersInto, run, runFrom}
+use Rattle.diagram.specs.Accepted.{Accepted, AcceptedFrom, accepted}
 use Rattle.diagram.specs.Witness.{ByTransactions, EnteredIn, NoEvent, NoYield, Witness}
 use Rattle.lists.proofs.Changed.{changed-same}
 use Rattle.lists.specs.Lists.{_∈_}

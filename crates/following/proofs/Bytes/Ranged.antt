@@ -10,7 +10,8 @@ use Rattle.lists.specs.Lists.{_∈_}
 use Rattle.lists.proofs.Cases.{cond-all}
 use Rattle.lists.proofs.Places.{getD-in}
 use Rattle.lists.proofs.Renamed.{named-in}
-use Rattle.diagram.specs.Day.{Day, meant, numberOf}
+use Rattle.diagram.specs.Day.{Day, numberOf}
+use Rattle.diagram.proofs.Days.Found.{found}
 use Rattle.machine.specs.Machine.{Machine}
 use Rattle.cells.specs.Sizes.{clients, main, revisions}
 use Rattle.cells.specs.Parts.{Parts, layoutPart, queuePart, split}
@@ -38,7 +39,7 @@ module _ (y : Day) (m : Machine) (d : List ℕ) (K : Kept y m (cells d)) (u : Hi
   L = laid y m (K .agree) (K .named)
 
   state-low : (r : ℕ) → r < revisions → cells d .state r < 3
-  state-low r l = rw (h .state-is r) (by (meant y r))
+  state-low r l = rw (h .state-is r) (by (found y r))
     where
       by : (q : Option ℕ) → stateCell (y .joined) q < 3
       by none = omega arith

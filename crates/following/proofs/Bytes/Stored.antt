@@ -10,7 +10,8 @@ use Rattle.lists.proofs.Cases.{cases, cond-all}
 use Rattle.diagram.specs.Sizes.{clientLimit}
 use Rattle.diagram.specs.Day.{Day, numberOf}
 use Rattle.machine.specs.Machine.{Machine}
-use Rattle.diagram.specs.Steps.{Event, Fork, Join, Step, Yield, accepted}
+use Rattle.diagram.specs.Steps.{Event, Fork, Join, Step, Yield}
+use Rattle.diagram.specs.Accepted.{accepted}
 use Rattle.diagram.proofs.Days.Moves.{can-enter, can-fork, can-join, can-yield}
 use Rattle.cells.specs.Sizes.{bytes, clients, main, revisions}
 use Rattle.cells.specs.Parts.{Parts, Sized, closedPart, glue, signaturePart, singlePart, size, split, usedPart}

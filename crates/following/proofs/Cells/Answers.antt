@@ -11,7 +11,8 @@ use Rattle.lists.specs.Lists.{_∈_}
 use Rattle.lists.proofs.Cases.{cases}
 use Rattle.lists.proofs.Sums.{any-same}
 use Rattle.diagram.specs.Sizes.{clientLimit, revisionLimit, updateLimit}
-use Rattle.diagram.specs.Day.{Day, IsOut, meant, numberOf, outCount}
+use Rattle.diagram.specs.Day.{isGiven, Day, IsOut, numberOf, outCount}
+use Rattle.diagram.proofs.Days.Found.{found, found-means, given-found, isSome}
 use Rattle.diagram.specs.Day as Days
 use Rattle.diagram.specs.Checks as Day
 use Rattle.machine.specs.Machine.{Follows, Machine, revisionOf}
@@ -20,22 +21,22 @@ use Rattle.diagram.proofs.Days.Naming.{meant-low, meant-number}
 use Rattle.cells.specs.Sizes.{clients, closed, main, revisions, stateNever}
 use Rattle.cells.specs.Cells.{Cells, nextNumber}
 use Rattle.cells.specs.Checks as Asked
-use Rattle.following.specs.Follow.{CellsFollow, isGiven}
+use Rattle.following.specs.Follow.{CellsFollow}
 use Rattle.following.proofs.Cells.Laid.{Laid, same-number}
 use Rattle.following.proofs.Cells.Ordered.{order-is, shown-few}
 use Rattle.following.proofs.Cells.Represents.{Represents, count-is, given-few, number-is, openCell, stateCell}
 
 module _ (y : Day) (m : Machine) (k : Cells) (D : Follows y m) (L : Laid y m) (h : Represents y m k) where
   -- a number that is given out
-  low : (n r : ℕ) → meant y n ≡ some r → n < revisions
+  low : (n r : ℕ) → found y n ≡ some r → n < revisions
   low n r e = let a = L .named .low r (meant-low y n r e) in let b = h .given-is in let c = given-few y m k h L in let q = meant-number y n r e in omega arith
 
   -- a revision out has a number exactly if the number means it
-  means-test : (x n r : ℕ) → IsOut y x → meant y n ≡ some r → eqb (numberOf y x) n ≡ eqb x r
+  means-test : (x n r : ℕ) → IsOut y x → found y n ≡ some r → eqb (numberOf y x) n ≡ eqb x r
   means-test x n r o e =
       cases (eqb x r)
       (λ q. eq-eqb (numberOf y x) n (ap (numberOf y) (eqb-true x r q) ∙ meant-number y n r e) ∙ sym q)
-      (λ q. ne-eqb (numberOf y x) n (λ z. let a : meant y n ≡ some x = rw (← z) (L .named .means x o) in eqb-false x r q (cc)) ∙ sym q)
+      (λ q. ne-eqb (numberOf y x) n (λ z. let a : found y n ≡ some x = rw (← z) (L .named .means x o) in eqb-false x r q (cc)) ∙ sym q)
 
   opened-is : (c : ℕ) → c < clients → k .opened c ≡ openCell (numberOf y) (revisionOf (y .transaction) (y .openBy c))
   opened-is c l = h .opened-is c l ∙ ap (openCell (numberOf y)) (D .same-openOn c)
@@ -46,14 +47,14 @@ module _ (y : Day) (m : Machine) (k : Cells) (D : Follows y m) (L : Laid y m) (h
   open-low : (c t : ℕ) → y .openBy c ≡ some t → numberOf y (y .transaction t .revision) < revisions
   open-low c t e = low _ _ (L .named .means _ (open-out c t e))
 
-  is-on : (c n r : ℕ) → c < clients → meant y n ≡ some r → eqb (k .opened c) n ≡ Day.isOn y (y .openBy c) r
+  is-on : (c n r : ℕ) → c < clients → found y n ≡ some r → eqb (k .opened c) n ≡ Day.isOn y (y .openBy c) r
   is-on c n r l g = rw (opened-is c l) (by (y .openBy c) refl)
     where
       by : (q : Option ℕ) → y .openBy c ≡ q → eqb (openCell (numberOf y) (revisionOf (y .transaction) q)) n ≡ Day.isOn y q r
       by none e = let b = low n r g in ne-eqb closed n (λ z. omega arith)
       by (some t) e = means-test (y .transaction t .revision) n r (open-out c t e) g
 
-  elsewhere : (c n r : ℕ) → c < clients → meant y n ≡ some r → Asked.openElsewhere k c n ≡ Day.isElsewhere y (y .openBy c) r
+  elsewhere : (c n r : ℕ) → c < clients → found y n ≡ some r → Asked.openElsewhere k c n ≡ Day.isElsewhere y (y .openBy c) r
   elsewhere c n r l g = rw (opened-is c l) (by (y .openBy c) refl)
     where
       by : (q : Option ℕ) → y .openBy c ≡ q
@@ -61,14 +62,14 @@ module _ (y : Day) (m : Machine) (k : Cells) (D : Follows y m) (L : Laid y m) (h
       by none e = refl
       by (some t) e = let b = open-low c t e in rw (ne-eqb (numberOf y (y .transaction t .revision)) closed (λ z. omega arith), means-test (y .transaction t .revision) n r (open-out c t e) g)
 
-  given-out : (n : ℕ) → Asked.givenOut k n ≡ isGiven (meant y n)
-  given-out n = rw (h .state-is n) (by (meant y n) refl)
+  given-out : (n : ℕ) → Asked.givenOut k n ≡ isGiven y n
+  given-out n = rw (h .state-is n, given-found y n) (by (found y n) refl)
     where
-      by : (q : Option ℕ) → meant y n ≡ q → (ltb n revisions && not (eqb (stateCell (y .joined) q) stateNever)) ≡ isGiven q
+      by : (q : Option ℕ) → found y n ≡ q → (ltb n revisions && not (eqb (stateCell (y .joined) q) stateNever)) ≡ isSome q
       by none e = cases (ltb n revisions) (λ q. rw q) (λ q. rw q)
       by (some r) e = rw (lt-ltb n revisions (low n r e)) (cases (y .joined r) (λ q. rw q) (λ q. rw q))
 
-  joined-is : (n r : ℕ) → meant y n ≡ some r → Asked.joined k n ≡ y .joined r
+  joined-is : (n r : ℕ) → found y n ≡ some r → Asked.joined k n ≡ y .joined r
   joined-is n r e = rw (h .state-is n, e) (cases (y .joined r) (λ q. rw q) (λ q. rw q))
 
   joinable-is : (a b : ℕ) → IsOut y a → IsOut y b → Asked.joinable k (numberOf y a) (numberOf y b) ≡ not (Day.notJoinable y a b)
@@ -95,10 +96,10 @@ module _ (y : Day) (m : Machine) (k : Cells) (D : Follows y m) (L : Laid y m) (h
     same-own = λ r o. h .own-is r (D .laid r o) ∙ D .same-own r o;
     same-client = λ c. sym (Bool·not-not (ltb c clients));
     same-given = given-out;
-    same-joined = joined-is;
-    same-elsewhere = elsewhere;
-    same-busyByOther = λ c n r g. any-same clients _ _ (λ x l. ap (λ t. not (eqb x c) && t) (is-on x n r l g));
-    same-busy = λ n r g. any-same clients _ _ (λ x l. is-on x n r l g);
+    same-joined = λ n r e. joined-is n r (found-means y n r .1 e);
+    same-elsewhere = λ c n r l e. elsewhere c n r l (found-means y n r .1 e);
+    same-busyByOther = λ c n r g. any-same clients _ _ (λ x l. ap (λ t. not (eqb x c) && t) (is-on x n r l (found-means y n r .1 g)));
+    same-busy = λ n r g. any-same clients _ _ (λ x l. is-on x n r l (found-means y n r .1 g));
     same-stale = λ c r l o. ap not (h .caught-is c r l (D .laid r o) ∙ D .same-caughtUp c r o) ∙ Bool·not-not (Day.stale y c r);
     same-full = rw (h .updates-is, D .same-updates);
     same-left = rw (h .out-is);

@@ -5,7 +5,8 @@ use mathlib.Core.List.{List·Memᴰ·append-cases, List·Memᴰ·eq-of-singleton
 use native.Mathlib.Omega.{arith}
 use lib.Dec.{eqb, ltb}
 use borrow.Author.Tests.{eq-eqb}
-use Rattle.lists.specs.Lists.{_∈_, changed, insertBefore, remove, restOf}
+use Rattle.lists.specs.Lists.{_∈_, changed, restOf}
+use Rattle.lists.specs.Arranged.{insertBefore, remove}
 use Rattle.lists.proofs.Cases.{cond-all, either}
 use Rattle.lists.proofs.Changed.{changed-at}
 use Rattle.lists.proofs.Places.{insert-back, remove-back, replicate-in, rest-in, set-in, take-in}

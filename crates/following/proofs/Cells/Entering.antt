@@ -10,7 +10,8 @@ use borrow.Author.Tests.{eq-eqb}
 use Rattle.lists.specs.Lists.{_∈_, changed}
 use Rattle.lists.proofs.Cases.{cases}
 use Rattle.lists.proofs.Grown.{first-append, grown-longer, grown-none, grown-take}
-use Rattle.diagram.specs.Day.{Day, meant, numberOf}
+use Rattle.diagram.specs.Day.{Day, numberOf}
+use Rattle.diagram.proofs.Days.Found.{found}
 use Rattle.diagram.specs.Steps.{close, enter, yield}
 use Rattle.machine.specs.Machine.{Machine, enterOn, yieldOn}
 use Rattle.cells.specs.Sizes.{clients, main, updates}
@@ -50,7 +51,7 @@ module _ (y : Day) (m : Machine) (k : Cells) (h : Represents y m k) where
 
   -- a yield changes nothing of what the cells stand for
   pub yields : (c : ℕ) (q : Option ℕ) → Represents (yield y c q) (yieldOn m c) (closeCells k c)
-  unfolding meant
+  unfolding found
   yields c none = closed-now c
   yields c (some t) = let h = closed-now c in record {
     layout-is = h .layout-is;
@@ -82,7 +83,7 @@ module _ (y : Day) (m : Machine) (k : Cells) (h : Represents y m k) where
     event-caught o x ol j = cases (eqb o c) (λ e. rw e (same-number y m L x r j i)) (λ e. rw e (h .caught-is o x ol j))
 
     pub queries : Represents (enter y c r false) (enterOn m c r false) (queryCells k c n)
-    unfolding meant
+    unfolding found
     queries = record {
       layout-is = h .layout-is;
       places = h .places;
@@ -126,7 +127,7 @@ module _ (y : Day) (m : Machine) (k : Cells) (h : Represents y m k) where
           (λ e. rw e (h .first-is x j f l)))
 
       pub updates-on : Represents (enter y c r true) (enterOn m c r true) (updateCells k c n)
-      unfolding meant
+      unfolding found
       updates-on = record {
         layout-is = h .layout-is;
         places = h .places;

@@ -9,14 +9,16 @@ use lib.Dec.{eqb, ltb}
 use lib.ListN.{length, take}
 use lib.Seq.{length-take-le, take-all}
 use borrow.Author.Tests.{eq-eqb, eqb-false, eqb-true, ltb-false, ltb-true, ne-eqb}
-use Rattle.lists.specs.Lists.{_∈_, insertBefore, member, named}
+use Rattle.lists.specs.Lists.{_∈_, named}
+use Rattle.lists.specs.Arranged.{insertBefore, member}
 use Rattle.lists.proofs.Cases.{cases, either, or-cases, or-right}
 use Rattle.lists.proofs.Keep.{member-++, member-in}
 use Rattle.lists.proofs.Places.{insert-back, insert-old}
 use Rattle.lists.proofs.Renamed.{named-in, named-insert, named-same}
 use Rattle.diagram.specs.Sizes.{revisionLimit}
 use Rattle.diagram.specs.Numbering.{next}
-use Rattle.diagram.specs.Day.{Day, meant, numberOf}
+use Rattle.diagram.specs.Day.{Day, numberOf}
+use Rattle.diagram.proofs.Days.Found.{found}
 use Rattle.diagram.specs.Steps.{forkAt}
 use Rattle.diagram.proofs.Days.Moves.{CanFork}
 use Rattle.diagram.proofs.Days.Naming.{fork-count, meant-low, meant-new, meant-old, next-apart, number-new, number-old}
@@ -89,11 +91,11 @@ module _ (y : Day) (m : Machine) (k : Cells) (h : Represents y m k) (L : Laid y 
   old-state none l = refl
   old-state (some r) l = let b = l r refl in rw (ne-eqb r (y .revisions) (λ e. omega arith))
 
-  fork-state : (x : ℕ) → k′ .state x ≡ stateCell (y′ .joined) (meant y′ x)
+  fork-state : (x : ℕ) → k′ .state x ≡ stateCell (y′ .joined) (found y′ x)
   fork-state x =
       cases (eqb x c)
       (λ e. rw (e, eqb-true x c e, meant-new y (L .named) p C, eq-eqb (y .revisions) (y .revisions) refl))
-      (λ e. rw (e, meant-old y (L .named) p C x (eqb-false x c e)) (h .state-is x ∙ old-state (meant y x) (meant-low y x)))
+      (λ e. rw (e, meant-old y (L .named) p C x (eqb-false x c e)) (h .state-is x ∙ old-state (found y x) (meant-low y x)))
 
   fork-own : (x : ℕ) → x ∈ m′ .layout → own k′ (numberOf y′ x) ≡ m′ .own x
   unfolding chain

@@ -9,13 +9,15 @@ use lib.Dec.{eqb}
 use lib.ListN.{length-set, take}
 use lib.Seq.{length-take-le}
 use borrow.Author.Tests.{eq-eqb, eqb-false, eqb-true, ne-eqb}
-use Rattle.lists.specs.Lists.{_∈_, named, remove}
+use Rattle.lists.specs.Lists.{_∈_, named}
+use Rattle.lists.specs.Arranged.{remove}
 use Rattle.lists.proofs.Blocks.{flatBack-nodup, flatBack-one}
 use Rattle.lists.proofs.Cases.{cases}
 use Rattle.lists.proofs.Grown.{first-append, grown-longer, grown-take}
 use Rattle.lists.proofs.Places.{remove-back, remove-gone, remove-keep}
 use Rattle.lists.proofs.Renamed.{named-in, named-remove}
-use Rattle.diagram.specs.Day.{Day, meant, numberOf}
+use Rattle.diagram.specs.Day.{Day, numberOf}
+use Rattle.diagram.proofs.Days.Found.{found}
 use Rattle.diagram.specs.Steps.{joinInto}
 use Rattle.diagram.proofs.Days.Moves.{CanJoin}
 use Rattle.diagram.proofs.Days.Naming.{join-count, meant-number}
@@ -62,12 +64,12 @@ module _ (y : Day) (m : Machine) (k : Cells) (h : Represents y m k) (L : Laid y 
   other-state none d = refl
   other-state (some r) d = rw (ne-eqb r b (λ e. d (ap (λ z. some z) e)))
 
-  join-state : (n : ℕ) → k′ .state n ≡ stateCell (y′ .joined) (meant y′ n)
-  unfolding meant
+  join-state : (n : ℕ) → k′ .state n ≡ stateCell (y′ .joined) (found y′ n)
+  unfolding found
   join-state n =
       cases (eqb n nb)
       (λ e. rw (e, eqb-true n nb e, L .named .means b (L .out b j), eq-eqb b b refl))
-      (λ e. rw e (h .state-is n ∙ other-state (meant y n) (λ q. eqb-false n nb e (sym (meant-number y n b q)))))
+      (λ e. rw e (h .state-is n ∙ other-state (found y n) (λ q. eqb-false n nb e (sym (meant-number y n b q)))))
 
   b-none : k .count nb ≡ 0 → m .own b ≡ []
   unfolding chain
@@ -135,7 +137,7 @@ module _ (y : Day) (m : Machine) (k : Cells) (h : Represents y m k) (L : Laid y 
       (cases (eqb x a) (λ e. rw (e, h .caught-is c a l i, h .caught-is c b l j)) (λ e. rw e (h .caught-is c x l (was x o))))
 
   pub joins : Represents y′ m′ k′
-  unfolding meant
+  unfolding found
   joins =
       let given = all-given y m k h L in
       let few = given-few y m k h L in

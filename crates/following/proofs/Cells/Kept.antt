@@ -12,10 +12,12 @@ use Rattle.lists.proofs.Cases.{and-true, cases}
 use Rattle.lists.proofs.Places.{remove-keep}
 use Rattle.diagram.specs.Sizes.{revisionLimit, updateLimit}
 use Rattle.diagram.specs.Numbering.{next}
-use Rattle.diagram.specs.Day.{Day, IsOut, fresh, meant, numberOf}
+use Rattle.diagram.specs.Day.{Day, IsOut, fresh, numberOf}
+use Rattle.diagram.proofs.Days.Found.{found}
 use Rattle.diagram.specs.Checks.{busyByOther, logFull, openElsewhere, stale, unknownClient}
 use Rattle.machine.specs.Machine.{Machine, enterOn, freshMachine, joinOn, machineAfter}
-use Rattle.diagram.specs.Steps.{Event, Fork, Join, Step, Yield, accepted, after, enter, joinInto, noneOf, notGiven}
+use Rattle.diagram.specs.Steps.{Event, Fork, Join, Step, Yield, after, enter, joinInto}
+use Rattle.diagram.specs.Accepted.{accepted, noneOf, notGiven}
 use Rattle.diagram.proofs.Days.Moves.{CanFork, can-enter, can-fork, can-join, step-moves}
 use Rattle.diagram.proofs.Days.Naming.{Named, named-fresh, named-moves, next-apart, next-given}
 use Rattle.machine.proofs.Follow.Agrees.{Agree, agree-fresh}
@@ -38,7 +40,7 @@ pub record Kept (y : Day) (m : Machine) (k : Cells) : Type 0 where
   pub bounded : Bounded k
 
 fresh-represents : Represents fresh freshMachine freshCells
-unfolding chain meant
+unfolding chain found
 fresh-represents = record {
   layout-is = refl;
   places = length-replicate {A = ℕ} revisions 0;

@@ -7,7 +7,8 @@ use native.Mathlib.Omega.{arith}
 use mathlib.Core.List.{List, List·Nodup}
 use lib.Dec.{eqb}
 use lib.ListN.{length}
-use Rattle.lists.specs.Lists.{_∈_, flatBack}
+use Rattle.lists.specs.Lists.{_∈_}
+use Rattle.lists.specs.Arranged.{flatBack}
 use Rattle.lists.proofs.Blocks.{flat-from, flatBack-nodup, flatBack-same}
 use Rattle.lists.proofs.Counts.{few-below}
 use Rattle.lists.proofs.Renamed.{named-test}

@@ -1,18 +1,17 @@
 -- What is shown of revisions, said of the numbers that mean them.
-use Prim.Native.Nat.{ℕ, _<_}
-use mathlib.Core.Path.{_≡_}
-use mathlib.Core.Option.{some}
-use Rattle.diagram.specs.Day.{Day, meant, numberOf}
+use Prim.Native.Nat.{ℕ}
+use Rattle.diagram.specs.Day.{Day, Means, numberOf}
+use Rattle.diagram.proofs.Days.Found.{found-means}
 use Rattle.diagram.proofs.Days.Naming.{meant-low, meant-number}
 use Rattle.cells.specs.Cells.{Cells}
 use Rattle.following.specs.Follow.{CellsFollow}
 use Rattle.following.specs.Numbers.{Number, NumberOut, NumbersFollow}
 
 module _ (y : Day) (k : Cells) (F : CellsFollow y k) where
-  of-number : (n r : ℕ) → meant y n ≡ some r → Number y k n r
+  of-number : (n r : ℕ) → Means y n r → Number y k n r
   of-number n r e =
-      let l = meant-low y n r e in
-      let q = meant-number y n r e in
+      let l = meant-low y n r (found-means y n r .1 e) in
+      let q = meant-number y n r (found-means y n r .1 e) in
       record {
         same-joined = F .same-joined n r e;
         same-elsewhere = λ c l. F .same-elsewhere c n r l e;
@@ -25,5 +24,8 @@ module _ (y : Day) (k : Cells) (F : CellsFollow y k) where
   numbers-follow = record {
     same-given = F .same-given;
     number = of-number;
-    same-joinable = λ n m a b p q oa ob. rw (meant-number y n a p, meant-number y m b q) at (F .same-joinable a b (meant-low y n a p, oa) (meant-low y m b q, ob));
+    same-joinable = λ n m a b p q oa ob.
+        let f = found-means y n a .1 p in
+        let g = found-means y m b .1 q in
+        rw (meant-number y n a f, meant-number y m b g) at (F .same-joinable a b (meant-low y n a f, oa) (meant-low y m b g, ob));
   }

@@ -8,7 +8,8 @@ use lib.Dec.{eqb}
 use lib.ListN.{drop, length, take, take-append-drop}
 use lib.Seq.{take-all}
 use borrow.Author.Tests.{eqb-false, eqb-true}
-use Rattle.lists.specs.Lists.{_∈_, _⊑_, Apart, behind, flatBack, keep, member}
+use Rattle.lists.specs.Lists.{_∈_, _⊑_, keep}
+use Rattle.lists.specs.Arranged.{Apart, behind, flatBack, member}
 use Rattle.lists.proofs.Blocks.{flatBack-behind, flatBack-from, flatBack-nodup, flatBack-one, flatBack-same}
 use Rattle.lists.proofs.Cases.{cases, or-left}
 use Rattle.lists.proofs.Counts.{few-below}

@@ -8,11 +8,13 @@ use native.Mathlib.Omega.{arith}
 use lib.Dec.{ltb}
 use lib.ListN.{length, take}
 use borrow.Author.Tests.{ltb-false}
-use Rattle.lists.specs.Lists.{_∈_, firstOf, member, named}
+use Rattle.lists.specs.Lists.{_∈_, firstOf, named}
+use Rattle.lists.specs.Arranged.{member}
 use Rattle.lists.proofs.Cases.{cases}
 use Rattle.diagram.specs.Sizes.{revisionLimit}
 use Rattle.diagram.specs.Numbering.{next}
-use Rattle.diagram.specs.Day.{Day, meant, numberOf, outCount}
+use Rattle.diagram.specs.Day.{Day, numberOf, outCount}
+use Rattle.diagram.proofs.Days.Found.{found}
 use Rattle.machine.specs.Machine.{Machine}
 use Rattle.cells.specs.Sizes.{clients, closed, main, revisions, stateJoined, stateNever, stateOut, updates}
 use Rattle.cells.specs.Cells.{Cells, freed, marked, nextNumber, outs, own}
@@ -40,7 +42,7 @@ pub record Represents (y : Day) (m : Machine) (k : Cells) : Type 0 where
   pub given-is : k .given ≡ y .numbering .given
   pub freed-is : freed k ≡ y .numbering .freed
   pub queue-places : length (k .queue) ≡ revisions
-  pub state-is : (n : ℕ) → k .state n ≡ stateCell (y .joined) (meant y n)
+  pub state-is : (n : ℕ) → k .state n ≡ stateCell (y .joined) (found y n)
   -- the own lists, by their links; what was inherited, by base count and row
   pub own-is : (r : ℕ) → r ∈ m .layout → own k (numberOf y r) ≡ m .own r
   pub first-is : (r : ℕ) → r ∈ m .layout → (f : ℕ) (l : List ℕ) → m .own r ≡ f ∷ l → k .first (numberOf y r) ≡ f

@@ -7,9 +7,11 @@ use mathlib.Core.List.{List, [], _∷_}
 use borrow.Author.Tests.{not-true}
 use Rattle.diagram.specs.Day.{Day, fresh}
 use Rattle.diagram.specs.Checks.{notJoinable}
-use Rattle.diagram.specs.Pool.{ByPool, Pool, forkPool, joinPool, pool, poolAfter, poolFrom}
+use Rattle.lists.specs.Pool.{Pool, forkPool, joinPool}
+use Rattle.diagram.specs.Pool.{ByPool, pool, poolAfter, poolFrom}
 use Rattle.diagram.proofs.Order.Constructed.{joinable-iff}
-use Rattle.diagram.specs.Steps.{Accepted, Event, Fork, Join, Step, Yield, after, run, yield}
+use Rattle.diagram.specs.Steps.{Event, Fork, Join, Step, Yield, after, run, yield}
+use Rattle.diagram.specs.Accepted.{Accepted}
 use Rattle.machine.specs.Machine.{Machine, freshMachine, machineAfter, machineFrom}
 use Rattle.machine.proofs.Follow.Shown.{follows-run}
 

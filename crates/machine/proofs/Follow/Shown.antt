@@ -17,11 +17,13 @@ use Rattle.diagram.specs.Day.{Day, IsOut, fresh}
 use Rattle.diagram.specs.Diagram.{Diagram}
 use Rattle.diagram.specs.Effects.{numbers, view}
 use Rattle.machine.specs.Machine.{Follows, Machine, freshMachine, machineAfter, machineFrom, shown}
-use Rattle.diagram.specs.Steps.{Accepted, AcceptedFrom, Event, Fork, Join, Step, Yield, accepted, after, run, runFrom}
+use Rattle.diagram.specs.Steps.{Event, Fork, Join, Step, Yield, after, run, runFrom}
+use Rattle.diagram.specs.Accepted.{Accepted, AcceptedFrom, accepted}
 use Rattle.lists.proofs.Blocks.{flatBack-same}
 use Rattle.lists.proofs.Keep.{keep-sublist}
 use Rattle.lists.proofs.Places.{behind-in}
-use Rattle.lists.specs.Lists.{_∈_, _⊑_, behind, flatBack, keep, member}
+use Rattle.lists.specs.Lists.{_∈_, _⊑_, keep}
+use Rattle.lists.specs.Arranged.{behind, flatBack, member}
 
 module _ (y : Day) (k : Machine) (A : Agree y k) where
   abbrev d : Diagram

@@ -24,7 +24,8 @@ use Rattle.diagram.specs.Steps.{close, enter, forkAt, joinInto, yield}
 use Rattle.lists.proofs.Cases.{cases, either, or-cases, or-false, or-left, or-right, same-truth, split}
 use Rattle.lists.proofs.Places.{insert-pair, insert-self, insert-sub, remove-sub}
 use Rattle.lists.proofs.Sublists.{pair-self, pair-trans}
-use Rattle.lists.specs.Lists.{_⊑_, insertBefore, remove}
+use Rattle.lists.specs.Lists.{_⊑_}
+use Rattle.lists.specs.Arranged.{insertBefore, remove}
 
 -- what code 11 lets through
 abbrev pub J : Day → ℕ → ℕ → Bool

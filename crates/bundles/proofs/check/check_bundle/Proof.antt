@@ -3,7 +3,8 @@ use Prim.Native.Nat.{_/_, _%_}
 use native.Mathlib.Omega.{arith}
 use lib.ListN.{length}
 use borrow.Author.Tests.{lt-ltb, le-ltb, eq-eqb, ne-eqb}
-use Rattle.bundles.specs.Records.{bundleCheck, isWrong}
+use Rattle.bundles.specs.Records.{isWrong}
+use Rattle.bundles.specs.Packed.{bundleCheck}
 use Rattle.bundles.proofs.check.check_bundle.Statement.{statement}
 use Rattle.bundles.proofs.check.check_bundle.Tie as tie
 

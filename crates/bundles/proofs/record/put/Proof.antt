@@ -1,7 +1,7 @@
 -- `bundles::record::put` meets its contract: the record's twelve bytes are lent and come back written. Assumes nothing.
 use Prim.Native.Nat.{_*_}
 use borrow.Author.Needs.{needs}
-use Rattle.bundles.specs.Records.{recordOf}
+use Rattle.bundles.specs.Packed.{recordOf}
 use Rattle.lists.proofs.Replaced.{lent-replaced}
 use Rattle.bundles.proofs.record.put.Statement.{statement}
 use Rattle.bundles.proofs.record.put.Tie as tie

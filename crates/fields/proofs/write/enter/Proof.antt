@@ -2,7 +2,7 @@
 use native.Mathlib.Omega.{arith}
 use lib.ListN.{take}
 use borrow.Author.Needs.{needs}
-use Rattle.lists.specs.Lists.{insertBefore}
+use Rattle.lists.specs.Arranged.{insertBefore}
 use Rattle.cells.specs.Parts.{layoutPart, offset, size}
 use Rattle.cells.specs.Sizes.{revisions}
 use Rattle.cells.proofs.Parts.{part-lent}

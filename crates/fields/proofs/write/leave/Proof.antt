@@ -3,7 +3,7 @@ use mathlib.Core.List.{[], _++_, _∷_}
 use native.Mathlib.Omega.{arith}
 use lib.ListN.{take}
 use borrow.Author.Needs.{needs}
-use Rattle.lists.specs.Lists.{remove}
+use Rattle.lists.specs.Arranged.{remove}
 use Rattle.cells.specs.Parts.{layoutPart, offset, size}
 use Rattle.cells.specs.Sizes.{revisions}
 use Rattle.cells.proofs.Parts.{part-lent}

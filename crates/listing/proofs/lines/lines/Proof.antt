@@ -5,7 +5,7 @@ use native.Mathlib.Omega.{arith}
 use lib.ListN.{length, take}
 use borrow.Author.Needs.{needs}
 use Rattle.entries.specs.Entries.{entryAt}
-use Rattle.listing.specs.Lines.{sheet}
+use Rattle.listing.specs.Sheet.{sheet}
 use Rattle.listing.proofs.Written.{no-lines, one-more}
 use Rattle.listing.proofs.lines.lines.Statement.{statement}
 use Rattle.listing.proofs.lines.lines.Tie as tie

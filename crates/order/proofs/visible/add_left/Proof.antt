@@ -6,7 +6,7 @@ use mathlib.Core.Logic.{_⊎_, inl, inr, ⊎-elim}
 use native.Mathlib.Omega.{arith}
 use lib.ListN.{drop, length}
 use borrow.Author.Needs.{needs}
-use Rattle.lists.specs.Lists.{flatBack}
+use Rattle.lists.specs.Arranged.{flatBack}
 use Rattle.cells.specs.Cells.{marked, outs, own}
 use Rattle.cells.specs.Decode.{cells}
 use Rattle.cells.specs.Order.{inherited, picks}

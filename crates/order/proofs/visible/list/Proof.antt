@@ -2,7 +2,7 @@
 use mathlib.Core.Path.{_∙_, ap, sym}
 use native.Mathlib.Omega.{arith}
 use borrow.Author.Needs.{needs}
-use Rattle.lists.specs.Lists.{flatBack}
+use Rattle.lists.specs.Arranged.{flatBack}
 use Rattle.cells.specs.Cells.{marked}
 use Rattle.cells.specs.Decode.{cells}
 use Rattle.cells.specs.Order.{inherited, order}

@@ -4,7 +4,7 @@ use mathlib.Core.Path.{_∙_, _≡_, refl, sym}
 use native.Mathlib.Omega.{arith}
 use lib.ListN.{drop}
 use borrow.Author.Needs.{needs}
-use Rattle.lists.specs.Lists.{behind}
+use Rattle.lists.specs.Arranged.{behind}
 use Rattle.cells.specs.Cells.{outs}
 use Rattle.cells.specs.Decode.{cells}
 use Rattle.cells.specs.Sizes.{revisions}

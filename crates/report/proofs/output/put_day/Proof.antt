@@ -9,7 +9,7 @@ use Rattle.text.specs.Placed.{ascii, placed}
 use Rattle.text.specs.Decimal.{ended}
 use Rattle.text.proofs.Digits.{ended-length}
 use Rattle.text.proofs.Places.{both-put}
-use Rattle.table.specs.Answers.{Out}
+use Rattle.table.specs.Out.{Out}
 use Rattle.report.specs.Printed.{day, freshTable, lineFeed, lines}
 use Rattle.report.proofs.Fresh.{fresh-table}
 use Rattle.report.proofs.output.put_day.Statement.{statement}

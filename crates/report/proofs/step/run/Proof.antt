@@ -6,7 +6,8 @@ use borrow.Author.Needs.{needs}
 use Rattle.updates.specs.declared.standing.State.the-variants.{Neither}
 use Rattle.table.specs.declared.answer.Answer.{Answer}
 use Rattle.table.specs.declared.answer.Reading.{Reading}
-use Rattle.table.specs.Answers.{Out, left, leftRead}
+use Rattle.table.specs.Answers.{left, leftRead}
+use Rattle.table.specs.Out.{Out}
 use Rattle.report.proofs.step.run.Statement.{statement}
 use Rattle.report.proofs.step.run.Tie as tie
 

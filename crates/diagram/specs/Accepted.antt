@@ -1,0 +1,50 @@
+-- No claim rests on this file: it serves the proofs. The tests of a step's codes as one answer; what it decides is said here by `TakenExactly`, and of
+-- each call, without it, by `Allowed` (crate plain).
+use Prim.Native.Nat.{ℕ, _<_}
+use mathlib.Core.Bool.{Bool, true, not, _&&_}
+use mathlib.Core.Path.{_≡_}
+use mathlib.Core.Logic.{_↔_}
+use mathlib.Core.List.{List, [], _∷_, _++_}
+use lib.Dec.{ltb}
+use Rattle.diagram.specs.Sizes.{clientLimit}
+use Rattle.diagram.specs.Day.{Day, fresh}
+use Rattle.diagram.specs.Checks.{unknownClient, openElsewhere, busyByOther, busy, stale, logFull, noneLeft, notJoinable}
+use Rattle.diagram.specs.Steps.{Step, Event, Yield, Fork, Join, after, run}
+use Rattle.diagram.specs.Lawful.{Lawful, MayFollow, EachMayFollow}
+
+-- 3 "box number not yet given out"
+abbrev pub notGiven : Day → ℕ → Bool
+notGiven y r = not (ltb r (y .revisions))
+
+abbrev pub noneOf : List Bool → Bool
+noneOf [] = true
+noneOf (b ∷ bs) = not b && noneOf bs
+
+-- a step is accepted exactly if none of its codes applies: "Update: 1 to 9. Query: 1 to 8 .. Yield: 1, 2. Fork: 1, 3, 4,
+-- 7, 10. Join: 1, 3, 4, 7, 11." (1 and 5 are not of this crate)
+unfoldable pub accepted : Day → Step → Bool
+accepted y (Event c r u) =
+    noneOf (unknownClient c ∷ notGiven y r ∷ y .joined r ∷ openElsewhere y c r ∷ busyByOther y c r ∷ stale y c r ∷ (u && logFull y) ∷ [])
+accepted y (Yield c) = noneOf (unknownClient c ∷ [])
+accepted y (Fork r) = noneOf (notGiven y r ∷ y .joined r ∷ busy y r ∷ noneLeft y ∷ [])
+accepted y (Join a b) = noneOf (notGiven y a ∷ notGiven y b ∷ y .joined a ∷ y .joined b ∷ busy y a ∷ busy y b ∷ notJoinable y a b ∷ [])
+
+-- each step is accepted when it comes
+abbrev pub AcceptedFrom : Day → List Step → Type 0
+AcceptedFrom y [] = Unit {0}
+AcceptedFrom y (s ∷ ss) = (accepted y s ≡ true) × AcceptedFrom (after y s) ss
+
+abbrev pub Accepted : List Step → Type 0
+Accepted ss = AcceptedFrom fresh ss
+
+-- after every run of accepted steps, a step is accepted exactly if it may follow
+abbrev pub TakenExactly : Type 0
+TakenExactly = (ss : List Step) → Accepted ss → (s : Step) → (accepted (run ss) s ≡ true) ↔ MayFollow ss s
+
+-- and so of whole runs
+abbrev pub RunsExactly : Type 0
+RunsExactly = (ss : List Step) → Accepted ss ↔ EachMayFollow ss
+
+-- a yield is always lawful
+abbrev pub YieldsLawful : Type 0
+YieldsLawful = (ss : List Step) → Accepted ss → (c : ℕ) → c < clientLimit → Lawful (ss ++ (Yield c ∷ []))
