@@ -32,6 +32,10 @@ out-refused : (t lent : List ℕ) (c : Call ℕ) (end : Out) → ((end .code ≡
     → (settle (checks (asked t) c) (refused lent) end .code ≡ 0 → ⊥) → OutRefused lent (codesFor c) (settle (checks (asked t) c) (refused lent) end)
 out-refused t lent c end f = refused-only (λ (o : Out). o .code) (refused lent) (λ k. refl) (asked t) c end f
 
+level-refused : (t : List ℕ) (c : Call ℕ) (end : Level) → ((end .code ≡ 0 → ⊥) → Refused (λ (f : Level). f .code) noFill (codesFor c) end)
+    → (settle (checks (asked t) c) noFill end .code ≡ 0 → ⊥) → Refused (λ (f : Level). f .code) noFill (codesFor c) (settle (checks (asked t) c) noFill end)
+level-refused t c end f = refused-only (λ (f : Level). f .code) noFill (λ k. refl) (asked t) c end f
+
 module _ (t : List ℕ) where
   update-refused : (c n k bib v : ℕ) → (updateOut t c n k bib v .code ≡ 0 → ⊥) → OutRefused t (listed (Update c n k bib v)) (updateOut t c n k bib v)
   unfolding updateOut
@@ -79,7 +83,7 @@ refusals-change-nothing t (Join n m) e = let r = out-refused t t (Join n m) _ (�
 refusals-change-nothing t (Bundle c n (Records bytes)) e = let r = batch-refused t c n (Records bytes) e in record { number = r .number; blank = ap onTable (r .is) }
 refusals-change-nothing t (Bundle c n (Entries es)) e = let r = batch-refused t c n (Entries es) e in record { number = r .number; blank = ap onTable (r .is) }
 refusals-change-nothing t (Looks (Show n s)) e = let r = out-refused t s (Looks (Show n (length s))) _ (λ h. absurd (h refl)) e in record { number = r .number; blank = ap (λ u. record { reply = outReply u (u .lent); table = t }) (r .is) }
-refusals-change-nothing t (Looks (Fill n)) e = let r = refused-only (λ (f : Level). f .code) noFill (λ k. refl) (asked t) (Looks (Fill n)) _ (λ h. absurd (h refl)) e in record { number = r .number; blank = ap (λ f. record { reply = levelReply f; table = t }) (r .is) }
+refusals-change-nothing t (Looks (Fill n)) e = let r = level-refused t (Looks (Fill n)) _ (λ h. absurd (h refl)) e in record { number = r .number; blank = ap (λ f. record { reply = levelReply f; table = t }) (r .is) }
 refusals-change-nothing t (Looks (Preview n m bib)) e = let r = preview-refused t n m bib e in record { number = r .number; blank = ap (λ f. record { reply = prospectReply f; table = t }) (r .is) }
 
 pub fresh-refused : FreshRefused

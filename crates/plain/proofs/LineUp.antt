@@ -148,7 +148,11 @@ module _ (cs : List (Call ℕ)) where
       through = accepted-first (stepsAfter before ++ (Event c r false ∷ [])) more (subst Accepted (place ∙ sym (append-assoc (stepsAfter before) (Event c r false ∷ []) more)) (all-accepted cs))
 
       low : (n : ℕ) → n ∈ shown → n < y1 .updates
-      low n i = subst (λ z. n < z .updates) (run-step (stepsAfter before) (Event c r false)) (view-low _ through (length (y1 .diagram)) n (subst (λ z. length (y1 .diagram) < length (z .diagram)) (sym (run-step (stepsAfter before) (Event c r false))) (omega arith)) (subst (λ z. n ∈ view (z .diagram) (length (y1 .diagram))) (sym (run-step (stepsAfter before) (Event c r false))) i))
+      low n i =
+          let x = length (y1 .diagram) in
+          let step = run-step (stepsAfter before) (Event c r false) in
+          let there : x < length (run (stepsAfter before ++ (Event c r false ∷ [])) .diagram) = subst (λ z. x < length (z .diagram)) (sym step) (omega arith) in
+          subst (λ z. n < z .updates) step (view-low _ through x n there (subst (λ z. n ∈ view (z .diagram) x) (sym step) i))
 
       kept : (n : ℕ) → n ∈ shown → q .entries n ≡ dayAfter cs .entries n
       kept n i = entries-stay before (Query c _ bib) rest T n (rw (same-day before) (low n i))
@@ -162,7 +166,7 @@ module _ (cs : List (Call ℕ)) where
     updates = shownAt (q .day) r;
     shown = rw (e, same-day before) (A .ever (stepsAfter before) _ (after-steps before (Looks (Show n room)) rest T) (y1 .terminal (meant y1 n)) (low (meant y1 n)));
     count = ap (λ o. o .answer .value) is;
-    are = ap (λ o. o .answer .sheet) is ∙ linesOf-same (q .entries) (dayAfter cs .entries) (shownAt (q .day) r) (λ k i. entries-stay before (Looks (Show n room)) rest T k (rw (same-day before) (view-low (stepsAfter before) (all-accepted before) (y1 .terminal (meant y1 n)) k (low (meant y1 n)) (rw (same-day before) at i))));
+    are = ap (λ o. o .answer .sheet) is ∙ linesOf-same (q .entries) (dayAfter cs .entries) (shownAt (q .day) r) (λ k i. entries-stay before (Looks (Show n room)) rest T k (taken-then k i));
   }
     where
       q : PlainDay
@@ -180,11 +184,17 @@ module _ (cs : List (Call ℕ)) where
       low : (r : ℕ) → y1 .terminal r < length (y1 .diagram)
       low = fine-run (stepsAfter before) (all-accepted before) .sound .real .linked .bound
 
+      -- what is listed was taken before the list
+      taken-then : (k : ℕ) → k ∈ shownAt (q .day) r → k < q .day .updates
+      taken-then k i = rw (same-day before) (view-low (stepsAfter before) (all-accepted before) (y1 .terminal (meant y1 n)) k (low (meant y1 n)) (rw (same-day before) at i))
+
   lists : (before rest : List (Call ℕ)) (n room : ℕ) → Taken cs before (Looks (Show n room)) rest
       → (t : ℕ) → t < endOf before .transactions → WholeAt (endOf before) t (endOf before .terminal (meant (endOf before) n)) (length (endOf before .diagram))
   lists before rest n room T =
       let s = show-idle (dayAfter before) n room (was-taken (dayAfter before) (Looks (Show n room)) (T .code) .0) in
-      rw (same-day before) (A .lists (stepsAfter before) _ (after-steps before (Looks (Show n room)) rest T) (meant (run (stepsAfter before)) n) (rw (same-day before) at (s .0)) (busy-idle (run (stepsAfter before)) (fine-run (stepsAfter before) (all-accepted before)) _ .0 (rw (same-day before) at (s .1))))
+      let y1 = run (stepsAfter before) in
+      let idle = busy-idle y1 (fine-run (stepsAfter before) (all-accepted before)) (meant y1 n) .0 (rw (same-day before) at (s .1)) in
+      rw (same-day before) (A .lists (stepsAfter before) _ (after-steps before (Looks (Show n room)) rest T) (meant y1 n) (rw (same-day before) at (s .0)) idle)
 
   number-at : (before rest : List (Call ℕ)) (c r k bib v : ℕ) → Taken cs before (Update c r k bib v) rest
       → number (endOf cs .diagram) (length (endOf before .diagram)) ≡ some (called (dayAfter before) (Update c r k bib v) .answer .value)

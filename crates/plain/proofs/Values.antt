@@ -74,10 +74,11 @@ module _ (before : List (Call ℕ)) where
   unfolding nextNumber after
   forks n N e =
       let C : CanFork y (meant y n) = can-fork y (meant y n) e in
+      let z = after y (Steps.Fork (meant y n)) in
       record {
         unused = λ s q. let f = found-means y _ s .1 q in cases (y .joined s) (λ e. e) (λ e. absurd (next-apart y N _ C s (meant-low y _ s f, e) (meant-number y _ s f)));
-        others = λ k r d. (λ m. found-means y k r .0 (sym (meant-old y N _ C k d) ∙ found-means (after y (Steps.Fork (meant y n))) k r .1 m), λ m. found-means (after y (Steps.Fork (meant y n))) k r .0 (meant-old y N _ C k d ∙ found-means y k r .1 m));
-        means = found-means (after y (Steps.Fork (meant y n))) _ _ .0 (meant-new y N _ C);
+        others = λ k r d. let old = meant-old y N _ C k d in (λ m. found-means y k r .0 (sym old ∙ found-means z k r .1 m), λ m. found-means z k r .0 (old ∙ found-means y k r .1 m));
+        means = found-means z _ _ .0 (meant-new y N _ C);
         out = (omega arith, changed-same (y .joined) (y .revisions) _);
         shows = shows (meant y n) e;
       }

@@ -126,7 +126,8 @@ module _ (p : PlainDay) (t : List ℕ) (S : Stands p t) where
       let J = join-passes p n m (e1 also e3 also e4 also P) in
       let g = or-false (not (isGiven y n)) (not (isGiven y m)) e3 in
       let o = or-false (y .joined (meant y n)) (y .joined (meant y m)) e4 in
-      by-step (Steps.Join (meant y n) (meant y m)) (J .accepts) refl _ _ (number p t S m (g .1) .out (o .1) .same-gain) _ (ap (λ z. joinBytes (low t) z m) (sym (numbered n (g .0))) ∙ ap (joinBytes (low t) (numberOf y (meant y n))) (sym (numbered m (g .1))))
+      let numbers = ap (λ z. joinBytes (low t) z m) (sym (numbered n (g .0))) ∙ ap (joinBytes (low t) (numberOf y (meant y n))) (sym (numbered m (g .1))) in
+      by-step (Steps.Join (meant y n) (meant y m)) (J .accepts) refl _ _ (number p t S m (g .1) .out (o .1) .same-gain) _ numbers
 
   -- each call: the rows agree, and so do the ends
   pub update-same : (c n k bib v : ℕ) → OnTable (updateOut t c n k bib v) (called p (Update c n k bib v))

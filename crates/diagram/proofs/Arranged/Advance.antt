@@ -102,6 +102,12 @@ pub record Linked (d : Diagram) (layout : List ℕ) (terminal starts : ℕ → �
   pub inv : Inv layout (contents d terminal) (may d terminal starts)
   pub past : (x : ℕ) → x < length d → Held layout (contents d terminal) (viewEvents d x)
 
+-- x is b, whose terminal moves on to vertex v, and may join y through it: no source of v sees y's start, and one sees y's fork
+abbrev pub Through : Diagram → (ℕ → ℕ) → (ℕ → ℕ) → Vertex → ℕ → ℕ → ℕ → Type 0
+Through d terminal starts v b x y =
+    (x ≡ b) × ((p : ℕ) → List·Memᴰ p (sources v) → leads d (starts y) p ≡ false)
+    × ((p : ℕ) × List·Memᴰ p (sources v) × ((f : ℕ) × (forkVertex d (terminal y) ≡ some f) × (leads d f p ≡ true)))
+
 module _ (d : Diagram) (layout : List ℕ) (terminal starts : ℕ → ℕ) (L : Linked d layout terminal starts) (b : ℕ) (v : Vertex) (stays : forkStep d (forkVertex d) v ≡ forkVertex d (terminal b)) where
   abbrev pub next : ℕ → ℕ
   next = on d v terminal (L .bound) b
@@ -110,13 +116,13 @@ module _ (d : Diagram) (layout : List ℕ) (terminal starts : ℕ → ℕ) (L : 
   from-on y = cases (eqb y b) (λ e. let q = eqb-true y b e in rw q (on-self d v terminal (L .bound) b forkStep none ∙ stays)) (λ e. on-other d v terminal (L .bound) b forkStep none y (eqb-false y b e))
 
   -- who may join after the step: one who might before, or b, through an edge to the new vertex
-  pub may-next : (x y : ℕ) → May (v ∷ d) next starts x y → May d terminal starts x y ⊎ ((x ≡ b) × ((p : ℕ) → List·Memᴰ p (sources v) → leads d (starts y) p ≡ false) × ((p : ℕ) × List·Memᴰ p (sources v) × ((f : ℕ) × (forkVertex d (terminal y) ≡ some f) × (leads d f p ≡ true))))
+  pub may-next : (x y : ℕ) → May (v ∷ d) next starts x y → May d terminal starts x y ⊎ Through d terminal starts v b x y
   may-next x y h = pick (split (eqb x b))
     where
       began : forkVertex d (terminal y) ≡ some (h .at)
       began = sym (from-on y) ∙ h .start-of
 
-      pick : (eqb x b ≡ true) ⊎ (eqb x b ≡ false) → May d terminal starts x y ⊎ ((x ≡ b) × ((p : ℕ) → List·Memᴰ p (sources v) → leads d (starts y) p ≡ false) × ((p : ℕ) × List·Memᴰ p (sources v) × ((f : ℕ) × (forkVertex d (terminal y) ≡ some f) × (leads d f p ≡ true))))
+      pick : (eqb x b ≡ true) ⊎ (eqb x b ≡ false) → May d terminal starts x y ⊎ Through d terminal starts v b x y
       pick (inl e) =
           let q = eqb-true x b e in
           let g = sees-before d v terminal (L .bound) b (h .at) (inherited-from (L .ordered) (terminal y) (L .bound y) (h .at) began .0) (rw q at (h .leads)) in
@@ -130,7 +136,10 @@ module _ (d : Diagram) (layout : List ℕ) (terminal starts : ℕ → ℕ) (L : 
       (inv′ : Inv layout′ s′ J′) (J-ok : (x y : ℕ) → x ∈ layout′ → y ∈ layout′ → May (v ∷ d) next starts x y → J′ x y ≡ true) (held : (w : List ℕ) → Held layout (contents d terminal) w → Held layout′ s′ w)
       (few : (n : ℕ) → n ∈ ownEventStep d (ownEvents d) v → n < length (v ∷ d)) where
     same-content : (x : ℕ) → x ∈ layout′ → contents (v ∷ d) next x ≡ s′ x
-    same-content x i = cases (eqb x b) (λ e. let q = eqb-true x b e in rw (q, b-content, on-self d v terminal (L .bound) b inheritedStep [], on-self d v terminal (L .bound) b ownEventStep [])) (λ e. let q = eqb-false x b e in rw (other x i q, on-other d v terminal (L .bound) b inheritedStep [] x q, on-other d v terminal (L .bound) b ownEventStep [] x q))
+    same-content x i =
+        cases (eqb x b)
+        (λ e. rw (eqb-true x b e, b-content, on-self d v terminal (L .bound) b inheritedStep [], on-self d v terminal (L .bound) b ownEventStep []))
+        (λ e. let q = eqb-false x b e in rw (other x i q, on-other d v terminal (L .bound) b inheritedStep [] x q, on-other d v terminal (L .bound) b ownEventStep [] x q))
 
     small′ : (x n : ℕ) → n ∈ ownEvents (v ∷ d) x → n < length (v ∷ d)
     unfolding tabulate
@@ -169,7 +178,7 @@ module _ (d : Diagram) (layout : List ℕ) (terminal starts : ℕ → ℕ) (L : 
   pub one-may : (x y : ℕ) → x ∈ layout → y ∈ layout → May (v ∷ d) (next d layout terminal starts L b v stays) starts x y → may d terminal starts x y ≡ true
   one-may x y i k h = pick (may-next d layout terminal starts L b v stays x y h)
     where
-      pick : May d terminal starts x y ⊎ ((x ≡ b) × ((p : ℕ) → List·Memᴰ p (sources v) → leads d (starts y) p ≡ false) × ((p : ℕ) × List·Memᴰ p (sources v) × ((f : ℕ) × (forkVertex d (terminal y) ≡ some f) × (leads d f p ≡ true)))) → may d terminal starts x y ≡ true
+      pick : May d terminal starts x y ⊎ Through d terminal starts v b x y → may d terminal starts x y ≡ true
       pick (inl m) = true-may d terminal starts x y m
       pick (inr m) =
           let t = m .2 in

@@ -14,7 +14,7 @@ use borrow.Author.Tests.{eq-eqb, eqb-false, eqb-true, ne-eqb}
 use Rattle.blocks.proofs.Invariant.{fork-inv, join-inv, update-inv}
 use Rattle.blocks.proofs.Past.{held-grow, held-join}
 use Rattle.blocks.specs.Blocks.{Contents, Held, Inv, blocks, forkContents, grow, seen}
-use Rattle.diagram.proofs.Arranged.Advance.{Linked, May, advance, contents, inv-same, may, may-next, may-true, next, on}
+use Rattle.diagram.proofs.Arranged.Advance.{Through, Linked, May, advance, contents, inv-same, may, may-next, may-true, next, on}
 use Rattle.diagram.proofs.Arranged.Advance.{on-bound, on-other, on-self, one-may, one-older, sees-before, sees-on, sees-other}
 use Rattle.diagram.proofs.Arranged.Advance.{true-may, unseen-before}
 use Rattle.diagram.proofs.Graph.Events.{inherited-from, inheritedStep, ownEventStep, ownEvents, view-split, viewEventStep, viewEvents}
@@ -86,7 +86,7 @@ module _ (d : Diagram) (layout : List ℕ) (terminal starts : ℕ → ℕ) (L : 
   join-may : (x y : ℕ) → x ∈ remove b layout → y ∈ remove b layout → May (jv ∷ d) (next d layout terminal starts L a jv refl) starts x y → joinPool (may d terminal starts) a b x y ≡ true
   join-may x y i k h = pick (may-next d layout terminal starts L a jv refl x y h)
     where
-      pick : May d terminal starts x y ⊎ ((x ≡ a) × ((p : ℕ) → List·Memᴰ p (sources jv) → leads d (starts y) p ≡ false) × ((p : ℕ) × List·Memᴰ p (sources jv) × ((f : ℕ) × (forkVertex d (terminal y) ≡ some f) × (leads d f p ≡ true)))) → joinPool (may d terminal starts) a b x y ≡ true
+      pick : May d terminal starts x y ⊎ Through d terminal starts jv a x y → joinPool (may d terminal starts) a b x y ≡ true
       pick (inl q) = join-keeps (may d terminal starts) a b x y (true-may d terminal starts x y q)
       pick (inr q) = rw (q .0, eq-eqb a a refl) (side (List·Memᴰ·cases-cons (q .2 .1)))
         where
@@ -150,7 +150,14 @@ module _ (d : Diagram) (layout : List ℕ) (terminal starts : ℕ → ℕ) (L : 
       pick (inr j) = late (List·Memᴰ·cases-cons j)
 
   fork-content : (x : ℕ) → contents (sv ∷ d) t2 x ≡ forkContents (contents d terminal) b c x
-  fork-content x = cases (eqb x c) (λ e. rw (eqb-true x c e, on-self d sv terminal (L .bound) c inheritedStep [], on-self d sv terminal (L .bound) c ownEventStep [], changed-same (contents d terminal) c _, ← (view-split (L .ordered) (terminal b) (L .bound b)), at-f)) (λ e. let q = eqb-false x c e in rw (on-other d sv terminal (L .bound) c inheritedStep [] x q, on-other d sv terminal (L .bound) c ownEventStep [] x q, changed-other (contents d terminal) c _ x q))
+  fork-content x =
+      cases (eqb x c)
+      (λ e.
+      let split-b = view-split (L .ordered) (terminal b) (L .bound b) in
+      rw (eqb-true x c e, on-self d sv terminal (L .bound) c inheritedStep [], on-self d sv terminal (L .bound) c ownEventStep [], changed-same (contents d terminal) c _, ← split-b, at-f))
+      (λ e.
+      let q = eqb-false x c e in
+      rw (on-other d sv terminal (L .bound) c inheritedStep [] x q, on-other d sv terminal (L .bound) c ownEventStep [] x q, changed-other (contents d terminal) c _ x q))
 
   fork-inv′ : Inv (insertBefore b c layout) (forkContents (contents d terminal) b c) (forkPool (may d terminal starts) b c)
   fork-inv′ = rw FL (fork-inv (FP .above) b (FP .below) (contents d terminal) (may d terminal starts) c (rw (FP .eq) at (L .inv)) (rw (FP .eq) at c-new))

@@ -90,7 +90,8 @@ module _ (y : Day) (layout : List ℕ) (hold : ℕ → List ℕ) (S : Sound y la
       past : (p t : ℕ) → List·Memᴰ p (y .terminal r ∷ []) → t < y .transactions → p ∈ eventsOf y t → Past d (y .transaction t) p
       past p t i h j = let e = List·Memᴰ·eq-of-singleton i in rw e (idle-past y layout hold S r t (N .out) (N .idle) h (rw e at j))
 
-  kept : (c s : ℕ) → y .openBy c ≡ some s → IsOut (forkAt y r) (y .transaction s .revision) × (forkAt y r .terminal (y .transaction s .revision) ≡ y .terminal (y .transaction s .revision)) × (hold′ (y .transaction s .revision) ≡ hold (y .transaction s .revision))
+  kept : (c s : ℕ) → y .openBy c ≡ some s
+      → IsOut (forkAt y r) (y .transaction s .revision) × (forkAt y r .terminal (y .transaction s .revision) ≡ y .terminal (y .transaction s .revision)) × (hold′ (y .transaction s .revision) ≡ hold (y .transaction s .revision))
   kept c s p =
       let o = S .runs c s p .out in
       let old = older _ (S .real .out _ o) in

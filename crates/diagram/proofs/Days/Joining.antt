@@ -92,7 +92,8 @@ module _ (y : Day) (layout : List ℕ) (hold : ℕ → List ℕ) (S : Sound y la
           (λ e. rw e (idle-past y layout hold S a t (H .out-a) (H .idle-a) h (rw e at j)))
           (λ k. let e = List·Memᴰ·eq-of-singleton k in rw e (idle-past y layout hold S b t (H .out-b) (H .idle-b) h (rw e at j)))
 
-  kept : (c s : ℕ) → y .openBy c ≡ some s → IsOut (joinInto y a b) (y .transaction s .revision) × (joinInto y a b .terminal (y .transaction s .revision) ≡ y .terminal (y .transaction s .revision)) × (hold′ (y .transaction s .revision) ≡ hold (y .transaction s .revision))
+  kept : (c s : ℕ) → y .openBy c ≡ some s
+      → IsOut (joinInto y a b) (y .transaction s .revision) × (joinInto y a b .terminal (y .transaction s .revision) ≡ y .terminal (y .transaction s .revision)) × (hold′ (y .transaction s .revision) ≡ hold (y .transaction s .revision))
   kept c s p =
       let o = S .runs c s p .out in
       let far = idle-far y layout hold S a c s (H .idle-a) p in

@@ -47,7 +47,8 @@ inheritedEvents = tabulate inheritedStep []
 pub view-split : {d : Diagram} → Ordered d → (x : ℕ) → x < length d → viewEvents d x ≡ inheritedEvents d x ++ ownEvents d x
 view-split = by-vertex (λ d x. viewEvents d x ≡ inheritedEvents d x ++ ownEvents d x) new old
   where
-    new : (v : Vertex) (d : Diagram) → ((p : ℕ) → List·Memᴰ p (sources v) → p < length d) → ((p : ℕ) → p < length d → viewEvents d p ≡ inheritedEvents d p ++ ownEvents d p) → viewEvents (v ∷ d) (length d) ≡ inheritedEvents (v ∷ d) (length d) ++ ownEvents (v ∷ d) (length d)
+    new : (v : Vertex) (d : Diagram) → ((p : ℕ) → List·Memᴰ p (sources v) → p < length d) → ((p : ℕ) → p < length d → viewEvents d p ≡ inheritedEvents d p ++ ownEvents d p)
+        → viewEvents (v ∷ d) (length d) ≡ inheritedEvents (v ∷ d) (length d) ++ ownEvents (v ∷ d) (length d)
     new root d f k = rw (tabulate-newest viewEventStep [], tabulate-newest inheritedStep [], tabulate-newest ownEventStep [])
     new (start p) d f k = rw (tabulate-newest viewEventStep [], tabulate-newest inheritedStep [], tabulate-newest ownEventStep []) (sym (append-nil (viewEvents d p)))
     new (event p c u) d f k = rw (tabulate-newest viewEventStep [], tabulate-newest inheritedStep [], tabulate-newest ownEventStep [], k p (f p (List·Memᴰ·head refl))) (append-assoc (inheritedEvents d p) (ownEvents d p) (length d ∷ []))

@@ -43,7 +43,8 @@ view-paths = by-vertex Traced new old
     none-of : {d : Diagram} {x : ℕ} → From d x []
     none-of n i = absurd (List·Memᴰ·not-nil i)
 
-    steps : (v : Vertex) (d : Diagram) → ((p : ℕ) → List·Memᴰ p (sources v) → p < length d) → ((p : ℕ) → p < length d → Traced d p) → From (v ∷ d) (length d) (ownEventStep d (ownEvents d) v) × From (v ∷ d) (length d) (viewEventStep d (viewEvents d) v)
+    steps : (v : Vertex) (d : Diagram) → ((p : ℕ) → List·Memᴰ p (sources v) → p < length d) → ((p : ℕ) → p < length d → Traced d p)
+        → From (v ∷ d) (length d) (ownEventStep d (ownEvents d) v) × From (v ∷ d) (length d) (viewEventStep d (viewEvents d) v)
     steps root d f k = (none-of, none-of)
     steps (start p) d f k = let i : List·Memᴰ p (p ∷ []) = List·Memᴰ·head refl in (none-of, up i (k p (f p i) .1))
     steps (event p c u) d f k =
@@ -100,7 +101,8 @@ view-numbers {d} o x h = go o x h
     more-view : (v : Vertex) (d : Diagram) → Ordered d → (p : ℕ) → p < length d → Q d p → numbers (v ∷ d) (viewEvents d p) ≡ view d p
     more-view v d o p h q = numbers-old v d (viewEvents d p) (λ e i. view-low o p e h i) ∙ sym (q .1)
 
-    new : (v : Vertex) (d : Diagram) → Ordered d → ((p : ℕ) → List·Memᴰ p (sources v) → p < length d) → ((p : ℕ) → p < length d → Q d p) → (ownStep d (own d) v ≡ numbers (v ∷ d) (ownEventStep d (ownEvents d) v)) × (viewStep d (view d) v ≡ numbers (v ∷ d) (viewEventStep d (viewEvents d) v))
+    new : (v : Vertex) (d : Diagram) → Ordered d → ((p : ℕ) → List·Memᴰ p (sources v) → p < length d) → ((p : ℕ) → p < length d → Q d p)
+        → (ownStep d (own d) v ≡ numbers (v ∷ d) (ownEventStep d (ownEvents d) v)) × (viewStep d (view d) v ≡ numbers (v ∷ d) (viewEventStep d (viewEvents d) v))
     new root d o f k = (refl, refl)
     new (start p) d o f k = let h = f p (List·Memᴰ·head refl) in (refl, sym (more-view (start p) d o p h (k p h)))
     new (event p c u) d o f k =

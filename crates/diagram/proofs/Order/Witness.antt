@@ -65,7 +65,8 @@ shut-by (s ∷ ss) y A F c t q i = by (open-or-shut y F c t q s) i (λ p j. shut
     known : t < after y s .transactions
     known = omega (arith, F .sound .runs c t q .known, more-transactions y F s)
 
-    by : ((s ≡ Yield c → ⊥) × (after y s .openBy c ≡ some t)) ⊎ (after y s .transaction t .closed ≡ some (length (y .diagram))) → List·Memᴰ (Yield c) (s ∷ ss) → (after y s .openBy c ≡ some t → List·Memᴰ (Yield c) ss → ShutAt (runFrom (after y s) ss) t) → ShutAt (runFrom (after y s) ss) t
+    by : ((s ≡ Yield c → ⊥) × (after y s .openBy c ≡ some t)) ⊎ (after y s .transaction t .closed ≡ some (length (y .diagram)))
+        → List·Memᴰ (Yield c) (s ∷ ss) → (after y s .openBy c ≡ some t → List·Memᴰ (Yield c) ss → ShutAt (runFrom (after y s) ss) t) → ShutAt (runFrom (after y s) ss) t
     by (inr p) j more = (length (y .diagram), ap (λ w. w .closed) (shut-on ss (after y s) (A .1) (fine-step y s (A .0) F) t (length (y .diagram)) known p) ∙ p)
     by (inl (n, p)) (List·Memᴰ·head e) more = absurd (n (sym e))
     by (inl (n, p)) (List·Memᴰ·tail j) more = more p j
@@ -225,7 +226,10 @@ module _ (ss before middle rest : List Step) (A : Accepted ss) (c r q : ℕ) (u 
   unfolding after
   in-sequence =
       let p = F2 .sound .sessions .last-sees t (length (run before .diagram)) (was-in .known) (was-in .has) in
-      path-on grown (leads-path _ (length (run before .diagram)) z (leads-up _ (y2 .diagram) (length (run before .diagram)) (y2 .terminal q) (List·Memᴰ·head refl) (leads-trans (F2 .sound .real .linked .ordered) (length (run before .diagram)) (p .0) (y2 .terminal q) (p .2) (can .caught-up (p .0) (ap (y2 .lastEvent) (sym (was-in .own)) ∙ p .1)))))
+      let x = length (run before .diagram) in
+      let caught = can .caught-up (p .0) (ap (y2 .lastEvent) (sym (was-in .own)) ∙ p .1) in
+      let sees = leads-trans (F2 .sound .real .linked .ordered) x (p .0) (y2 .terminal q) (p .2) caught in
+      path-on grown (leads-path _ x z (leads-up _ (y2 .diagram) x (y2 .terminal q) (List·Memᴰ·head refl) sees))
 
 pub points : (ss : List Step) → Accepted ss → ByTransactions ss
 points ss A = record {

@@ -189,14 +189,16 @@ module _ (y : Day) (k : Machine) (A : Agree y k) where
 
       joinable′ : (a b : ℕ) → IsOut (forkAt y r) a → IsOut (forkAt y r) b → (eqb b n ≡ true) ⊎ (eqb b n ≡ false) → (eqb a n ≡ true) ⊎ (eqb a n ≡ false) → forkPool (k .joinable) r n a b ≡ J (forkAt y r) a b
       joinable′ a b oa ob (inl e) (inl g) =
-          ap (λ t. cond t (eqb a r) (changed (k .joinable) n (k .joinable r) a b)) e ∙ ne-eqb a r (λ i. omega (arith, eqb-true a n g, N .out .0)) ∙ sym (J-fork-self y F r) ∙ ap (λ t. J (forkAt y r) t n) (sym (eqb-true a n g)) ∙ ap (λ t. J (forkAt y r) a t) (sym (eqb-true b n e))
+          ap (λ t. cond t (eqb a r) (changed (k .joinable) n (k .joinable r) a b)) e ∙ ne-eqb a r (λ i. omega (arith, eqb-true a n g, N .out .0))
+          ∙ sym (J-fork-self y F r) ∙ ap (λ t. J (forkAt y r) t n) (sym (eqb-true a n g)) ∙ ap (λ t. J (forkAt y r) a t) (sym (eqb-true b n e))
       joinable′ a b oa ob (inl e) (inr g) =
           ap (λ t. cond t (eqb a r) (changed (k .joinable) n (k .joinable r) a b)) e ∙ sym (J-fork-new y F r a (λ p. omega (arith, N .out .0)) (eqb-false a n g)) ∙ ap (λ t. J (forkAt y r) a t) (sym (eqb-true b n e))
       joinable′ a b oa ob (inr e) (inl g) =
           ap (λ t. cond t (eqb a r) (changed (k .joinable) n (k .joinable r) a b)) e ∙ ap (λ t. cond t (k .joinable r) (k .joinable a) b) g ∙ A .same-joinable r b (N .out) (forked-out y r b ob e)
           ∙ sym (J-fork-copy y F (A .marked .marks) r N b (eqb-false b n e)) ∙ ap (λ t. J (forkAt y r) t b) (sym (eqb-true a n g))
       joinable′ a b oa ob (inr e) (inr g) =
-          ap (λ t. cond t (eqb a r) (changed (k .joinable) n (k .joinable r) a b)) e ∙ ap (λ t. cond t (k .joinable r) (k .joinable a) b) g ∙ A .same-joinable a b (forked-out y r a oa g) (forked-out y r b ob e) ∙ sym (J-fork-old y F r a b (eqb-false a n g) (eqb-false b n e))
+          ap (λ t. cond t (eqb a r) (changed (k .joinable) n (k .joinable r) a b)) e ∙ ap (λ t. cond t (k .joinable r) (k .joinable a) b) g
+          ∙ A .same-joinable a b (forked-out y r a oa g) (forked-out y r b ob e) ∙ sym (J-fork-old y F r a b (eqb-false a n g) (eqb-false b n e))
 
   pub agree-join : (a b : ℕ) → CanJoin y a b → Agree (joinInto y a b) (joinOn k a b)
   unfolding marked-moves fine-moves
@@ -227,7 +229,8 @@ module _ (y : Day) (k : Machine) (A : Agree y k) where
       joinable′ x z ox oz =
           cases (eqb x a)
           (λ e.
-          ap (λ t. cond t (λ w. k .joinable a w || k .joinable b w) (k .joinable x) z) e ∙ ap (λ t. t || k .joinable b z) (A .same-joinable a z (H .out-a) (joined-out y a b z oz .0)) ∙ ap (λ t. J y a z || t) (A .same-joinable b z (H .out-b) (joined-out y a b z oz .0))
+          ap (λ t. cond t (λ w. k .joinable a w || k .joinable b w) (k .joinable x) z) e
+          ∙ ap (λ t. t || k .joinable b z) (A .same-joinable a z (H .out-a) (joined-out y a b z oz .0)) ∙ ap (λ t. J y a z || t) (A .same-joinable b z (H .out-b) (joined-out y a b z oz .0))
           ∙ sym (J-joiner y F (A .marked .marks) a b H z oz) ∙ ap (λ t. J (joinInto y a b) t z) (sym (eqb-true x a e)))
           (λ e. ap (λ t. cond t (λ w. k .joinable a w || k .joinable b w) (k .joinable x) z) e ∙ A .same-joinable x z (joined-out y a b x ox .0) (joined-out y a b z oz .0) ∙ sym (J-join-other y F (A .marked .marks) a b H x z (eqb-false x a e)))
 
