@@ -15,7 +15,8 @@ unfolding cells offset size
 returns c =
     let at-wide2 = c .before .before .before in
     let at-wide = at-wide2 .before in
-    marks-lent (at-wide .before .before .before .args .d .now) caughtPart (λ x y t. pack clients (joinCaught (markIn 8 clients t) x y)) (omega arith) (omega arith) (at-wide .wide .ensures .0) (at-wide2 .wide2 .ensures .0) (c .before .before .join-caught .ensures)
+    marks-lent (at-wide .before .before .before .args .d .now) caughtPart (λ x y t. pack clients (joinCaught (markIn 8 clients t) x y)) (omega arith) (omega arith)
+    (at-wide .wide .ensures .0) (at-wide2 .wide2 .ensures .0) (c .before .before .join-caught .ensures)
 
 pub join-caught-spec : {M : Type 1} → statement M
 join-caught-spec = tie.close (tie.spec

@@ -8,7 +8,11 @@ use Rattle.fields.proofs.write.used.Tie as tie
 
 returns : tie.Need-returns
 unfolding offset size
-returns c = let s = c .before .before .before .before .before .before .args in byte-lent (s .d .now) usedPart (s .v) (omega arith) (omega arith) (c .before .before .before .wide .ensures .0) (c .before .before .put-byte .ensures)
+returns c =
+    let at-put = c .before .before in
+    let at-wide = at-put .before in
+    let s = at-wide .before .before .before .args in
+    byte-lent (s .d .now) usedPart (s .v) (omega arith) (omega arith) (at-wide .wide .ensures .0) (at-put .put-byte .ensures)
 
 pub used-spec : {M : Type 1} → statement M
 used-spec = tie.close (tie.spec

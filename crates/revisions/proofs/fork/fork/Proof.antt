@@ -9,7 +9,8 @@ use Rattle.revisions.proofs.fork.fork.Tie as tie
 
 start-requires : tie.Need-start-requires
 start-requires c κs =
-    let at-out = c .before .before .before .before .before .before .before in
+    let at-given = c .before .before .before .before .before in
+    let at-out = at-given .before .before in
     let start = at-out .before .before .before in
     let o = ranges (start .args .d .now) (start .pre .1) .most-out in
     let e = at-out .out .ensures .0 in
@@ -17,7 +18,9 @@ start-requires c κs =
 
 use-number-requires : tie.Need-use-number-requires
 use-number-requires c κs =
-    let at-given = c .before .before .before .before .before .before .before .before .before in
+    let at-start = c .before .before .before in
+    let at-inherit = at-start .before .before .before .before in
+    let at-given = at-inherit .before .before in
     let start = at-given .before .before .before .before .before in
     let g = ranges (start .args .d .now) (start .pre .1) .most-given in
     let e = at-given .given .ensures .0 in

@@ -9,7 +9,9 @@ use Rattle.revisions.proofs.join.join.Tie as tie
 
 sub-out : tie.Need-sub-out
 sub-out c =
-    let start = c .before .before .before .before .before .before .before .before .before in
+    let at-queue-end = c .before .before in
+    let at-count2 = at-queue-end .before .before in
+    let start = at-count2 .before .before .before .before .before in
     let o = ranges (start .args .d .now) (start .pre .1) .some-out in let e = c .out .ensures .0 in omega arith
 
 count-requires-3 : tie.Need-count-requires-3
