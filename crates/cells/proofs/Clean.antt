@@ -8,7 +8,7 @@ use Rattle.lists.specs.Lists.{changed}
 use Rattle.lists.specs.Arranged.{insertBefore}
 use Rattle.lists.proofs.Cases.{cases}
 use Rattle.cells.specs.Sizes.{main, revisions, updates}
-use Rattle.cells.specs.Cells.{Cells, chain, own, marked}
+use Rattle.cells.specs.Cells.{Cells, chain, own, flagged}
 use Rattle.cells.specs.CellSteps.{forkCells, forkRow}
 use Rattle.cells.specs.Clean.{SameBut, ShowsSame, StartsClean}
 
@@ -20,20 +20,20 @@ module _ (c : ℕ) (k k′ : Cells) (S : SameBut c k k′) (p : ℕ) (np : p ≡
   own-alike : (r : ℕ) → (r ≡ c → ⊥) → own k r ≡ own k′ r
   own-alike r n = cc (S .link, S .last r n, S .count r n)
 
-  marked-alike : (r u : ℕ) → (r ≡ c → ⊥) → marked k r u ≡ marked k′ r u
-  marked-alike r u n = cc (S .used r n, S .row r n)
+  flagged-alike : (r u : ℕ) → (r ≡ c → ⊥) → flagged k r u ≡ flagged k′ r u
+  flagged-alike r u n = cc (S .used r n, S .row r n)
 
   row-alike : (u : ℕ) → forkRow k p u ≡ forkRow k′ p u
-  row-alike u = cc (marked-alike p u np, own-alike p np)
+  row-alike u = cc (flagged-alike p u np, own-alike p np)
 
   new-own : (r : ℕ) → own (forkCells k p c) r ≡ own (forkCells k′ p c) r
   unfolding chain
   new-own r = cases (eqb r c) (λ t. rw t) (λ t. rw t (own-alike r (eqb-false r c t)))
 
-  new-marked : (r u : ℕ) → marked (forkCells k p c) r u ≡ marked (forkCells k′ p c) r u
-  new-marked r u = cases (eqb r c)
+  new-flagged : (r u : ℕ) → flagged (forkCells k p c) r u ≡ flagged (forkCells k′ p c) r u
+  new-flagged r u = cases (eqb r c)
       (λ t. cases (eqb p main) (λ m. rw (m, t)) (λ m. rw (m, t) (row-alike u)))
-      (λ t. cases (eqb p main) (λ m. rw (m, t) (marked-alike r u (eqb-false r c t))) (λ m. rw (m, t) (marked-alike r u (eqb-false r c t))))
+      (λ t. cases (eqb p main) (λ m. rw (m, t) (flagged-alike r u (eqb-false r c t))) (λ m. rw (m, t) (flagged-alike r u (eqb-false r c t))))
 
   new-seen : (x y : ℕ) → forkCells k p c .seen x y ≡ forkCells k′ p c .seen x y
   new-seen x y = cases (eqb y c)
@@ -46,7 +46,7 @@ module _ (c : ℕ) (k k′ : Cells) (S : SameBut c k k′) (p : ℕ) (np : p ≡
     count = changed-alike (k .count) (k′ .count) c 0 0 refl (S .count);
     base = changed-alike (k .base) (k′ .base) c _ _ (cc (S .count main nm, S .base p np)) (S .base);
     own = new-own;
-    inherited = new-marked;
+    inherited = new-flagged;
     seen = new-seen;
     caught = λ x. changed-alike (k .caught x) (k′ .caught x) c _ _ (S .caught x p np) (S .caught x);
     layout = ap (λ l. take revisions (insertBefore p c l)) (S .layout);

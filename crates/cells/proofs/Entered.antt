@@ -9,7 +9,7 @@ use lib.ListN.{length}
 use borrow.Author.Tests.{ltb-true, ltb-false}
 use Rattle.lists.proofs.Cases.{cases, cond-all}
 use Rattle.lists.proofs.Changed.{changed-at, changed-same}
-use Rattle.cells.specs.Sizes.{bytes, clients, revisions, updates}
+use Rattle.cells.specs.Sizes.{lowerBytes, clients, revisions, updates}
 use Rattle.cells.specs.Parts.{Parts, Sized, split}
 use Rattle.cells.specs.Decode.{cells, decode}
 use Rattle.cells.specs.Range.{inRange, partsIn}
@@ -20,7 +20,7 @@ use Rattle.cells.proofs.Parts.{glue-length, split-glue, split-sized}
 use Rattle.cells.proofs.Range.{Ranged, ranged-in, parts-ranged, ranges}
 use Rattle.cells.proofs.Sized.{update-sized}
 
-module _ (d : List ℕ) (l : length d ≡ bytes) (i : inRange d ≡ true) (c r : ℕ) (cl : c < clients) (rl : r < revisions) (ul : cells d .updates < updates) where
+module _ (d : List ℕ) (l : length d ≡ lowerBytes) (i : inRange d ≡ true) (c r : ℕ) (cl : c < clients) (rl : r < revisions) (ul : cells d .updates < updates) where
   abbrev p : Parts
   p = split d
 
@@ -38,7 +38,7 @@ module _ (d : List ℕ) (l : length d ≡ bytes) (i : inRange d ≡ true) (c r :
   unfolding cells updateBytes
   updated-cells = ap decode (split-glue (updateParts p c r) new-sized) ∙ follows
 
-  pub updated-length : length (updateBytes d c r) ≡ bytes
+  pub updated-length : length (updateBytes d c r) ≡ lowerBytes
   unfolding updateBytes
   updated-length = glue-length (updateParts p c r) new-sized
 

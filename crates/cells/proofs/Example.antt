@@ -7,7 +7,7 @@ use Rattle.lists.specs.Sums.{anyBelow}
 use Rattle.lists.specs.Arranged.{insertBefore, remove, behind}
 use Rattle.cells.specs.Parts.{offset, size, rowsPart, lowPart, highPart, seenPart, caughtPart, statePart, usedPart, lastPart, firstPart, countPart}
 use Rattle.cells.specs.Parts.{basePart, layoutPart, queuePart, openedPart, countersPart, namesPart, singlePart, closedPart, startedPart, keptPart, signaturePart}
-use Rattle.cells.specs.Cells.{Cells, chain, freed, outs, marked, nextNumber}
+use Rattle.cells.specs.Cells.{Cells, chain, freed, outs, flagged, nextNumber}
 use Rattle.cells.specs.Order.{order, picks}
 use Rattle.cells.specs.Checks.{isClient, givenOut, joined, openElsewhere, busy, busyByOther, stale, logFull, noneLeft, joinable}
 use Rattle.cells.specs.CellSteps.{freshCells, updateCells, closeCells, forkRow, forkCells, joinCells}
@@ -41,14 +41,14 @@ unfolding before after insertBefore remove
 left-out = refl
 
 -- 01, E2: "join 0 with 2 gives 11, and so does join 2 with 1; after join 0 with 1, join 0 with 2 is taken"
-seen-marks : joinable before 0 2 ∷ joinable before 2 1 ∷ joinable before 0 1 ∷ joinable (joinCells before 0 1) 0 2 ∷ [] ≡ false ∷ false ∷ true ∷ true ∷ []
+seen-flags : joinable before 0 2 ∷ joinable before 2 1 ∷ joinable before 0 1 ∷ joinable (joinCells before 0 1) 0 2 ∷ [] ≡ false ∷ false ∷ true ∷ true ∷ []
 unfolding before
-seen-marks = refl
+seen-flags = refl
 
 -- client 1 was on revision 1 last: with 0 it has caught up after the joins; its transaction is still open
-caught-marks : stale before 1 0 ∷ stale after 1 0 ∷ busy after 1 ∷ busyByOther after 1 1 ∷ openElsewhere after 1 0 ∷ busy (closeCells after 1) 1 ∷ joined after 1 ∷ [] ≡ true ∷ false ∷ true ∷ false ∷ true ∷ false ∷ true ∷ []
+caught-flags : stale before 1 0 ∷ stale after 1 0 ∷ busy after 1 ∷ busyByOther after 1 1 ∷ openElsewhere after 1 0 ∷ busy (closeCells after 1) 1 ∷ joined after 1 ∷ [] ≡ true ∷ false ∷ true ∷ false ∷ true ∷ false ∷ true ∷ []
 unfolding before after anyBelow
-caught-marks = refl
+caught-flags = refl
 
 -- the checks on a fresh day: clients 15 and 16; revisions 0 and 1 given out; nobody joined, busy or open elsewhere
 fresh-checks : isClient 15 ∷ isClient 16 ∷ givenOut freshCells 0 ∷ givenOut freshCells 1 ∷ joined freshCells 0 ∷ busy freshCells 0 ∷ busy freshCells 63 ∷ openElsewhere freshCells 0 5 ∷ [] ≡ true ∷ false ∷ true ∷ false ∷ false ∷ false ∷ false ∷ false ∷ []
@@ -60,7 +60,7 @@ later-checks : givenOut after 1 ∷ busy (updateCells freshCells 15 0) 0 ∷ bus
 unfolding before after anyBelow
 later-checks = refl
 
--- cells that no day made: every mark set and no row in use
+-- cells that no day made: every flag set and no row in use
 made : ℕ → ℕ → ℕ → Cells
 made updates out given = record {
   state = λ r. 1;
@@ -95,12 +95,12 @@ freed-ones : freed (made 0 62 64) ∷ freed (forkCells (made 0 62 64) 0 7) ∷ f
 unfolding made before after
 freed-ones = refl
 
--- neither the main revision nor the joiner is a joinee, whatever the marks; a row that is not in use counts for nothing
-marks-alone : joinable (made 0 1 1) 1 1 ∷ joinable (made 0 1 1) 1 0 ∷ joinable (made 0 1 1) 0 1 ∷ marked (made 0 1 1) 1 0 ∷ forkRow (made 0 1 1) 1 0 ∷ [] ≡ false ∷ false ∷ true ∷ false ∷ false ∷ []
+-- neither the main revision nor the joiner is a joinee, whatever the flags; a row that is not in use counts for nothing
+flags-alone : joinable (made 0 1 1) 1 1 ∷ joinable (made 0 1 1) 1 0 ∷ joinable (made 0 1 1) 0 1 ∷ flagged (made 0 1 1) 1 0 ∷ forkRow (made 0 1 1) 1 0 ∷ [] ≡ false ∷ false ∷ true ∷ false ∷ false ∷ []
 unfolding chain made
-marks-alone = refl
+flags-alone = refl
 
--- a fork of a fork of a fork inherits by count, by mark and from the own list
+-- a fork of a fork of a fork inherits by count, by flag and from the own list
 third-order : order (forkCells before 2 4) 4 ≡ 0 ∷ 1 ∷ 2 ∷ []
 unfolding before order chain insertBefore remove behind
 third-order = refl

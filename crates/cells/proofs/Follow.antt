@@ -12,7 +12,7 @@ use Rattle.lists.proofs.Cases.{cases}
 use Rattle.cells.specs.Sizes.{revisions, clients, updates, closed}
 use Rattle.cells.specs.Parts.{Parts, Sized, size, lowPart, highPart, seenPart, caughtPart, statePart, lastPart, firstPart, countPart, openedPart, countersPart}
 use Rattle.cells.specs.Words.{byte}
-use Rattle.cells.specs.Marks.{markIn, putRow}
+use Rattle.cells.specs.Flags.{flagIn, putRow}
 use Rattle.cells.specs.Cells.{Cells}
 use Rattle.cells.specs.Decode.{decode}
 use Rattle.lists.specs.Pool.{joinPool}
@@ -20,7 +20,7 @@ use Rattle.cells.specs.CellSteps.{onlyCaught, queryCells, updateCells, c
 use Rattle.cells.specs.Steps.{queryParts, updateParts, closeParts, joinParts}
 use Rattle.cells.proofs.Tables.{getD-changed}
 use Rattle.cells.proofs.Words.{word-put, byte-put-other, word-set-other, link-put}
-use Rattle.cells.proofs.Marks.{mark-row, Within, marks-within, mark-pack}
+use Rattle.cells.proofs.Flags.{flag-row, Within, flags-within, flag-pack}
 
 -- a test that implies a bound
 pub bounded : (b : Bool) (x n : ℕ) → (b ≡ true → x < n) → (ltb x n && b) ≡ b
@@ -28,10 +28,10 @@ bounded true x n h = rw (lt-ltb x n (h refl))
 bounded false x n h = cases (ltb x n) (λ e. rw e) (λ e. rw e)
 
 module _ (p : Parts) (h : Sized p) (c r : ℕ) (cl : c < clients) (rl : r < revisions) where
-  pub caught-only : (x y : ℕ) → markIn 8 clients (putRow 8 (p caughtPart) c (λ z. eqb z r)) x y ≡ onlyCaught (decode p .caught) c r x y
+  pub caught-only : (x y : ℕ) → flagIn 8 clients (putRow 8 (p caughtPart) c (λ z. eqb z r)) x y ≡ onlyCaught (decode p .caught) c r x y
   unfolding size
   caught-only x y =
-      mark-row 8 clients (p caughtPart) c (λ z. eqb z r) (h .of caughtPart) cl x y
+      flag-row 8 clients (p caughtPart) c (λ z. eqb z r) (h .of caughtPart) cl x y
       ∙ cases (eqb x c) (λ e. rw e (bounded (eqb y r) y revisions (λ q. rw (eqb-true y r q) rl))) (λ e. rw e)
 
   pub opened-changed : (v x : ℕ) → byte (set (p openedPart) c v) x ≡ changed (decode p .opened) c v x
@@ -110,7 +110,7 @@ module _ (p : Parts) (h : Sized p) (c r : ℕ) (cl : c < clients) (rl : r < revi
           given = byte-put-other (p countersPart) 0 (suc u) 3 (omega arith) (omega arith) i;
         }
 
--- a row or a column of marks changed, inside the rows
+-- a row or a column of flags changed, inside the rows
 within-row : (n : ℕ) (f : ℕ → ℕ → Bool) (a : ℕ) (g : ℕ → Bool) → a < n → Within n f → ((y : ℕ) → ltb y 64 ≡ false → g y ≡ false) → Within n (changed f a g)
 within-row n f a g al w wg x y e =
     cases (eqb x a)
@@ -123,7 +123,7 @@ within-column n f a g al w wg x y e =
     (λ q. rw q (wg x (cases (ltb x n) (λ z. z ∙ (rw (z, eqb-true y a q, lt-ltb a 64 al) at e)) (λ z. z))))
     (λ q. rw q (w x y e))
 
--- a mark outside is false
+-- a flag outside is false
 pub outside-row : (n : ℕ) (f : ℕ → ℕ → Bool) → Within n f → (x y : ℕ) → ltb x n ≡ false → f x y ≡ false
 outside-row n f w x y e = w x y (rw e)
 
@@ -136,14 +136,14 @@ module _ (p : Parts) (h : Sized p) (a b : ℕ) (al : a < revisions) (bl : b < re
 
   join-seen : (x y : ℕ) → decode (joinParts p a b) .seen x y ≡ joinPool (k .seen) a b x y
   join-seen =
-      let w = marks-within revisions (p seenPart) in
-      mark-pack revisions (joinPool (k .seen) a b)
+      let w = flags-within revisions (p seenPart) in
+      flag-pack revisions (joinPool (k .seen) a b)
       (within-row revisions (k .seen) a _ al w (λ y e. rw (outside-column revisions (k .seen) w a y e, outside-column revisions (k .seen) w b y e)))
 
   join-caught : (x y : ℕ) → decode (joinParts p a b) .caught x y ≡ joinCaught (k .caught) a b x y
   join-caught =
-      let w = marks-within clients (p caughtPart) in
-      mark-pack clients (joinCaught (k .caught) a b)
+      let w = flags-within clients (p caughtPart) in
+      flag-pack clients (joinCaught (k .caught) a b)
       (within-column clients (k .caught) a _ al w (λ x e. rw (outside-row clients (k .caught) w x a e, outside-row clients (k .caught) w x b e)))
 
   join-link : (x : ℕ) → decode (joinParts p a b) .link x ≡ joinCells k a b .link x

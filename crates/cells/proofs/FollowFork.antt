@@ -19,7 +19,7 @@ use Rattle.cells.specs.CellSteps.{forkCaught, forkRow, forkGiven, forkQu
 use Rattle.cells.specs.Steps.{putRowOf, forkParts}
 use Rattle.cells.proofs.Tables.{getD-changed}
 use Rattle.cells.proofs.Words.{word-put, word-set-other}
-use Rattle.cells.proofs.Marks.{mark-row, Within, marks-within, mark-pack}
+use Rattle.cells.proofs.Flags.{flag-row, Within, flags-within, flag-pack}
 use Rattle.cells.proofs.Follow.{within-column, outside-row, outside-column}
 
 same-suc : (x r : ℕ) → eqb (suc x) (suc r) ≡ eqb x r
@@ -33,7 +33,7 @@ pub row-put : (t : List ℕ) (r : ℕ) (f : ℕ → Bool) → length t ≡ 32256
 row-put t zero f l h n x u = absurd (n refl)
 row-put t (suc r) f l h n zero u = rw (ne-eqb 0 (suc r) (omega arith))
 row-put t (suc r) f l h n (suc x) u =
-    mark-row 512 63 t r f (omega arith) (omega arith) x u
+    flag-row 512 63 t r f (omega arith) (omega arith) x u
     ∙ rw (same-suc x r) (cases (eqb x r) (λ e. rw e) (λ e. rw e))
 
 module _ (p : Parts) (h : Sized p) (q c : ℕ) (ql : q < revisions) (cl : c < revisions) (pos : c ≡ 0 → ⊥) where
@@ -57,7 +57,7 @@ module _ (p : Parts) (h : Sized p) (q c : ℕ) (ql : q < revisions) (cl : c < re
   -- c's row and column changed
   seen-within : Within revisions (forkPool (k .seen) q c)
   seen-within =
-      let w = marks-within revisions (p seenPart) in
+      let w = flags-within revisions (p seenPart) in
       within-column revisions (changed (k .seen) c (k .seen q)) c (λ x. eqb x q) cl
       (λ x y e. cases (eqb x c) (λ i. rw i (outside-column revisions (k .seen) w q y (column x y e (eqb-true x c i)))) (λ i. rw i (w x y e)))
       (λ x e. let l = ltb-false x revisions e in ne-eqb x q (omega arith))
@@ -67,7 +67,7 @@ module _ (p : Parts) (h : Sized p) (q c : ℕ) (ql : q < revisions) (cl : c < re
 
   caught-within : Within clients (forkCaught (k .caught) q c)
   caught-within =
-      let w = marks-within clients (p caughtPart) in
+      let w = flags-within clients (p caughtPart) in
       within-column clients (k .caught) c (λ x. k .caught x q) cl w (λ x e. outside-row clients (k .caught) w x q e)
 
   pub fork-follows : decode (forkParts p q c) ≡ forkCells k q c
@@ -87,8 +87,8 @@ module _ (p : Parts) (h : Sized p) (q c : ℕ) (ql : q < revisions) (cl : c < re
         base = fun-ext (λ x. word-put (p basePart) c (cond (eqb q main) (k .count main) (k .base q)) x (omega arith)) i;
         row = fun-ext (λ x. fun-ext (fork-row x)) i;
         link = k .link;
-        seen = fun-ext (λ x. fun-ext (mark-pack revisions (forkPool (k .seen) q c) seen-within x)) i;
-        caught = fun-ext (λ x. fun-ext (mark-pack clients (forkCaught (k .caught) q c) caught-within x)) i;
+        seen = fun-ext (λ x. fun-ext (flag-pack revisions (forkPool (k .seen) q c) seen-within x)) i;
+        caught = fun-ext (λ x. fun-ext (flag-pack clients (forkCaught (k .caught) q c) caught-within x)) i;
         layout = forkCells k q c .layout;
         out = (getD-set-other two 3 2 (forkGiven k) 0 (omega arith) ∙ getD-set-same (p countersPart) 2 (suc (k .out)) 0 (omega arith)) i;
         queue = forkQueue k;

@@ -12,12 +12,12 @@ use Rattle.lists.proofs.Cases.{cases}
 use Rattle.cells.specs.Sizes.{revisions, clients, main, closed, stateOut}
 use Rattle.cells.specs.Parts.{size, rowsPart, lowPart, highPart, seenPart, usedPart, lastPart, firstPart, countPart, basePart}
 use Rattle.cells.specs.Words.{byte, word, half, linkIn}
-use Rattle.cells.specs.Marks.{markIn}
+use Rattle.cells.specs.Flags.{flagIn}
 use Rattle.cells.specs.Decode.{decode, rowOf}
 use Rattle.cells.specs.CellSteps.{freshCells}
 use Rattle.cells.specs.Steps.{freshParts}
 use Rattle.cells.proofs.Tables.{getD-changed}
-use Rattle.cells.proofs.Marks.{packed}
+use Rattle.cells.proofs.Flags.{packed}
 
 abbrev zeros : ℕ → List ℕ
 zeros n = replicate n 0
@@ -31,12 +31,12 @@ zero-word : (n i : ℕ) → word (zeros n) i ≡ 0
 unfolding word
 zero-word n i = rw (zero-byte n (2 * i), zero-byte n (2 * i + 1))
 
-zero-mark : (w m n x y : ℕ) → markIn w m (zeros n) x y ≡ false
-zero-mark w m n x y = rw (zero-byte n (w * x + y / 8), zero-div) (cases (ltb x m && ltb y (8 * w)) (λ e. rw e) (λ e. rw e))
+zero-flag : (w m n x y : ℕ) → flagIn w m (zeros n) x y ≡ false
+zero-flag w m n x y = rw (zero-byte n (w * x + y / 8), zero-div) (cases (ltb x m && ltb y (8 * w)) (λ e. rw e) (λ e. rw e))
 
 zero-row : (n r u : ℕ) → rowOf (zeros n) r u ≡ false
 zero-row n zero u = refl
-zero-row n (suc r) u = zero-mark 512 63 n r u
+zero-row n (suc r) u = zero-flag 512 63 n r u
 
 zero-link : (n m u : ℕ) → linkIn (zeros n) (zeros m) u ≡ 0
 unfolding half
@@ -65,7 +65,7 @@ fresh-follows = λ i. record {
   base = fun-ext (zero-word (size basePart)) i;
   row = fun-ext (λ x. fun-ext (zero-row (size rowsPart) x)) i;
   link = fun-ext (zero-link (size lowPart) (size highPart)) i;
-  seen = fun-ext (λ x. fun-ext (zero-mark 8 revisions (size seenPart) x)) i;
+  seen = fun-ext (λ x. fun-ext (zero-flag 8 revisions (size seenPart) x)) i;
   caught = fun-ext (λ x. fun-ext (fresh-caught x)) i;
   layout = freshCells .layout;
   out = 1;

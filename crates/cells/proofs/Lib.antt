@@ -2,7 +2,7 @@
 pub mod Tables
 pub mod Parts
 pub mod Words
-pub mod Marks
+pub mod Flags
 pub mod Chain
 pub mod Places
 pub mod Sized

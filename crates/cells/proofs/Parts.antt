@@ -11,7 +11,7 @@ use lib.Seq.{take-at, drop-at, take-add, take-all, getD-take, getD-drop, length-
 use borrow.Author.Tests.{eqb-true, eq-eqb, ne-eqb, ltb-true, ltb-false}
 use borrow.Rule.Slice.PartMut.{midOf, putMid}
 use Rattle.lists.proofs.Cases.{cases}
-use Rattle.cells.specs.Sizes.{bytes}
+use Rattle.cells.specs.Sizes.{lowerBytes}
 use Rattle.cells.specs.Parts.{Parts, Sized, parts, sizes, size, offset, inRow, glue, split, wrote, _⟨_≔_⟩}
 
 pub row-length : (p : Parts) → Sized p → (n : ℕ) → length (inRow p n) ≡ offset n
@@ -83,11 +83,11 @@ unfolding inRow split offset
 split-row d zero = refl
 split-row d (suc n) = rw (split-row d n) (sym (take-add (offset n) (size n) d))
 
-pub all-bytes : offset parts ≡ bytes
+pub all-bytes : offset parts ≡ lowerBytes
 unfolding offset size
 all-bytes = refl
 
-pub glue-split : (d : List ℕ) → length d ≡ bytes → glue (split d) ≡ d
+pub glue-split : (d : List ℕ) → length d ≡ lowerBytes → glue (split d) ≡ d
 unfolding glue
 glue-split d h = let o = all-bytes in split-row d parts ∙ take-all (offset parts) d (omega arith)
 
@@ -96,21 +96,21 @@ unfolding offset
 offset-grows i zero = rw add-zero (omega arith)
 offset-grows i (suc m) = let h = offset-grows i m in rw add-suc (omega arith)
 
-within : (i : ℕ) → i < parts → offset i + size i ≤ bytes
+within : (i : ℕ) → i < parts → offset i + size i ≤ lowerBytes
 unfolding offset
 within i h =
     let g = offset-grows (suc i) (parts - suc i) in
     let whole : suc i + (parts - suc i) ≡ parts = omega arith in
-    let e : offset (suc i + (parts - suc i)) ≡ bytes = ap offset whole ∙ all-bytes in
+    let e : offset (suc i + (parts - suc i)) ≡ lowerBytes = ap offset whole ∙ all-bytes in
     omega arith
 
-pub split-sized : (d : List ℕ) → length d ≡ bytes → Sized (split d)
+pub split-sized : (d : List ℕ) → length d ≡ lowerBytes → Sized (split d)
 unfolding split
 split-sized d e = record {
   of = λ i. cases (ltb i parts) (λ q. let w = within i (ltb-true i parts q) in length-take-le (size i) (drop (offset i) d) (rw length-drop (omega arith))) (λ q. let z = no-bytes i (ltb-false i parts q) in rw z);
 }
 
-pub glue-length : (p : Parts) → Sized p → length (glue p) ≡ bytes
+pub glue-length : (p : Parts) → Sized p → length (glue p) ≡ lowerBytes
 unfolding glue
 glue-length p h = row-length p h parts ∙ all-bytes
 
@@ -121,10 +121,10 @@ pub with-same : (p : Parts) (i : ℕ) → p ⟨ i ≔ p i ⟩ ≡ p
 with-same p i = fun-ext (λ j. cases (eqb j i) (λ e. rw (e, eqb-true j i e)) (λ e. rw e))
 
 -- for code: part i, lent as `&mut d[a..e]`, comes back as q, or as f of what it was. Lent to be read it is `split d i`, by definition.
-pub part-wrote : (d : List ℕ) (i : ℕ) (q : List ℕ) → length d ≡ bytes → i < parts → putMid (offset i) (size i) d q ≡ wrote d i q
+pub part-wrote : (d : List ℕ) (i : ℕ) (q : List ℕ) → length d ≡ lowerBytes → i < parts → putMid (offset i) (size i) d q ≡ wrote d i q
 part-wrote d i q h l = ap (λ z. putMid (offset i) (size i) z q) (sym (glue-split d h)) ∙ glue-write (split d) (split-sized d h) i q l
 
-pub part-lent : (d : List ℕ) (i : ℕ) (f : List ℕ → List ℕ) {q : List ℕ} → length d ≡ bytes → i < parts → q ≡ f (midOf (offset i) (size i) d) → putMid (offset i) (size i) d q ≡ wrote d i (f (split d i))
+pub part-lent : (d : List ℕ) (i : ℕ) (f : List ℕ → List ℕ) {q : List ℕ} → length d ≡ lowerBytes → i < parts → q ≡ f (midOf (offset i) (size i) d) → putMid (offset i) (size i) d q ≡ wrote d i (f (split d i))
 unfolding split
 part-lent d i f {q} h l e = part-wrote d i q h l ∙ ap (wrote d i) e
 
@@ -141,7 +141,7 @@ pub record Holds (d : List ℕ) (p : Parts) : Type 0 where
   pub eq : d ≡ glue p
   pub sized : Sized p
 
-pub holds-split : (d : List ℕ) → length d ≡ bytes → Holds d (split d)
+pub holds-split : (d : List ℕ) → length d ≡ lowerBytes → Holds d (split d)
 holds-split d h = record { eq = sym (glue-split d h); sized = split-sized d h }
 
 pub split-is : {d : List ℕ} {p : Parts} → Holds d p → split d ≡ p

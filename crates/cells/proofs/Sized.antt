@@ -13,7 +13,7 @@ use Rattle.cells.specs.Sizes.{revisions, clients, main, closed, stateOut
 use Rattle.cells.specs.Parts.{Parts, Sized, size, _⟨_≔_⟩, rowsPart, lowPart, highPart, seenPart, caughtPart, statePart, usedPart, lastPart, firstPart}
 use Rattle.cells.specs.Parts.{countPart, basePart, layoutPart, queuePart, openedPart, countersPart, signaturePart}
 use Rattle.cells.specs.Words.{putWord, putHalf}
-use Rattle.cells.specs.Marks.{pack, putRow}
+use Rattle.cells.specs.Flags.{pack, putRow}
 use Rattle.cells.specs.Decode.{decode}
 use Rattle.cells.specs.Range.{signature}
 use Rattle.lists.specs.Pool.{forkPool, joinPool}
@@ -21,7 +21,7 @@ use Rattle.cells.specs.CellSteps.{forkRow, forkCaught, forkGiven, forkQu
 use Rattle.cells.specs.Steps.{freshParts, queryParts, linkParts, appendParts, updateParts, closeParts, putRowOf, inheritParts, forkParts, spliceParts, joinParts}
 use Rattle.cells.proofs.Parts.{sized-with}
 use Rattle.cells.proofs.Words.{putWord-length, putHalf-length}
-use Rattle.cells.proofs.Marks.{putRow-length, pack-length}
+use Rattle.cells.proofs.Flags.{putRow-length, pack-length}
 use Rattle.cells.proofs.Places.{insert-length, remove-length, shift-length}
 
 pub putRowOf-length : (t : List ℕ) (r : ℕ) (f : ℕ → Bool) → length t ≡ 32256 → r < revisions → length (putRowOf t r f) ≡ length t

@@ -9,7 +9,7 @@ use Rattle.lists.specs.Lists.{changed, restOf}
 use Rattle.lists.specs.Arranged.{member, insertBefore, remove}
 use Rattle.lists.specs.Pool.{forkPool, joinPool}
 use Rattle.cells.specs.Sizes.{revisions, clients, updates, main, closed, stateOut, stateJoined}
-use Rattle.cells.specs.Cells.{Cells, own, marked}
+use Rattle.cells.specs.Cells.{Cells, own, flagged}
 
 -- a fresh day: the main revision is out; a client without events may start anywhere
 abbrev pub freshCells : Cells
@@ -105,7 +105,7 @@ forkCaught caught p c x = changed (caught x) c (caught x p)
 
 -- what a revision forked from p inherits otherwise than by its base count
 abbrev pub forkRow : Cells → ℕ → ℕ → Bool
-forkRow k p u = ltb u updates && (marked k p u || member u (own k p))
+forkRow k p u = ltb u updates && (flagged k p u || member u (own k p))
 
 -- a never-used number is one more used; else the number handed in longest ago leaves the queue
 abbrev pub forkGiven : Cells → ℕ

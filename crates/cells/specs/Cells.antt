@@ -59,5 +59,5 @@ freed k = take (k .given - k .out) (k .queue)
 abbrev pub nextNumber : Cells → ℕ
 nextNumber k = cond (ltb (k .given) revisions) (k .given) (firstOf (k .queue))
 
-abbrev pub marked : Cells → ℕ → ℕ → Bool
-marked k r u = k .used r && k .row r u
+abbrev pub flagged : Cells → ℕ → ℕ → Bool
+flagged k r u = k .used r && k .row r u

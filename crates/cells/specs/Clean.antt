@@ -3,10 +3,10 @@
 use Prim.Native.Nat.{ℕ}
 use mathlib.Core.Path.{_≡_}
 use Rattle.cells.specs.Sizes.{main}
-use Rattle.cells.specs.Cells.{Cells, own, marked}
+use Rattle.cells.specs.Cells.{Cells, own, flagged}
 use Rattle.cells.specs.CellSteps.{forkCells}
 
--- the same cells, but for those of number c: its record, its row, and its row and column of marks
+-- the same cells, but for those of number c: its record, its row, and its row and column of flags
 pub record SameBut (c : ℕ) (k k′ : Cells) : Type 0 where
   pub state : (r : ℕ) → (r ≡ c → ⊥) → k .state r ≡ k′ .state r
   pub used : (r : ℕ) → (r ≡ c → ⊥) → k .used r ≡ k′ .used r
@@ -30,7 +30,7 @@ pub record ShowsSame (k k′ : Cells) : Type 0 where
   pub count : (r : ℕ) → k .count r ≡ k′ .count r
   pub base : (r : ℕ) → k .base r ≡ k′ .base r
   pub own : (r : ℕ) → own k r ≡ own k′ r
-  pub inherited : (r u : ℕ) → marked k r u ≡ marked k′ r u
+  pub inherited : (r u : ℕ) → flagged k r u ≡ flagged k′ r u
   pub seen : (x y : ℕ) → k .seen x y ≡ k′ .seen x y
   pub caught : (x r : ℕ) → k .caught x r ≡ k′ .caught x r
   pub layout : k .layout ≡ k′ .layout

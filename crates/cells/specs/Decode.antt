@@ -8,13 +8,13 @@ use Rattle.cells.specs.Sizes.{revisions, clients}
 use Rattle.cells.specs.Parts.{Parts, split, rowsPart, lowPart, highPart, seenPart, caughtPart, statePart, usedPart, lastPart, firstPart}
 use Rattle.cells.specs.Parts.{countPart, basePart, layoutPart, queuePart, openedPart, countersPart}
 use Rattle.cells.specs.Words.{byte, word, linkIn}
-use Rattle.cells.specs.Marks.{markIn}
+use Rattle.cells.specs.Flags.{flagIn}
 use Rattle.cells.specs.Cells.{Cells}
 
 -- 63 rows of 512 bytes, for revisions 1 to 63
 abbrev pub rowOf : List ℕ → ℕ → ℕ → Bool
 rowOf t zero u = false
-rowOf t (suc r) u = markIn 512 63 t r u
+rowOf t (suc r) u = flagIn 512 63 t r u
 
 abbrev pub decode : Parts → Cells
 decode p = record {
@@ -26,8 +26,8 @@ decode p = record {
   base = word (p basePart);
   row = rowOf (p rowsPart);
   link = linkIn (p lowPart) (p highPart);
-  seen = markIn 8 revisions (p seenPart);
-  caught = markIn 8 clients (p caughtPart);
+  seen = flagIn 8 revisions (p seenPart);
+  caught = flagIn 8 clients (p caughtPart);
   layout = p layoutPart;
   out = byte (p countersPart) 2;
   queue = p queuePart;

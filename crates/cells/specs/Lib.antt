@@ -4,7 +4,7 @@ pub mod Sizes
 pub mod Tables
 pub mod Parts
 pub mod Words
-pub mod Marks
+pub mod Flags
 pub mod Cells
 pub mod Order
 pub mod Decode

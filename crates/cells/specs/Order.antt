@@ -9,7 +9,7 @@ use lib.ListN.{take, drop}
 use Rattle.lists.specs.Lists.{keep}
 use Rattle.lists.specs.Arranged.{behind, flatBack}
 use Rattle.cells.specs.Sizes.{updates, main}
-use Rattle.cells.specs.Cells.{Cells, own, outs, marked}
+use Rattle.cells.specs.Cells.{Cells, own, outs, flagged}
 
 -- of a list its first b entries, and of the others those that pass
 abbrev pub picks : ℕ → (ℕ → Bool) → List ℕ → List ℕ
@@ -21,7 +21,7 @@ baseIn k r d = cond (eqb d main) (k .base r) 0
 
 -- of the own list of d what r inherited, in order
 abbrev pub inherited : Cells → ℕ → ℕ → List ℕ
-inherited k r d = picks (baseIn k r d) (marked k r) (own k d)
+inherited k r d = picks (baseIn k r d) (flagged k r) (own k d)
 
 -- what r inherited from each revision left of it, from the left; then its own list
 unfoldable pub order : Cells → ℕ → List ℕ

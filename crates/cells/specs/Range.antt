@@ -1,5 +1,5 @@
 -- No claim rests on this file: it serves the code.
--- Code 1, "a cell is out of its range": docs/CELLS.md, "Ranges". Fixed numbers; rows, links and marks have every byte in range.
+-- Code 1, "a cell is out of its range": docs/CELLS.md, "Ranges". Fixed numbers; rows, links and flags have every byte in range.
 use Prim.Native.Nat.{ℕ}
 use mathlib.Core.Bool.{Bool, _&&_}
 use mathlib.Core.List.{List, [], _∷_}

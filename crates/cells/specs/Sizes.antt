@@ -14,8 +14,8 @@ abbrev pub updates : ℕ
 updates = 4096
 
 -- the bytes of the table that keep the revisions
-abbrev pub bytes : ℕ
-bytes = 40960
+abbrev pub lowerBytes : ℕ
+lowerBytes = 40960
 
 -- the main revision ("Box 0, the main box")
 abbrev pub main : ℕ

@@ -10,7 +10,7 @@ use Rattle.cells.specs.Sizes.{revisions, clients, main, closed, stateOut
 use Rattle.cells.specs.Parts.{Parts, split, glue, size, _⟨_≔_⟩, rowsPart, lowPart, highPart, seenPart, caughtPart, statePart, usedPart, lastPart, firstPart}
 use Rattle.cells.specs.Parts.{countPart, basePart, layoutPart, queuePart, openedPart, countersPart, signaturePart}
 use Rattle.cells.specs.Words.{putWord, putHalf}
-use Rattle.cells.specs.Marks.{pack, putRow}
+use Rattle.cells.specs.Flags.{pack, putRow}
 use Rattle.cells.specs.Decode.{decode}
 use Rattle.cells.specs.Range.{signature}
 use Rattle.lists.specs.Pool.{forkPool, joinPool}
@@ -27,7 +27,7 @@ freshParts =
     ⟨ countersPart ≔ 0 ∷ 0 ∷ 1 ∷ 1 ∷ [] ⟩
     ⟨ signaturePart ≔ signature ⟩
 
--- client c's row of caught-up marks has r alone; its open transaction is on r
+-- client c's row of caught-up flags has r alone; its open transaction is on r
 abbrev pub queryParts : Parts → ℕ → ℕ → Parts
 queryParts p c r =
     p

@@ -4,7 +4,7 @@ ghost use mathlib.Core.Bool.{not, _&&_};
 ghost use Prim.Native.Nat.{_<_};
 ghost use lib.Dec.{eqb};
 ghost use lib.ListN.{length};
-ghost use Rattle.cells.specs.Sizes.{bytes, clients};
+ghost use Rattle.cells.specs.Sizes.{lowerBytes, clients};
 ghost use Rattle.cells.specs.Decode.{cells};
 ghost use Rattle.cells.specs.Checks.{busy, busyByOther};
 ghost use Rattle.checks.specs.Answers.{otherUseCheck, useCheck};
@@ -26,7 +26,7 @@ pub enum UseCheck {
 
 // Whether client x's transaction is on revision `at`.
 fn is_on(d: &[u8], x: u8, at: usize) -> bool
-    requires { ⌜ (length (now d) ≡ bytes) × (x < clients) ⌝ }
+    requires { ⌜ (length (now d) ≡ lowerBytes) × (x < clients) ⌝ }
     ensures { λ b. ⌜ b ≡ eqb (cells (now (d .entry)) .opened x) at ⌝ }
 {
     let ClientCheck::Known(c) = check_client(x) else {
@@ -37,7 +37,7 @@ fn is_on(d: &[u8], x: u8, at: usize) -> bool
 
 // Whether some client has an open transaction on r.
 fn is_busy(d: &[u8], r: Revision) -> bool
-    requires { ⌜ length (now d) ≡ bytes ⌝ }
+    requires { ⌜ length (now d) ≡ lowerBytes ⌝ }
     ensures { λ b. ⌜ b ≡ busy (cells (now (d .entry))) (r .0) ⌝ }
 {
     let at = wide(r.0);
@@ -53,7 +53,7 @@ fn is_busy(d: &[u8], r: Revision) -> bool
 
 // Whether client x is not c and its transaction is on revision `at`.
 fn is_other_on(d: &[u8], x: u8, c: u8, at: usize) -> bool
-    requires { ⌜ (length (now d) ≡ bytes) × (x < clients) ⌝ }
+    requires { ⌜ (length (now d) ≡ lowerBytes) × (x < clients) ⌝ }
     ensures { λ b. ⌜ b ≡ (not (eqb x c) && eqb (cells (now (d .entry)) .opened x) at) ⌝ }
 {
     if x == c {
@@ -64,7 +64,7 @@ fn is_other_on(d: &[u8], x: u8, c: u8, at: usize) -> bool
 
 // Whether a client other than c has an open transaction on r.
 fn is_busy_by_other(d: &[u8], c: Client, r: Revision) -> bool
-    requires { ⌜ length (now d) ≡ bytes ⌝ }
+    requires { ⌜ length (now d) ≡ lowerBytes ⌝ }
     ensures { λ b. ⌜ b ≡ busyByOther (cells (now (d .entry))) (c .0) (r .0) ⌝ }
 {
     let at = wide(r.0);
@@ -80,7 +80,7 @@ fn is_busy_by_other(d: &[u8], c: Client, r: Revision) -> bool
 }
 
 pub fn check_use(d: &[u8], r: Revision) -> UseCheck
-    requires { ⌜ length (now d) ≡ bytes ⌝ }
+    requires { ⌜ length (now d) ≡ lowerBytes ⌝ }
     ensures { λ a. ⌜ a ≡ useCheck (now (d .entry)) (r .0) ⌝ }
 {
     if is_busy(d, r) {
@@ -91,7 +91,7 @@ pub fn check_use(d: &[u8], r: Revision) -> UseCheck
 
 // For update and query: in use by another client.
 pub fn check_use_by_other(d: &[u8], c: Client, r: Revision) -> UseCheck
-    requires { ⌜ length (now d) ≡ bytes ⌝ }
+    requires { ⌜ length (now d) ≡ lowerBytes ⌝ }
     ensures { λ a. ⌜ a ≡ otherUseCheck (now (d .entry)) (c .0) (r .0) ⌝ }
 {
     if is_busy_by_other(d, c, r) {

@@ -1,7 +1,7 @@
 // Code 3: a revision number that was given out.
 ghost use mathlib.Core.Path.{_≡_};
 ghost use lib.ListN.{length};
-ghost use Rattle.cells.specs.Sizes.{bytes};
+ghost use Rattle.cells.specs.Sizes.{lowerBytes};
 ghost use Rattle.checks.specs.Answers.{givenCheck};
 use fields::read;
 use fields::table::Revision;
@@ -15,7 +15,7 @@ pub enum GivenCheck {
 }
 
 pub fn check_given(d: &[u8], n: u8) -> GivenCheck
-    requires { ⌜ length (now d) ≡ bytes ⌝ }
+    requires { ⌜ length (now d) ≡ lowerBytes ⌝ }
     ensures { λ r. ⌜ r ≡ givenCheck (now (d .entry)) n ⌝ }
 {
     let RevisionCheck::Known(r) = check_revision(n) else {

@@ -2,7 +2,7 @@
 ghost use mathlib.Core.Path.{_≡_};
 ghost use Prim.Native.Nat.{_<_};
 ghost use lib.ListN.{length};
-ghost use Rattle.cells.specs.Sizes.{bytes, revisions};
+ghost use Rattle.cells.specs.Sizes.{lowerBytes, revisions};
 ghost use Rattle.checks.specs.Answers.{joinableCheck};
 use fields::read;
 use fields::table::Revision;
@@ -13,7 +13,7 @@ pub enum JoinableCheck {
 }
 
 pub fn check_joinable(d: &[u8], a: Revision, b: Revision) -> JoinableCheck
-    requires { ⌜ (length (now d) ≡ bytes) × (a .0 < revisions) × (b .0 < revisions) ⌝ }
+    requires { ⌜ (length (now d) ≡ lowerBytes) × (a .0 < revisions) × (b .0 < revisions) ⌝ }
     ensures { λ r. ⌜ r ≡ joinableCheck (now (d .entry)) (a .0) (b .0) ⌝ }
 {
     if b.0 == 0 {

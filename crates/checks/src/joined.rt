@@ -2,7 +2,7 @@
 ghost use mathlib.Core.Path.{_≡_};
 ghost use Prim.Native.Nat.{_<_};
 ghost use lib.ListN.{length};
-ghost use Rattle.cells.specs.Sizes.{bytes, revisions};
+ghost use Rattle.cells.specs.Sizes.{lowerBytes, revisions};
 ghost use Rattle.checks.specs.Answers.{joinedCheck};
 use fields::read;
 use fields::table::Revision;
@@ -14,7 +14,7 @@ pub enum JoinedCheck {
 }
 
 pub fn check_joined(d: &[u8], r: Revision) -> JoinedCheck
-    requires { ⌜ (length (now d) ≡ bytes) × (r .0 < revisions) ⌝ }
+    requires { ⌜ (length (now d) ≡ lowerBytes) × (r .0 < revisions) ⌝ }
     ensures { λ a. ⌜ a ≡ joinedCheck (now (d .entry)) (r .0) ⌝ }
 {
     if read::state(d, r) == Table::STATE_JOINED {

@@ -2,7 +2,7 @@
 ghost use mathlib.Core.Path.{_≡_};
 ghost use mathlib.Core.Bool.{true};
 ghost use lib.ListN.{length};
-ghost use Rattle.cells.specs.Sizes.{bytes};
+ghost use Rattle.cells.specs.Sizes.{lowerBytes};
 ghost use Rattle.cells.specs.Cells.{nextNumber};
 ghost use Rattle.cells.specs.Decode.{cells};
 ghost use Rattle.cells.specs.Range.{inRange};
@@ -20,7 +20,7 @@ pub enum NextCheck {
 
 // A number never used while there is one, else the number joined longest ago.
 fn next_number(d: &[u8]) -> u8
-    requires { ⌜ length (now d) ≡ bytes ⌝ }
+    requires { ⌜ length (now d) ≡ lowerBytes ⌝ }
     ensures { λ n. ⌜ n ≡ nextNumber (cells (now (d .entry))) ⌝ }
 {
     let given = read::given(d);
@@ -31,7 +31,7 @@ fn next_number(d: &[u8]) -> u8
 }
 
 pub fn check_next(d: &[u8]) -> NextCheck
-    requires { ⌜ (length (now d) ≡ bytes) × (inRange (now d) ≡ true) ⌝ }
+    requires { ⌜ (length (now d) ≡ lowerBytes) × (inRange (now d) ≡ true) ⌝ }
     ensures { λ a. ⌜ a ≡ nextCheck (now (d .entry)) ⌝ }
 {
     if Table::REVISIONS <= read::out(d) {

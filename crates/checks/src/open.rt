@@ -2,7 +2,7 @@
 ghost use mathlib.Core.Path.{_≡_};
 ghost use Prim.Native.Nat.{_<_};
 ghost use lib.ListN.{length};
-ghost use Rattle.cells.specs.Sizes.{bytes, clients};
+ghost use Rattle.cells.specs.Sizes.{lowerBytes, clients};
 ghost use Rattle.checks.specs.Answers.{openCheck};
 use fields::numbers::wide;
 use fields::read;
@@ -16,7 +16,7 @@ pub enum OpenCheck {
 }
 
 pub fn check_open(d: &[u8], c: Client, r: Revision) -> OpenCheck
-    requires { ⌜ (length (now d) ≡ bytes) × (c .0 < clients) ⌝ }
+    requires { ⌜ (length (now d) ≡ lowerBytes) × (c .0 < clients) ⌝ }
     ensures { λ a. ⌜ a ≡ openCheck (now (d .entry)) (c .0) (r .0) ⌝ }
 {
     let on = read::opened(d, c);

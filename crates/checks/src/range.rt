@@ -1,10 +1,10 @@
-// Code 1: every cell in its range. Fixed numbers, and no scan of rows, links or marks.
+// Code 1: every cell in its range. Fixed numbers, and no scan of rows, links or flags.
 // No loop returns early, so that the compiler can take many cells at a time.
 ghost use mathlib.Core.Path.{_≡_};
 ghost use Prim.Native.Nat.{_+_, _*_, _≤_};
 ghost use lib.ListN.{length};
 ghost use borrow.Rule.Slice.PartMut.{midOf};
-ghost use Rattle.cells.specs.Sizes.{bytes};
+ghost use Rattle.cells.specs.Sizes.{lowerBytes};
 ghost use Rattle.cells.specs.Parts.{countersPart, queuePart, signaturePart, split};
 ghost use Rattle.cells.specs.Range.{bytesBelow, countersIn, inRange, placesIn, queueIn, recordsIn, signed, singlesIn, wordsBelow};
 ghost use Rattle.checks.specs.Answers.{rangeCheck};
@@ -65,7 +65,7 @@ fn words_below(d: &[u8], at: usize, n: usize, limit: u16) -> bool
 
 // The signature at the end of the bytes.
 fn is_signed(d: &[u8]) -> bool
-    requires { ⌜ length (now d) ≡ bytes ⌝ }
+    requires { ⌜ length (now d) ≡ lowerBytes ⌝ }
     ensures { λ r. ⌜ r ≡ signed (split (now (d .entry)) signaturePart) ⌝ }
 {
     let s = Table::signature();
@@ -80,7 +80,7 @@ fn is_signed(d: &[u8]) -> bool
 
 // Updates taken 0 to 4,096, revisions out 1 to 64, numbers given out 1 to 64.
 fn counters_in(d: &[u8]) -> bool
-    requires { ⌜ length (now d) ≡ bytes ⌝ }
+    requires { ⌜ length (now d) ≡ lowerBytes ⌝ }
     ensures { λ r. ⌜ r ≡ countersIn (split (now (d .entry)) countersPart) ⌝ }
 {
     let updates = read::updates(d);
@@ -93,7 +93,7 @@ fn counters_in(d: &[u8]) -> bool
 
 // The cells of each revision's record.
 fn records_in(d: &[u8]) -> bool
-    requires { ⌜ length (now d) ≡ bytes ⌝ }
+    requires { ⌜ length (now d) ≡ lowerBytes ⌝ }
     ensures { λ r. ⌜ r ≡ recordsIn (split (now (d .entry))) ⌝ }
 {
     let state = bytes_below(d, STATE, Table::REVISIONS, Table::STATE_LIMIT as u8);
@@ -107,7 +107,7 @@ fn records_in(d: &[u8]) -> bool
 
 // Numbers that may be joined: 1 to 63.
 fn queue_in(d: &[u8]) -> bool
-    requires { ⌜ length (now d) ≡ bytes ⌝ }
+    requires { ⌜ length (now d) ≡ lowerBytes ⌝ }
     ensures { λ r. ⌜ r ≡ queueIn (split (now (d .entry)) queuePart) ⌝ }
 {
     let mut ok = true;
@@ -122,7 +122,7 @@ fn queue_in(d: &[u8]) -> bool
 
 // The layout, the queue and open transactions.
 fn places_in(d: &[u8]) -> bool
-    requires { ⌜ length (now d) ≡ bytes ⌝ }
+    requires { ⌜ length (now d) ≡ lowerBytes ⌝ }
     ensures { λ r. ⌜ r ≡ placesIn (split (now (d .entry))) ⌝ }
 {
     let layout = bytes_below(d, LAYOUT, Table::REVISIONS, Table::REVISIONS as u8);
@@ -133,7 +133,7 @@ fn places_in(d: &[u8]) -> bool
 
 // The cells that are one for the whole table: counters, single, closed updates and signature.
 fn singles_in(d: &[u8]) -> bool
-    requires { ⌜ length (now d) ≡ bytes ⌝ }
+    requires { ⌜ length (now d) ≡ lowerBytes ⌝ }
     ensures { λ r. ⌜ r ≡ singlesIn (split (now (d .entry))) ⌝ }
 {
     let counters = counters_in(d);
@@ -143,14 +143,14 @@ fn singles_in(d: &[u8]) -> bool
 }
 
 fn in_range(d: &[u8]) -> bool
-    requires { ⌜ length (now d) ≡ bytes ⌝ }
+    requires { ⌜ length (now d) ≡ lowerBytes ⌝ }
     ensures { λ r. ⌜ r ≡ inRange (now (d .entry)) ⌝ }
 {
     records_in(d) & (places_in(d) & singles_in(d))
 }
 
 pub fn check_range(d: &[u8]) -> RangeCheck
-    requires { ⌜ length (now d) ≡ bytes ⌝ }
+    requires { ⌜ length (now d) ≡ lowerBytes ⌝ }
     ensures { λ r. ⌜ r ≡ rangeCheck (now (d .entry)) ⌝ }
 {
     if in_range(d) {

@@ -11,7 +11,7 @@ use Rattle.plain.specs.Edges.{Edge, computed}
 use Rattle.plain.proofs.Edges.{edges-hold, codes-hold, reused-hold}
 use Rattle.plain.proofs.LineUp.{lined-up}
 use Rattle.plain.proofs.Steps.{never-one}
-use Rattle.table.specs.Out.{bytes}
+use Rattle.table.specs.Out.{tableBytes}
 use Rattle.consistency.specs.Table.{calls, replies}
 use Rattle.consistency.specs.Demand.{NeverOne, DemandThree}
 use Rattle.consistency.specs.Edges.{computedOn, EdgesHold}
@@ -61,7 +61,7 @@ unfolding replies answersFrom
 said-from [] p = refl
 said-from (q ∷ qs) p = ap (λ z. answerOn (λ s. tt) (called p (callOn length q) .answer) ∷ z) (said-from qs (called p (callOn length q) .next))
 
-module _ (t : List ℕ) (h : length t ≡ bytes) where
+module _ (t : List ℕ) (h : length t ≡ tableBytes) where
   same-computed : (es : List Edge) → computedOn t es ≡ computed es
   unfolding answers
   same-computed [] = refl

@@ -13,7 +13,7 @@ use Rattle.plain.specs.Fills.{acceptedIn, codesOf}
 use Rattle.plain.proofs.Fills as Plain
 use Rattle.plain.proofs.Fills.{no-fill}
 use Rattle.plain.proofs.LineUp.{named}
-use Rattle.table.specs.Out.{bytes}
+use Rattle.table.specs.Out.{tableBytes}
 use Rattle.table.specs.Calls.{freshOut, fillOut}
 use Rattle.consistency.specs.Table.{calls, repliesOn, replies, tableAfter}
 use Rattle.consistency.specs.Fills.{acceptedUpdates, fillSum, FillsAddUpOnDays}
@@ -27,7 +27,7 @@ unfolding replies answersFrom
 same-codes [] p = refl
 same-codes (q ∷ qs) p = ap (λ codes. called p (callOn length q) .answer .code ∷ codes) (same-codes qs (called p (callOn length q) .next))
 
-module _ (t : List ℕ) (h : length t ≡ bytes) (qs : List (Call (List ℕ))) where
+module _ (t : List ℕ) (h : length t ≡ tableBytes) (qs : List (Call (List ℕ))) where
   left : List ℕ
   left = tableAfter (freshOut t .lent) qs
 

@@ -14,7 +14,7 @@ use Rattle.desk.specs.Checks.{checks, settle, codesFor}
 use Rattle.desk.proofs.Checks.{Refused, among-in, refused-only}
 use Rattle.table.specs.Halves.{isTable}
 use Rattle.table.specs.Answers.{afterTaken, refused}
-use Rattle.table.specs.Out.{Out, bytes}
+use Rattle.table.specs.Out.{Out, tableBytes}
 use Rattle.table.specs.Calls.{asked, batchOut, bundleOut, entriesOut, fillOut, forkOut, freshOut, joinEnd, joinOut, listOut, noFill, noProspect, previewOut, queryOut, readOn, sentOut, settled, updateOut, yieldOut}
 use Rattle.table.specs.declared.answer.Level.{Level}
 use Rattle.table.specs.declared.answer.Prospect.{Prospect}
@@ -80,7 +80,7 @@ refusals-change-nothing t (Query c n bib) e = let r = out-refused t t (Query c n
 refusals-change-nothing t (Yield c) e = let r = yield-refused t c e in record { number = r .number; blank = ap onTable (r .is) }
 refusals-change-nothing t (Fork n) e = let r = out-refused t t (Fork n) _ (λ h. absurd (h refl)) e in record { number = r .number; blank = ap onTable (r .is) }
 refusals-change-nothing t (Join n m) e = let r = out-refused t t (Join n m) _ (λ h. absurd (h refl)) e in record { number = r .number; blank = ap onTable (r .is) }
-refusals-change-nothing t (Bundle c n (Records bytes)) e = let r = batch-refused t c n (Records bytes) e in record { number = r .number; blank = ap onTable (r .is) }
+refusals-change-nothing t (Bundle c n (Records tableBytes)) e = let r = batch-refused t c n (Records tableBytes) e in record { number = r .number; blank = ap onTable (r .is) }
 refusals-change-nothing t (Bundle c n (Entries es)) e = let r = batch-refused t c n (Entries es) e in record { number = r .number; blank = ap onTable (r .is) }
 refusals-change-nothing t (Looks (Show n s)) e = let r = out-refused t s (Looks (Show n (length s))) _ (λ h. absurd (h refl)) e in record { number = r .number; blank = ap (λ u. record { reply = outReply u (u .lent); table = t }) (r .is) }
 refusals-change-nothing t (Looks (Fill n)) e = let r = level-refused t (Looks (Fill n)) _ (λ h. absurd (h refl)) e in record { number = r .number; blank = ap (λ f. record { reply = levelReply f; table = t }) (r .is) }
@@ -88,4 +88,4 @@ refusals-change-nothing t (Looks (Preview n m bib)) e = let r = preview-refused 
 
 pub fresh-refused : FreshRefused
 unfolding freshOut
-fresh-refused t n = cases (not (eqb (length t) bytes)) (λ e. rw e (refl, refl, refl)) (λ e. absurd (n (rw e)))
+fresh-refused t n = cases (not (eqb (length t) tableBytes)) (λ e. rw e (refl, refl, refl)) (λ e. absurd (n (rw e)))

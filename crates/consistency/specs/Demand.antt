@@ -7,7 +7,7 @@ use lib.ListN.{length}
 use Rattle.desk.specs.Calls.{Call, Answer}
 use Rattle.plain.specs.Answers.{answers}
 use Rattle.plain.specs.LineUp.{LineUp}
-use Rattle.table.specs.Out.{bytes}
+use Rattle.table.specs.Out.{tableBytes}
 use Rattle.table.specs.Calls.{freshOut}
 use Rattle.consistency.specs.Table.{calls, repliesOn, replies}
 
@@ -28,4 +28,4 @@ pub record Explained (t : List ℕ) (qs : List (Call (List ℕ))) : Type 0 where
   pub line-up : LineUp (calls qs)
 
 abbrev pub DemandThree : Type 0
-DemandThree = (t : List ℕ) → length t ≡ bytes → (qs : List (Call (List ℕ))) → Explained t qs
+DemandThree = (t : List ℕ) → length t ≡ tableBytes → (qs : List (Call (List ℕ))) → Explained t qs

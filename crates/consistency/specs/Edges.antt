@@ -5,7 +5,7 @@ use mathlib.Core.List.{List, [], _∷_}
 use lib.ListN.{length, replicate}
 use Rattle.desk.specs.Calls.{callsOn}
 use Rattle.plain.specs.Edges.{Edge, Said, edges, codes, reused, expected, said}
-use Rattle.table.specs.Out.{bytes}
+use Rattle.table.specs.Out.{tableBytes}
 use Rattle.table.specs.Calls.{freshOut}
 use Rattle.consistency.specs.Table.{repliesOn}
 
@@ -15,4 +15,4 @@ computedOn t [] = []
 computedOn t (e ∷ es) = said (repliesOn (freshOut t .lent) (callsOn (λ room. replicate room 0) (e .calls))) ∷ computedOn t es
 
 abbrev pub EdgesHold : Type 0
-EdgesHold = (t : List ℕ) → length t ≡ bytes → (computedOn t edges ≡ expected edges) × (computedOn t codes ≡ expected codes) × (computedOn t reused ≡ expected reused)
+EdgesHold = (t : List ℕ) → length t ≡ tableBytes → (computedOn t edges ≡ expected edges) × (computedOn t codes ≡ expected codes) × (computedOn t reused ≡ expected reused)

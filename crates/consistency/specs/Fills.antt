@@ -8,7 +8,7 @@ use Rattle.lists.specs.Sums.{sumBelow}
 use Rattle.cells.specs.Sizes.{revisions}
 use Rattle.desk.specs.Calls.{Call, Answer}
 use Rattle.plain.specs.Fills.{acceptedIn, codesOf}
-use Rattle.table.specs.Out.{bytes}
+use Rattle.table.specs.Out.{tableBytes}
 use Rattle.table.specs.Calls.{freshOut, fillOut}
 use Rattle.consistency.specs.Table.{calls, repliesOn, tableAfter}
 
@@ -27,4 +27,4 @@ pub record FillsAddUp (t : List ℕ) (qs : List (Call (List ℕ))) : Type 0 wher
       → fillOut (tableAfter (freshOut t .lent) qs) n .total ≡ acceptedUpdates qs (repliesOn (freshOut t .lent) qs)
 
 abbrev pub FillsAddUpOnDays : Type 0
-FillsAddUpOnDays = (t : List ℕ) → length t ≡ bytes → (qs : List (Call (List ℕ))) → FillsAddUp t qs
+FillsAddUpOnDays = (t : List ℕ) → length t ≡ tableBytes → (qs : List (Call (List ℕ))) → FillsAddUp t qs

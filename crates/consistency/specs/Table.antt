@@ -4,7 +4,7 @@ use mathlib.Core.List.{List, [], _∷_, _++_}
 use lib.ListN.{length, drop}
 use Rattle.updates.specs.declared.standing.State.the-variants.{Neither}
 use Rattle.desk.specs.Calls.{Call, Update, Query, Yield, Fork, Join, Bundle, Looks, Look, Show, Fill, Preview, Records, Entries, Answer, answerOn, callsOn}
-use Rattle.listing.specs.Lines.{line}
+use Rattle.sheets.specs.Lines.{line}
 use Rattle.plain.specs.Record.{Line}
 use Rattle.table.specs.Out.{Out}
 use Rattle.table.specs.Calls.{updateOut, queryOut, yieldOut, forkOut, joinOut, listOut, fillOut, bundleOut, entriesOut, previewOut}

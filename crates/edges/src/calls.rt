@@ -2,35 +2,35 @@
 use crate::say;
 
 pub fn fresh(t: &mut [u8]) {
-    say::answer(b"fresh", branching::fresh::fresh(t));
+    say::answer(b"fresh", forking::fresh::fresh(t));
 }
 
 pub fn update(t: &mut [u8], client: u8, revision: u8, kind: u8, bib: u16, v: u32) {
     say::answer(
         b"update",
-        entering::update::update(t, client, revision, kind, bib, v),
+        updating::update::update(t, client, revision, kind, bib, v),
     );
 }
 
 pub fn query(t: &mut [u8], client: u8, revision: u8, bib: u16) {
-    say::reading(b"query", reading::query::query(t, client, revision, bib));
+    say::reading(b"query", querying::query::query(t, client, revision, bib));
 }
 
 pub fn yields(t: &mut [u8], client: u8) {
-    say::answer(b"yield", entering::yields::yields(t, client));
+    say::answer(b"yield", updating::yields::yields(t, client));
 }
 
 pub fn fork(t: &mut [u8], revision: u8) {
-    say::answer(b"fork", branching::fork::fork(t, revision));
+    say::answer(b"fork", forking::fork::fork(t, revision));
 }
 
 pub fn join(t: &mut [u8], joiner: u8, joinee: u8) {
-    say::answer(b"join", branching::join::join(t, joiner, joinee));
+    say::answer(b"join", forking::join::join(t, joiner, joinee));
 }
 
 // With the sheet's bytes, if there are few.
 pub fn list(t: &[u8], revision: u8, sheet: &mut [u8]) {
-    say::answer(b"list", showing::list::list(t, revision, sheet));
+    say::answer(b"list", listing::list::list(t, revision, sheet));
     if sheet.len() < 100 {
         say::bytes(sheet);
     }

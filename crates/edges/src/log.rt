@@ -20,7 +20,7 @@ fn fill(t: &mut [u8], r: u8, many: u32) -> u32 {
     let mut taken: u32 = 0;
     let mut i: u32 = 0;
     while i < many {
-        let a = entering::update::update(t, r, r, 1, (i % 1000) as u16, i);
+        let a = updating::update::update(t, r, r, 1, (i % 1000) as u16, i);
         taken += one_if_taken(a.code);
         i += 1;
     }

@@ -7,8 +7,8 @@ abbrev pub updates : ℕ
 updates = 4096
 
 -- the bytes of the table that keep the entries, six each
-abbrev pub bytes : ℕ
-bytes = 24576
+abbrev pub entryBytes : ℕ
+entryBytes = 24576
 
 -- client numbers are 0 to 15 ("tablets 0 to 15")
 abbrev pub clients : ℕ

@@ -2,7 +2,7 @@
 ghost use mathlib.Core.Path.{_≡_};
 ghost use Prim.Native.Nat.{_<_};
 ghost use lib.ListN.{length};
-ghost use Rattle.entries.specs.Sizes.{bytes, updates, clients, bibRange};
+ghost use Rattle.entries.specs.Sizes.{entryBytes, updates, clients, bibRange};
 ghost use Rattle.entries.specs.Stored.{entry};
 ghost use Rattle.entries.specs.Entries.{wrote};
 use crate::entry::Entry;
@@ -10,7 +10,7 @@ use crate::store::store;
 use updates::kind::Kind;
 
 pub fn write(t: &mut [u8], n: u16, kind: Kind, client: u8, bib: u16, v: u32)
-    requires { ⌜ (length (now t) ≡ bytes) × (n < updates) × (client < clients) × (bib < bibRange) ⌝ }
+    requires { ⌜ (length (now t) ≡ entryBytes) × (n < updates) × (client < clients) × (bib < bibRange) ⌝ }
     ensures { λ _. ⌜ now (t .exit) ≡ wrote (now (t .entry)) n (entry kind client bib v) ⌝ }
 {
     let at = Entry::BYTES * (n as usize);

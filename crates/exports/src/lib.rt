@@ -42,7 +42,7 @@ fn pack_gain(code: u8, state: State, value: u32, gain: u16) -> u64
 pub extern "C" fn silttongs_fresh(t: &mut [u8]) -> u64
     ensures { λ r. ⌜ returned r (now (t .exit)) ≡ exported (freshOut (now (t .entry))) ⌝ }
 {
-    let a = branching::fresh::fresh(t);
+    let a = forking::fresh::fresh(t);
     pack(a.code, a.value)
 }
 
@@ -57,7 +57,7 @@ pub extern "C" fn silttongs_update(
 ) -> u64
     ensures { λ r. ⌜ returned r (now (t .exit)) ≡ exported (updateOut (now (t .entry)) client revision kind bib v) ⌝ }
 {
-    let a = entering::update::update(t, client, revision, kind, bib, v);
+    let a = updating::update::update(t, client, revision, kind, bib, v);
     pack(a.code, a.value)
 }
 
@@ -65,7 +65,7 @@ pub extern "C" fn silttongs_update(
 pub extern "C" fn silttongs_bundle(t: &mut [u8], client: u8, revision: u8, records: &[u8]) -> u64
     ensures { λ r. ⌜ returned r (now (t .exit)) ≡ exported (bundleOut (now (t .entry)) client revision (now (records .entry))) ⌝ }
 {
-    let a = sending::bundle::bundle(t, client, revision, records);
+    let a = bundling::bundle::bundle(t, client, revision, records);
     pack(a.code, a.value)
 }
 
@@ -73,7 +73,7 @@ pub extern "C" fn silttongs_bundle(t: &mut [u8], client: u8, revision: u8, recor
 pub extern "C" fn silttongs_query(t: &mut [u8], client: u8, revision: u8, bib: u16) -> u64
     ensures { λ r. ⌜ returned r (now (t .exit)) ≡ exported (queryOut (now (t .entry)) client revision bib) ⌝ }
 {
-    let a = reading::query::query(t, client, revision, bib);
+    let a = querying::query::query(t, client, revision, bib);
     let state = a.state;
     pack_state(a.code, state, a.value)
 }
@@ -82,7 +82,7 @@ pub extern "C" fn silttongs_query(t: &mut [u8], client: u8, revision: u8, bib: u
 pub extern "C" fn silttongs_yield(t: &mut [u8], client: u8) -> u64
     ensures { λ r. ⌜ returned r (now (t .exit)) ≡ exported (yieldOut (now (t .entry)) client) ⌝ }
 {
-    let a = entering::yields::yields(t, client);
+    let a = updating::yields::yields(t, client);
     pack(a.code, a.value)
 }
 
@@ -90,7 +90,7 @@ pub extern "C" fn silttongs_yield(t: &mut [u8], client: u8) -> u64
 pub extern "C" fn silttongs_fork(t: &mut [u8], revision: u8) -> u64
     ensures { λ r. ⌜ returned r (now (t .exit)) ≡ exported (forkOut (now (t .entry)) revision) ⌝ }
 {
-    let a = branching::fork::fork(t, revision);
+    let a = forking::fork::fork(t, revision);
     pack(a.code, a.value)
 }
 
@@ -98,7 +98,7 @@ pub extern "C" fn silttongs_fork(t: &mut [u8], revision: u8) -> u64
 pub extern "C" fn silttongs_join(t: &mut [u8], joiner: u8, joinee: u8) -> u64
     ensures { λ r. ⌜ returned r (now (t .exit)) ≡ exported (joinOut (now (t .entry)) joiner joinee) ⌝ }
 {
-    let a = branching::join::join(t, joiner, joinee);
+    let a = forking::join::join(t, joiner, joinee);
     pack(a.code, a.value)
 }
 
@@ -106,7 +106,7 @@ pub extern "C" fn silttongs_join(t: &mut [u8], joiner: u8, joinee: u8) -> u64
 pub extern "C" fn silttongs_list(t: &[u8], revision: u8, sheet: &mut [u8]) -> u64
     ensures { λ r. ⌜ returned r (now (sheet .exit)) ≡ exported (listOut (now (t .entry)) revision (now (sheet .entry))) ⌝ }
 {
-    let a = showing::list::list(t, revision, sheet);
+    let a = listing::list::list(t, revision, sheet);
     pack(a.code, a.value)
 }
 
@@ -114,7 +114,7 @@ pub extern "C" fn silttongs_list(t: &[u8], revision: u8, sheet: &mut [u8]) -> u6
 pub extern "C" fn silttongs_fill(t: &[u8], revision: u8) -> u64
     ensures { λ r. ⌜ r ≡ exportedLevel (fillOut (now (t .entry)) revision) ⌝ }
 {
-    let f = showing::fill::fill(t, revision);
+    let f = listing::fill::fill(t, revision);
     pack(f.code, (f.total as u32) * 65536 + (f.own as u32))
 }
 

@@ -2,9 +2,9 @@
 ghost use mathlib.Core.Path.{_≡_};
 ghost use mathlib.Core.Bool.{true};
 ghost use lib.ListN.{length, replicate};
-ghost use Rattle.cells.specs.Sizes.{bytes, clients, closed, revisions};
+ghost use Rattle.cells.specs.Sizes.{lowerBytes, clients, closed, revisions};
 ghost use Rattle.cells.specs.Parts.{wrote, caughtPart, queuePart, openedPart, signaturePart};
-ghost use Rattle.cells.specs.Marks.{pack};
+ghost use Rattle.cells.specs.Flags.{pack};
 ghost use Rattle.cells.specs.Range.{signature};
 use crate::table::CAUGHT;
 use crate::table::COUNTERS;
@@ -24,12 +24,12 @@ pub fn clear(t: &mut [u8])
     }
 }
 
-// Every caught-up mark.
+// Every caught-up flag.
 pub fn caught(d: &mut [u8])
-    requires { ⌜ length (now d) ≡ bytes ⌝ }
+    requires { ⌜ length (now d) ≡ lowerBytes ⌝ }
     ensures { λ _. ⌜ now (d .exit) ≡ wrote (now (d .entry)) caughtPart (pack clients (λ c r. true)) ⌝ }
 {
-    marks::rows::store16(&mut d[CAUGHT..STATE], Table::fresh_caught());
+    flags::rows::store16(&mut d[CAUGHT..STATE], Table::fresh_caught());
 }
 
 pub fn copy(t: &mut [u8], from: &[u8])
@@ -45,7 +45,7 @@ pub fn copy(t: &mut [u8], from: &[u8])
 
 // No number joined.
 pub fn queue(d: &mut [u8])
-    requires { ⌜ length (now d) ≡ bytes ⌝ }
+    requires { ⌜ length (now d) ≡ lowerBytes ⌝ }
     ensures { λ _. ⌜ now (d .exit) ≡ wrote (now (d .entry)) queuePart (replicate revisions 1) ⌝ }
 {
     let none = Table::fresh_queue();
@@ -54,7 +54,7 @@ pub fn queue(d: &mut [u8])
 
 // No open transaction.
 pub fn opened(d: &mut [u8])
-    requires { ⌜ length (now d) ≡ bytes ⌝ }
+    requires { ⌜ length (now d) ≡ lowerBytes ⌝ }
     ensures { λ _. ⌜ now (d .exit) ≡ wrote (now (d .entry)) openedPart (replicate clients closed) ⌝ }
 {
     let none = Table::fresh_opened();
@@ -62,7 +62,7 @@ pub fn opened(d: &mut [u8])
 }
 
 pub fn sign(d: &mut [u8])
-    requires { ⌜ length (now d) ≡ bytes ⌝ }
+    requires { ⌜ length (now d) ≡ lowerBytes ⌝ }
     ensures { λ _. ⌜ now (d .exit) ≡ wrote (now (d .entry)) signaturePart signature ⌝ }
 {
     let signature = Table::signature();

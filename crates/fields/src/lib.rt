@@ -4,6 +4,6 @@ pub mod gaps; // gaps.rt: a place of 64 taken out or put in
 pub mod layout; // layout.rt: the places of the revisions that are out
 pub mod numbers; // numbers.rt: words and half bytes in a part
 pub mod read; // read.rt: each cell read
-pub mod row; // row.rt: a row of inherited marks, by value
+pub mod row; // row.rt: a row of inherited flags, by value
 pub mod table; // table.rt: the sizes of a day, revision and client numbers
 pub mod write; // write.rt: each cell written

@@ -2,9 +2,9 @@
 ghost use mathlib.Core.Path.{_≡_};
 ghost use Prim.Native.Nat.{_<_};
 ghost use lib.ListN.{length};
-ghost use Rattle.cells.specs.Sizes.{bytes, clients, revisions, updates};
+ghost use Rattle.cells.specs.Sizes.{lowerBytes, clients, revisions, updates};
 ghost use Rattle.cells.specs.Words.{byte};
-ghost use Rattle.cells.specs.Cells.{marked};
+ghost use Rattle.cells.specs.Cells.{flagged};
 ghost use Rattle.cells.specs.Decode.{cells};
 use crate::numbers::byte_at;
 use crate::numbers::half_at;
@@ -31,7 +31,7 @@ use crate::table::USED;
 
 // One of the three states of `Table`, on every table in range.
 pub fn state(d: &[u8], r: Revision) -> usize
-    requires { ⌜ (length (now d) ≡ bytes) × (r .0 < revisions) ⌝ }
+    requires { ⌜ (length (now d) ≡ lowerBytes) × (r .0 < revisions) ⌝ }
     ensures { λ v. ⌜ (v ≡ cells (now (d .entry)) .state (r .0)) × (v < 256) ⌝ }
 {
     byte_at(&d[STATE..USED], wide(r.0))
@@ -39,7 +39,7 @@ pub fn state(d: &[u8], r: Revision) -> usize
 
 // Whether the row of inherited updates is in use.
 pub fn used(d: &[u8], r: Revision) -> bool
-    requires { ⌜ (length (now d) ≡ bytes) × (r .0 < revisions) ⌝ }
+    requires { ⌜ (length (now d) ≡ lowerBytes) × (r .0 < revisions) ⌝ }
     ensures { λ on. ⌜ on ≡ cells (now (d .entry)) .used (r .0) ⌝ }
 {
     byte_at(&d[USED..LAST], wide(r.0)) == 1
@@ -47,7 +47,7 @@ pub fn used(d: &[u8], r: Revision) -> bool
 
 // The last update of the own list.
 pub fn last(d: &[u8], r: Revision) -> usize
-    requires { ⌜ (length (now d) ≡ bytes) × (r .0 < revisions) ⌝ }
+    requires { ⌜ (length (now d) ≡ lowerBytes) × (r .0 < revisions) ⌝ }
     ensures { λ v. ⌜ (v ≡ cells (now (d .entry)) .last (r .0)) × (v < 65536) ⌝ }
 {
     word_at(&d[LAST..FIRST], wide(r.0))
@@ -55,7 +55,7 @@ pub fn last(d: &[u8], r: Revision) -> usize
 
 // The first update of the own list.
 pub fn first(d: &[u8], r: Revision) -> usize
-    requires { ⌜ (length (now d) ≡ bytes) × (r .0 < revisions) ⌝ }
+    requires { ⌜ (length (now d) ≡ lowerBytes) × (r .0 < revisions) ⌝ }
     ensures { λ v. ⌜ (v ≡ cells (now (d .entry)) .first (r .0)) × (v < 65536) ⌝ }
 {
     word_at(&d[FIRST..COUNT], wide(r.0))
@@ -63,7 +63,7 @@ pub fn first(d: &[u8], r: Revision) -> usize
 
 // How many updates the own list has.
 pub fn count(d: &[u8], r: Revision) -> usize
-    requires { ⌜ (length (now d) ≡ bytes) × (r .0 < revisions) ⌝ }
+    requires { ⌜ (length (now d) ≡ lowerBytes) × (r .0 < revisions) ⌝ }
     ensures { λ v. ⌜ (v ≡ cells (now (d .entry)) .count (r .0)) × (v < 65536) ⌝ }
 {
     word_at(&d[COUNT..BASE], wide(r.0))
@@ -71,7 +71,7 @@ pub fn count(d: &[u8], r: Revision) -> usize
 
 // How many of the main revision's updates were inherited by count.
 pub fn base(d: &[u8], r: Revision) -> usize
-    requires { ⌜ (length (now d) ≡ bytes) × (r .0 < revisions) ⌝ }
+    requires { ⌜ (length (now d) ≡ lowerBytes) × (r .0 < revisions) ⌝ }
     ensures { λ v. ⌜ (v ≡ cells (now (d .entry)) .base (r .0)) × (v < 65536) ⌝ }
 {
     word_at(&d[BASE..LAYOUT], wide(r.0))
@@ -79,7 +79,7 @@ pub fn base(d: &[u8], r: Revision) -> usize
 
 // The update before u in its list.
 pub fn link(d: &[u8], u: usize) -> usize
-    requires { ⌜ (length (now d) ≡ bytes) × (u < updates) ⌝ }
+    requires { ⌜ (length (now d) ≡ lowerBytes) × (u < updates) ⌝ }
     ensures { λ v. ⌜ (v ≡ cells (now (d .entry)) .link u) × (v < updates) ⌝ }
 {
     let low = byte_at(&d[LOW..HIGH], u);
@@ -89,42 +89,42 @@ pub fn link(d: &[u8], u: usize) -> usize
 
 // Whether r inherited u otherwise than by count.
 pub fn inherited(d: &[u8], r: Revision, u: usize) -> bool
-    requires { ⌜ (length (now d) ≡ bytes) × (r .0 < revisions) × (u < updates) ⌝ }
-    ensures { λ on. ⌜ on ≡ marked (cells (now (d .entry))) (r .0) u ⌝ }
+    requires { ⌜ (length (now d) ≡ lowerBytes) × (r .0 < revisions) × (u < updates) ⌝ }
+    ensures { λ on. ⌜ on ≡ flagged (cells (now (d .entry))) (r .0) u ⌝ }
 {
     let x = wide(r.0);
     if x == 0 {
         return false;
     }
     if used(d, r) {
-        return marks::bits::mark(d[Table::ROW * (x - 1) + u / 8], u % 8);
+        return flags::bits::flag(d[Table::ROW * (x - 1) + u / 8], u % 8);
     }
     false
 }
 
 // Whether a has seen b's fork and not b's start.
 pub fn seen(d: &[u8], a: Revision, b: Revision) -> bool
-    requires { ⌜ (length (now d) ≡ bytes) × (a .0 < revisions) × (b .0 < revisions) ⌝ }
+    requires { ⌜ (length (now d) ≡ lowerBytes) × (a .0 < revisions) × (b .0 < revisions) ⌝ }
     ensures { λ on. ⌜ on ≡ cells (now (d .entry)) .seen (a .0) (b .0) ⌝ }
 {
     let x = wide(a.0);
     let y = wide(b.0);
-    marks::bits::mark(d[SEEN + (8 * x + y / 8)], y % 8)
+    flags::bits::flag(d[SEEN + (8 * x + y / 8)], y % 8)
 }
 
 // Whether client c has caught up with r.
 pub fn caught(d: &[u8], c: Client, r: Revision) -> bool
-    requires { ⌜ (length (now d) ≡ bytes) × (c .0 < clients) × (r .0 < revisions) ⌝ }
+    requires { ⌜ (length (now d) ≡ lowerBytes) × (c .0 < clients) × (r .0 < revisions) ⌝ }
     ensures { λ on. ⌜ on ≡ cells (now (d .entry)) .caught (c .0) (r .0) ⌝ }
 {
     let x = wide(c.0);
     let y = wide(r.0);
-    marks::bits::mark(d[CAUGHT + (8 * x + y / 8)], y % 8)
+    flags::bits::flag(d[CAUGHT + (8 * x + y / 8)], y % 8)
 }
 
 // The revision at a place of the layout.
 pub fn place(d: &[u8], i: usize) -> usize
-    requires { ⌜ (length (now d) ≡ bytes) × (i < revisions) ⌝ }
+    requires { ⌜ (length (now d) ≡ lowerBytes) × (i < revisions) ⌝ }
     ensures { λ v. ⌜ (v ≡ byte (cells (now (d .entry)) .layout) i) × (v < 256) ⌝ }
 {
     byte_at(&d[LAYOUT..QUEUE], i)
@@ -132,7 +132,7 @@ pub fn place(d: &[u8], i: usize) -> usize
 
 // The number at a place of the queue.
 pub fn queued(d: &[u8], i: usize) -> usize
-    requires { ⌜ (length (now d) ≡ bytes) × (i < revisions) ⌝ }
+    requires { ⌜ (length (now d) ≡ lowerBytes) × (i < revisions) ⌝ }
     ensures { λ v. ⌜ (v ≡ byte (cells (now (d .entry)) .queue) i) × (v < 256) ⌝ }
 {
     byte_at(&d[QUEUE..OPENED], i)
@@ -140,7 +140,7 @@ pub fn queued(d: &[u8], i: usize) -> usize
 
 // The revision of the open transaction, or `Table::CLOSED`.
 pub fn opened(d: &[u8], c: Client) -> usize
-    requires { ⌜ (length (now d) ≡ bytes) × (c .0 < clients) ⌝ }
+    requires { ⌜ (length (now d) ≡ lowerBytes) × (c .0 < clients) ⌝ }
     ensures { λ v. ⌜ (v ≡ cells (now (d .entry)) .opened (c .0)) × (v < 256) ⌝ }
 {
     byte_at(&d[OPENED..COUNTERS], wide(c.0))
@@ -148,7 +148,7 @@ pub fn opened(d: &[u8], c: Client) -> usize
 
 // How many revisions are out.
 pub fn out(d: &[u8]) -> usize
-    requires { ⌜ length (now d) ≡ bytes ⌝ }
+    requires { ⌜ length (now d) ≡ lowerBytes ⌝ }
     ensures { λ v. ⌜ (v ≡ cells (now (d .entry)) .out) × (v < 256) ⌝ }
 {
     byte_at(&d[COUNTERS..NAMES], Table::REVISIONS_OUT)
@@ -156,7 +156,7 @@ pub fn out(d: &[u8]) -> usize
 
 // How many revision numbers were given out.
 pub fn given(d: &[u8]) -> usize
-    requires { ⌜ length (now d) ≡ bytes ⌝ }
+    requires { ⌜ length (now d) ≡ lowerBytes ⌝ }
     ensures { λ v. ⌜ (v ≡ cells (now (d .entry)) .given) × (v < 256) ⌝ }
 {
     byte_at(&d[COUNTERS..NAMES], Table::NUMBERS_GIVEN)
@@ -164,7 +164,7 @@ pub fn given(d: &[u8]) -> usize
 
 // How many updates were taken.
 pub fn updates(d: &[u8]) -> usize
-    requires { ⌜ length (now d) ≡ bytes ⌝ }
+    requires { ⌜ length (now d) ≡ lowerBytes ⌝ }
     ensures { λ v. ⌜ (v ≡ cells (now (d .entry)) .updates) × (v < 65536) ⌝ }
 {
     word_at(&d[COUNTERS..NAMES], Table::UPDATES_TAKEN)

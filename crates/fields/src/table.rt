@@ -136,7 +136,7 @@ impl Table {
     // The limit of a count of revisions, 0 to 64, and of an open transaction's cell, which may be closed.
     pub const REVISIONS_LIMIT: usize = Table::REVISIONS + 1;
 
-    // A client without events may start anywhere: every caught-up mark, eight to a byte.
+    // A client without events may start anywhere: every caught-up flag, eight to a byte.
     pub fn fresh_caught() -> [[u8; Table::REVISIONS / 8]; Table::CLIENTS]
         ensures { λ r. ⌜ r ≡ replicate clients (replicate 8 255) ⌝ }
     {
@@ -157,7 +157,7 @@ impl Table {
         [Table::CLOSED as u8; Table::CLIENTS]
     }
 
-    // What marks the bytes as a table with this layout.
+    // What tells that the bytes are a table with this layout.
     pub fn signature() -> [u8; 8]
         ensures { λ r. ⌜ r ≡ signature ⌝ }
     {

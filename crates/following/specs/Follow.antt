@@ -11,7 +11,7 @@ use Rattle.diagram.specs.Day.{Day, IsOut, Means, isGiven, nextNumber, numberOf}
 use Rattle.diagram.specs.Checks
 use Rattle.diagram.specs.Steps.{Step, run}
 use Rattle.diagram.specs.Accepted.{Accepted}
-use Rattle.cells.specs.Sizes.{clients, updates, bytes}
+use Rattle.cells.specs.Sizes.{clients, updates, lowerBytes}
 use Rattle.cells.specs.Cells
 use Rattle.cells.specs.Cells.{Cells, own}
 use Rattle.cells.specs.Order.{order}
@@ -42,7 +42,7 @@ pub record CellsFollow (y : Day) (k : Cells) : Type 0 where
   -- 9 "4,096 updates taken"; 10, 02, U7: "exactly if 64 boxes are out"
   pub same-full : Asked.logFull k ≡ Checks.logFull y
   pub same-left : Asked.noneLeft k ≡ Checks.noneLeft y
-  -- 11 "joinee is box 0, is the joiner, its fork isn't seen, or its start is": a seen mark alone is this rule
+  -- 11 "joinee is box 0, is the joiner, its fork isn't seen, or its start is": a seen flag alone is this rule
   pub same-seen : (a b : ℕ) → IsOut y a → IsOut y b → k .seen (numberOf y a) (numberOf y b) ≡ not (Checks.notJoinable y a b)
   pub same-joinable : (a b : ℕ) → IsOut y a → IsOut y b → Asked.joinable k (numberOf y a) (numberOf y b) ≡ not (Checks.notJoinable y a b)
   -- "Values when taken: update, the count of updates taken before it; .. fork, the new number"
@@ -53,7 +53,7 @@ pub record CellsFollow (y : Day) (k : Cells) : Type 0 where
 
 -- the bytes are a table in range, and their cells agree with the day
 pub record BytesFollow (y : Day) (d : List ℕ) : Type 0 where
-  pub size : length d ≡ bytes
+  pub size : length d ≡ lowerBytes
   pub ranged : inRange d ≡ true
   pub follow : CellsFollow y (cells d)
 

@@ -9,7 +9,7 @@ use bundles::entry::Entry;
 use bundles::pack::Packed;
 use bundles::sizes::Bundle;
 use bundles::sizes::Record;
-use sending::bundle::bundle;
+use bundling::bundle::bundle;
 use table::answer::Answer;
 
 // How many entries are passed on. Of more than 64 none is: a bundle of no entries has code 14 too.

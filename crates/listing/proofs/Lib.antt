@@ -1,3 +1,3 @@
--- Laws that belong to no one function: one line more, and a line as a record of a bundle; and examples.
-pub mod Written
-mod Examples
+-- Laws of the end of a list, and a list and a fill from what their checks find.
+pub mod Calls
+pub mod Listed

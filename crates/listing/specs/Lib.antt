@@ -1,3 +1,2 @@
--- What the crate's contracts say: a line of the listing in bytes, and a sheet with its lines.
-pub mod Lines
-pub mod Sheet
+-- What the check of a sheet finds.
+pub mod Checks

@@ -1,2 +1,3 @@
-// The listing of numbered entries, twelve bytes each, into a lent sheet. Knows no revision.
-pub mod lines; // lines.rt: the lines of some numbers put into a sheet
+// What a revision shows and holds: the calls list and fill.
+pub mod fill; // fill.rt: the call fill
+pub mod list; // list.rt: the call list

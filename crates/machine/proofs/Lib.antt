@@ -1,3 +1,3 @@
--- The proofs, lowest first: the marks after each step; the machine follows every run.
-pub mod Marks
+-- The proofs, lowest first: the flags after each step; the machine follows every run.
+pub mod Flags
 pub mod Follow

@@ -1,5 +1,5 @@
 -- No claim rests on this file: it serves the proofs.
--- The layout machine: a day without its diagram, as lists and marks. A table keeps this, and `Follows` says that it is
+-- The layout machine: a day without its diagram, as lists and flags. A table keeps this, and `Follows` says that it is
 -- the day's. The servers' sets J of 002, section 4.3, are `joinable`.
 use Prim.Native.Nat.{ℕ, suc}
 use mathlib.Core.Bool.{Bool, true, false, cond, not, _||_}

@@ -1,10 +1,10 @@
 // The calls that a round is made of, each with what it answers told to the tally.
 use crate::tally::Tally;
-use branching::fork::fork;
-use branching::join::join;
-use entering::update::update;
-use entering::yields::yields;
-use reading::query::query;
+use forking::fork::fork;
+use forking::join::join;
+use querying::query::query;
+use updating::update::update;
+use updating::yields::yields;
 
 // The kind Time.
 const TIME: u8 = 1;

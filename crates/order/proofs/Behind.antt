@@ -8,14 +8,14 @@ use lib.ListN.{length, getD, drop, drop-of-length-le}
 use lib.Seq.{drop-cons, getD-take, length-take-le}
 use borrow.Author.Tests.{eq-eqb, ne-eqb}
 use Rattle.lists.specs.Arranged.{behind, flatBack}
-use Rattle.cells.specs.Sizes.{bytes, revisions}
+use Rattle.cells.specs.Sizes.{lowerBytes, revisions}
 use Rattle.cells.specs.Parts.{size, layoutPart}
 use Rattle.cells.specs.Words.{byte}
 use Rattle.cells.specs.Cells.{Cells, outs}
 use Rattle.cells.specs.Decode.{cells}
 use Rattle.cells.proofs.Parts.{split-sized}
 
-pub outs-length : (d : List ℕ) → length d ≡ bytes → cells d .out ≤ revisions → length (outs (cells d)) ≡ cells d .out
+pub outs-length : (d : List ℕ) → length d ≡ lowerBytes → cells d .out ≤ revisions → length (outs (cells d)) ≡ cells d .out
 unfolding cells size
 outs-length d h o = let l = split-sized d h .of layoutPart in length-take-le (cells d .out) (cells d .layout) (omega arith)
 

@@ -12,7 +12,7 @@ use borrow.Author.Tests.{ltb-true, ltb-false, lt-ltb, le-ltb}
 use Rattle.lists.proofs.Keep.{keep-++}
 use Rattle.lists.proofs.Cases.{cases}
 use Rattle.cells.specs.Sizes.{updates}
-use Rattle.cells.specs.Cells.{Cells, chain, own, marked}
+use Rattle.cells.specs.Cells.{Cells, chain, own, flagged}
 use Rattle.cells.specs.Decode.{cells}
 use Rattle.cells.specs.Order.{picks}
 use Rattle.cells.proofs.Chain.{chain-length}
@@ -94,11 +94,11 @@ picks-next b f l i h =
     let e = length-take-le i l (omega arith) in
     ap (λ j. picks b f (take i l) ++ offered b f j (getD l i 0)) (sym e) ∙ sym (picks-more b f (take i l) (getD l i 0)) ∙ ap (picks b f) (sym (ap (λ j. take j l) (add-one i) ∙ take-suc l i 0 h))
 
--- what is not below 4,096 is not marked
-pub past-marks : (d : List ℕ) (r u : ℕ) → updates ≤ u → false ≡ marked (cells d) r u
+-- what is not below 4,096 is not flagged
+pub past-flags : (d : List ℕ) (r u : ℕ) → updates ≤ u → false ≡ flagged (cells d) r u
 unfolding cells
-past-marks d zero u h = sym (and-false (cells d .used 0))
-past-marks d (suc r) u h = rw (le-ltb u updates h) (cases (ltb r 63) (λ e. rw e (sym (and-false (cells d .used (suc r))))) (λ e. rw e (sym (and-false (cells d .used (suc r))))))
+past-flags d zero u h = sym (and-false (cells d .used 0))
+past-flags d (suc r) u h = rw (le-ltb u updates h) (cases (ltb r 63) (λ e. rw e (sym (and-false (cells d .used (suc r))))) (λ e. rw e (sym (and-false (cells d .used (suc r))))))
 
 -- along the links
 pub gather-none : (link : ℕ → ℕ) (u n : ℕ) (out : List ℕ) → n ≡ 0 → out ≡ chain link u n ++ drop n out

@@ -5,7 +5,7 @@ ghost use mathlib.Core.Bool.{true};
 ghost use mathlib.Core.List.{_++_};
 ghost use Prim.Native.Nat.{_<_, _≤_};
 ghost use lib.ListN.{drop, length};
-ghost use Rattle.cells.specs.Sizes.{bytes, revisions, updates};
+ghost use Rattle.cells.specs.Sizes.{lowerBytes, revisions, updates};
 ghost use Rattle.cells.specs.Cells.{own};
 ghost use Rattle.cells.specs.Decode.{cells};
 ghost use Rattle.cells.specs.Range.{inRange};
@@ -45,7 +45,7 @@ pub struct Walk {
 // each link leads to the next lower number and more than m are left. Updates entered in a row have such links, so the code can go on
 // with that number and need not wait for the link. What is left, gathered later, makes what all n gathered at once would have made.
 fn run(d: &[u8], at: usize, n: usize, m: usize, out: &mut [u16]) -> Walk
-    requires { ⌜ (length (now d) ≡ bytes) × (at < updates) × (m < n) × (n ≤ length (now out)) ⌝ }
+    requires { ⌜ (length (now d) ≡ lowerBytes) × (at < updates) × (m < n) × (n ≤ length (now out)) ⌝ }
     ensures { λ w. ⌜ (w .at < updates) × (m ≤ w .left) × (w .left < n) × (withChain (now (d .entry)) (w .at) (w .left) (now (out .exit)) ≡ withChain (now (d .entry)) at n (now (out .entry))) ⌝ }
 {
     let mut u = at;
@@ -64,7 +64,7 @@ fn run(d: &[u8], at: usize, n: usize, m: usize, out: &mut [u16]) -> Walk
 
 // Of the n updates that end at `at` all but the first m, in their places, run by run. The answer is the last of those m.
 fn gather_some(d: &[u8], at: usize, n: usize, m: usize, out: &mut [u16]) -> usize
-    requires { ⌜ (length (now d) ≡ bytes) × (at < updates) × (m ≤ n) × (n ≤ length (now out)) ⌝ }
+    requires { ⌜ (length (now d) ≡ lowerBytes) × (at < updates) × (m ≤ n) × (n ≤ length (now out)) ⌝ }
     ensures { λ u. ⌜ (u < updates) × (withChain (now (d .entry)) u m (now (out .exit)) ≡ withChain (now (d .entry)) at n (now (out .entry))) ⌝ }
 {
     let mut u = at;
@@ -79,7 +79,7 @@ fn gather_some(d: &[u8], at: usize, n: usize, m: usize, out: &mut [u16]) -> usiz
 
 // The n updates that end at `at`, in the first n places.
 pub fn gather(d: &[u8], at: usize, n: usize, out: &mut [u16])
-    requires { ⌜ (length (now d) ≡ bytes) × (at < updates) × (n ≤ length (now out)) ⌝ }
+    requires { ⌜ (length (now d) ≡ lowerBytes) × (at < updates) × (n ≤ length (now out)) ⌝ }
     ensures { λ _. ⌜ now (out .exit) ≡ withChain (now (d .entry)) at n (now (out .entry)) ⌝ }
 {
     if n == 0 {
@@ -92,7 +92,7 @@ pub fn gather(d: &[u8], at: usize, n: usize, out: &mut [u16])
 
 // The own list of r; how many it has.
 pub fn own_list(d: &[u8], r: Revision, out: &mut [u16]) -> usize
-    requires { ⌜ (length (now d) ≡ bytes) × (inRange (now d) ≡ true) × (r .0 < revisions) × (length (now out) ≡ updates) ⌝ }
+    requires { ⌜ (length (now d) ≡ lowerBytes) × (inRange (now d) ≡ true) × (r .0 < revisions) × (length (now out) ≡ updates) ⌝ }
     ensures { λ n. ⌜ (n ≡ cells (now (d .entry)) .count (r .0)) × (n ≤ updates) × (now (out .exit) ≡ own (cells (now (d .entry))) (r .0) ++ drop n (now (out .entry))) ⌝ }
 {
     let n = read::count(d, r);

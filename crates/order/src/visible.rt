@@ -6,9 +6,9 @@ ghost use Prim.Native.Nat.{_+_, _<_, _≤_};
 ghost use lib.Dec.{ltb};
 ghost use lib.ListN.{drop, length};
 ghost use Rattle.lists.specs.Arranged.{behind, flatBack};
-ghost use Rattle.cells.specs.Sizes.{bytes, revisions, updates};
+ghost use Rattle.cells.specs.Sizes.{lowerBytes, revisions, updates};
 ghost use Rattle.cells.specs.Words.{byte};
-ghost use Rattle.cells.specs.Cells.{marked, outs, own};
+ghost use Rattle.cells.specs.Cells.{flagged, outs, own};
 ghost use Rattle.cells.specs.Decode.{cells};
 ghost use Rattle.cells.specs.Order.{baseIn, inherited, order, picks};
 ghost use Rattle.cells.specs.Range.{inRange};
@@ -34,8 +34,8 @@ fn push(out: &mut [u16], n: usize, x: u16) -> usize
 
 // Whether r inherited u, the entry at place i of a list of which it inherited the first `base`.
 fn wanted(d: &[u8], r: Revision, base: usize, i: usize, u: usize) -> bool
-    requires { ⌜ (length (now d) ≡ bytes) × (r .0 < revisions) ⌝ }
-    ensures { λ x. ⌜ x ≡ (ltb i base || marked (cells (now (d .entry))) (r .0) u) ⌝ }
+    requires { ⌜ (length (now d) ≡ lowerBytes) × (r .0 < revisions) ⌝ }
+    ensures { λ x. ⌜ x ≡ (ltb i base || flagged (cells (now (d .entry))) (r .0) u) ⌝ }
 {
     if i < base {
         return true;
@@ -48,8 +48,8 @@ fn wanted(d: &[u8], r: Revision, base: usize, i: usize, u: usize) -> bool
 
 // The entry x at place i goes behind the first n, if r inherited it.
 fn offer(d: &[u8], r: Revision, base: usize, i: usize, x: u16, out: &mut [u16], n: usize) -> usize
-    requires { ⌜ (length (now d) ≡ bytes) × (r .0 < revisions) × (length (now out) ≡ updates) × (n ≤ updates) ⌝ }
-    ensures { λ m. ⌜ Added (now (out .entry)) n (offered base (marked (cells (now (d .entry))) (r .0)) i x) (now (out .exit)) m ⌝ }
+    requires { ⌜ (length (now d) ≡ lowerBytes) × (r .0 < revisions) × (length (now out) ≡ updates) × (n ≤ updates) ⌝ }
+    ensures { λ m. ⌜ Added (now (out .entry)) n (offered base (flagged (cells (now (d .entry))) (r .0)) i x) (now (out .exit)) m ⌝ }
 {
     if wanted(d, r, base, i, x as usize) {
         return push(out, n, x);
@@ -59,8 +59,8 @@ fn offer(d: &[u8], r: Revision, base: usize, i: usize, x: u16, out: &mut [u16], 
 
 // Of a list what r inherited goes behind the first n.
 fn sift(d: &[u8], r: Revision, base: usize, list: &[u16], out: &mut [u16], n: usize) -> usize
-    requires { ⌜ (length (now d) ≡ bytes) × (r .0 < revisions) × (length (now out) ≡ updates) × (n ≤ updates) ⌝ }
-    ensures { λ m. ⌜ Added (now (out .entry)) n (picks base (marked (cells (now (d .entry))) (r .0)) (now (list .entry))) (now (out .exit)) m ⌝ }
+    requires { ⌜ (length (now d) ≡ lowerBytes) × (r .0 < revisions) × (length (now out) ≡ updates) × (n ≤ updates) ⌝ }
+    ensures { λ m. ⌜ Added (now (out .entry)) n (picks base (flagged (cells (now (d .entry))) (r .0)) (now (list .entry))) (now (out .exit)) m ⌝ }
 {
     let mut i: usize = 0;
     let mut m = n;
@@ -71,7 +71,7 @@ fn sift(d: &[u8], r: Revision, base: usize, list: &[u16], out: &mut [u16], n: us
     m
 }
 
-// Of the own list of x, which goes into `room`, what r inherited, the first `base` and those marked, goes behind the first n.
+// Of the own list of x, which goes into `room`, what r inherited, the first `base` and those flagged, goes behind the first n.
 fn add_some(
     d: &[u8],
     r: Revision,
@@ -81,8 +81,8 @@ fn add_some(
     out: &mut [u16],
     n: usize,
 ) -> usize
-    requires { ⌜ (length (now d) ≡ bytes) × (inRange (now d) ≡ true) × (r .0 < revisions) × (x .0 < revisions) × (length (now room) ≡ updates) × (length (now out) ≡ updates) × (n ≤ updates) ⌝ }
-    ensures { λ m. ⌜ Added (now (out .entry)) n (picks base (marked (cells (now (d .entry))) (r .0)) (own (cells (now (d .entry))) (x .0))) (now (out .exit)) m ⌝ }
+    requires { ⌜ (length (now d) ≡ lowerBytes) × (inRange (now d) ≡ true) × (r .0 < revisions) × (x .0 < revisions) × (length (now room) ≡ updates) × (length (now out) ≡ updates) × (n ≤ updates) ⌝ }
+    ensures { λ m. ⌜ Added (now (out .entry)) n (picks base (flagged (cells (now (d .entry))) (r .0)) (own (cells (now (d .entry))) (x .0))) (now (out .exit)) m ⌝ }
 {
     let many = links::own_list(d, x, room);
     sift(d, r, base, &room[..many], out, n)
@@ -90,7 +90,7 @@ fn add_some(
 
 // How many of the first entries of x's list r inherited by count.
 fn base_in(d: &[u8], r: Revision, x: Revision) -> usize
-    requires { ⌜ (length (now d) ≡ bytes) × (r .0 < revisions) ⌝ }
+    requires { ⌜ (length (now d) ≡ lowerBytes) × (r .0 < revisions) ⌝ }
     ensures { λ b. ⌜ b ≡ baseIn (cells (now (d .entry))) (r .0) (x .0) ⌝ }
 {
     if x.0 == 0 {
@@ -101,7 +101,7 @@ fn base_in(d: &[u8], r: Revision, x: Revision) -> usize
 
 // The revision at a place of the layout: a number in range on every table in range.
 fn at_place(d: &[u8], i: usize) -> Revision
-    requires { ⌜ (length (now d) ≡ bytes) × (inRange (now d) ≡ true) × (i < revisions) ⌝ }
+    requires { ⌜ (length (now d) ≡ lowerBytes) × (inRange (now d) ≡ true) × (i < revisions) ⌝ }
     ensures { λ x. ⌜ (x .0 ≡ byte (cells (now (d .entry)) .layout) i) × (x .0 < revisions) ⌝ }
 {
     let RevisionCheck::Known(r) = check_revision(read::place(d, i) as u8) else {
@@ -112,7 +112,7 @@ fn at_place(d: &[u8], i: usize) -> Revision
 
 // The place of r among those that are out, or their number.
 fn place_of(d: &[u8], r: Revision) -> usize
-    requires { ⌜ (length (now d) ≡ bytes) × (inRange (now d) ≡ true) ⌝ }
+    requires { ⌜ (length (now d) ≡ lowerBytes) × (inRange (now d) ≡ true) ⌝ }
     ensures { λ j. ⌜ (j ≤ revisions) × (behind (r .0) (outs (cells (now (d .entry)))) ≡ drop (j + 1) (outs (cells (now (d .entry))))) ⌝ }
 {
     let n = read::out(d);
@@ -129,7 +129,7 @@ fn place_of(d: &[u8], r: Revision) -> usize
 
 // What r inherited from the revisions behind place j, from the left. One room does for all lists.
 fn add_left(d: &[u8], r: Revision, j: usize, room: &mut [u16], out: &mut [u16]) -> usize
-    requires { ⌜ (length (now d) ≡ bytes) × (inRange (now d) ≡ true) × (r .0 < revisions) × (j ≤ revisions) × (length (now room) ≡ updates) × (length (now out) ≡ updates) ⌝ }
+    requires { ⌜ (length (now d) ≡ lowerBytes) × (inRange (now d) ≡ true) × (r .0 < revisions) × (j ≤ revisions) × (length (now room) ≡ updates) × (length (now out) ≡ updates) ⌝ }
     ensures { λ m. ⌜ Added (now (out .entry)) 0 (flatBack (inherited (cells (now (d .entry))) (r .0)) (drop (j + 1) (outs (cells (now (d .entry)))))) (now (out .exit)) m ⌝ }
 {
     let mut i = read::out(d);
@@ -145,7 +145,7 @@ fn add_left(d: &[u8], r: Revision, j: usize, room: &mut [u16], out: &mut [u16]) 
 
 // The order of r into the first places of `out`; how many entries it has.
 pub fn list(d: &[u8], r: Revision, out: &mut [u16]) -> usize
-    requires { ⌜ (length (now d) ≡ bytes) × (inRange (now d) ≡ true) × (r .0 < revisions) × (length (now out) ≡ updates) ⌝ }
+    requires { ⌜ (length (now d) ≡ lowerBytes) × (inRange (now d) ≡ true) × (r .0 < revisions) × (length (now out) ≡ updates) ⌝ }
     ensures { λ n. ⌜ (n ≡ length (order (cells (now (d .entry))) (r .0))) × (now (out .exit) ≡ order (cells (now (d .entry))) (r .0) ++ drop n (now (out .entry))) ⌝ }
 {
     let j = place_of(d, r);

@@ -17,7 +17,7 @@ use Rattle.entries.specs.Sizes as Upper
 use Rattle.entries.specs.Entries.{entryAt}
 use Rattle.entries.specs.Folded.{standingOf}
 use Rattle.table.specs.Halves.{low, high, cellsOf, isTable}
-use Rattle.table.specs.Out.{bytes}
+use Rattle.table.specs.Out.{tableBytes}
 use Rattle.table.specs.Calls.{joinOut, noProspect, readOn, previewOut, standingAt}
 use Rattle.table.specs.Found.{onPair}
 use Rattle.table.specs.Checks.{bothCheck, mayJoinCheck, joinCheck}
@@ -29,17 +29,17 @@ use Rattle.table.proofs.Calls.{given-is, pair-cond, either}
 use Rattle.previewing.specs.Checks.{previewCheck}
 
 -- a copy with lower half d and upper half h
-module _ (d h : List ℕ) (e : length d ≡ Lower.bytes) where
-  copy-table : length h ≡ Upper.bytes → isTable (d ++ h) ≡ inRange d
+module _ (d h : List ℕ) (e : length d ≡ Lower.lowerBytes) where
+  copy-table : length h ≡ Upper.entryBytes → isTable (d ++ h) ≡ inRange d
   unfolding isTable
-  copy-table f = rw (eq-eqb (length (d ++ h)) bytes (rw length-append (omega (arith, e, f))), low-of d h e)
+  copy-table f = rw (eq-eqb (length (d ++ h)) tableBytes (rw length-append (omega (arith, e, f))), low-of d h e)
 
   copy-standing : (r bib : ℕ) → standingAt (d ++ h) r bib ≡ standingOf (entryAt h) bib (order (cells d) r)
   unfolding standingAt
   copy-standing r bib = rw (low-of d h e, high-of d h e)
 
   -- it is no table, or it is and the bib stands as s
-  module _ (f : length h ≡ Upper.bytes) (r bib gain : ℕ) where
+  module _ (f : length h ≡ Upper.entryBytes) (r bib gain : ℕ) where
     pub damaged : {p : Prospect} → inRange d ≡ false → p ≡ noProspect 1 → p ≡ readOn (d ++ h) r bib gain
     unfolding readOn
     damaged o q = q ∙ rw (copy-table f, o)

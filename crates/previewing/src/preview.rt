@@ -13,7 +13,7 @@ ghost use Rattle.cells.specs.Steps.{joinBytes};
 ghost use Rattle.entries.specs.Entries.{entryAt};
 ghost use Rattle.entries.specs.Folded.{standingOf};
 ghost use Rattle.table.specs.Halves.{cellsOf, high, isTable, low};
-ghost use Rattle.table.specs.Out.{bytes};
+ghost use Rattle.table.specs.Out.{tableBytes};
 ghost use Rattle.table.specs.Calls.{noProspect, previewOut, readOn};
 ghost use Rattle.table.specs.Checks.{pairIn};
 ghost use Rattle.previewing.specs.Checks.{previewCheck};
@@ -22,7 +22,7 @@ use checks::range::check_range;
 use fields::fresh::copy;
 use fields::table::Revision;
 use fields::table::Table;
-use reading::standing::tell;
+use querying::standing::tell;
 use revisions::join::join;
 use table::answer::Prospect;
 use table::bib;
@@ -49,14 +49,14 @@ fn refused(code: u8) -> Prospect
 
 // Room for a copy of the lower half.
 fn room() -> [u8; Table::LOWER]
-    ensures { λ r. ⌜ Lower.bytes ≡ length r ⌝ }
+    ensures { λ r. ⌜ Lower.lowerBytes ≡ length r ⌝ }
 {
     [0; Table::LOWER]
 }
 
 // The lower half of t into d, and there b joined into a.
 fn join_copy(t: &[u8], d: &mut [u8], a: Revision, b: Revision)
-    requires { ⌜ (length (now t) ≡ bytes) × (inRange (low (now t)) ≡ true) × (length (now d) ≡ Lower.bytes) × (a .0 < revisions) × (b .0 < revisions) ⌝ }
+    requires { ⌜ (length (now t) ≡ tableBytes) × (inRange (low (now t)) ≡ true) × (length (now d) ≡ Lower.lowerBytes) × (a .0 < revisions) × (b .0 < revisions) ⌝ }
     ensures { λ _. ⌜ now (d .exit) ≡ joinBytes (low (now (t .entry))) (a .0) (b .0) ⌝ }
 {
     copy(d, &t[0..Table::LOWER]);
@@ -65,7 +65,7 @@ fn join_copy(t: &[u8], d: &mut [u8], a: Revision, b: Revision)
 
 // The standing of a bib at r, by the revisions in d and the entries in t.
 fn standing_on(d: &[u8], t: &[u8], r: Revision, bib: u16) -> Standing
-    requires { ⌜ (length (now d) ≡ Lower.bytes) × (inRange (now d) ≡ true) × (length (now t) ≡ bytes) × (r .0 < revisions) ⌝ }
+    requires { ⌜ (length (now d) ≡ Lower.lowerBytes) × (inRange (now d) ≡ true) × (length (now t) ≡ tableBytes) × (r .0 < revisions) ⌝ }
     ensures { λ s. ⌜ s ≡ standingOf (entryAt (high (now (t .entry)))) bib (order (cells (now (d .entry))) (r .0)) ⌝ }
 {
     let mut out = order::links::room();
@@ -75,7 +75,7 @@ fn standing_on(d: &[u8], t: &[u8], r: Revision, bib: u16) -> Standing
 
 // A copy of t that has been joined, d its lower half, read at a.
 fn read_on(d: &[u8], t: &[u8], a: Revision, bib: u16, gain: u16) -> Prospect
-    requires { ⌜ (length (now d) ≡ Lower.bytes) × (length (now t) ≡ bytes) × (a .0 < revisions) ⌝ }
+    requires { ⌜ (length (now d) ≡ Lower.lowerBytes) × (length (now t) ≡ tableBytes) × (a .0 < revisions) ⌝ }
     ensures { λ p. ⌜ p ≡ readOn (now (d .entry) ++ high (now (t .entry))) (a .0) bib gain ⌝ }
 {
     let RangeCheck::Sound = check_range(d) else {
@@ -94,7 +94,7 @@ fn read_on(d: &[u8], t: &[u8], a: Revision, bib: u16, gain: u16) -> Prospect
 
 // The end of a preview that the checks allow: b is joined into a on a copy.
 fn foresee(t: &[u8], a: Revision, b: Revision, bib: u16) -> Prospect
-    requires { ⌜ (length (now t) ≡ bytes) × (inRange (low (now t)) ≡ true) × (a .0 < revisions) × (b .0 < revisions) ⌝ }
+    requires { ⌜ (length (now t) ≡ tableBytes) × (inRange (low (now t)) ≡ true) × (a .0 < revisions) × (b .0 < revisions) ⌝ }
     ensures { λ p. ⌜ p ≡ readOn (joinBytes (low (now (t .entry))) (a .0) (b .0) ++ high (now (t .entry))) (a .0) bib (cellsOf (now (t .entry)) .count (b .0)) ⌝ }
 {
     // what the join brings is b's own
@@ -106,7 +106,7 @@ fn foresee(t: &[u8], a: Revision, b: Revision, bib: u16) -> Prospect
 
 // The checks of the join, then 5.
 fn check_preview(d: &[u8], joiner: u8, joinee: u8, bib: u16) -> PairCheck
-    requires { ⌜ length (now d) ≡ Lower.bytes ⌝ }
+    requires { ⌜ length (now d) ≡ Lower.lowerBytes ⌝ }
     ensures { λ r. ⌜ (r ≡ previewCheck (now (d .entry)) joiner joinee bib) × pairIn r ⌝ }
 {
     let found = check_join(d, joiner, joinee);
@@ -121,7 +121,7 @@ fn check_preview(d: &[u8], joiner: u8, joinee: u8, bib: u16) -> PairCheck
 
 // The call on bytes that are a table.
 fn preview_sound(t: &[u8], joiner: u8, joinee: u8, bib: u16) -> Prospect
-    requires { ⌜ (isTable (now t) ≡ true) × (length (now t) ≡ bytes) × (inRange (low (now t)) ≡ true) ⌝ }
+    requires { ⌜ (isTable (now t) ≡ true) × (length (now t) ≡ tableBytes) × (inRange (low (now t)) ≡ true) ⌝ }
     ensures { λ p. ⌜ p ≡ previewOut (now (t .entry)) joiner joinee bib ⌝ }
 {
     let found = check_preview(&t[0..Table::LOWER], joiner, joinee, bib);

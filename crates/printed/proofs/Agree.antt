@@ -5,14 +5,14 @@ use mathlib.Core.List.{List, _++_}
 use lib.ListN.{replicate, length-replicate}
 use Rattle.text.specs.Placed.{ascii}
 use Rattle.text.specs.Decimal.{ended}
-use Rattle.records.specs.File.{fileCheck}
-use Rattle.records.specs.Record.{stepAt}
-use Rattle.records.specs.declared.file.FileCheck.{FileCheck}
-use Rattle.records.specs.declared.file.FileCheck.the-variants.{Good, Bad}
-use Rattle.records.specs.declared.step.Step.{Step}
-use Rattle.records.specs.declared.step.Step.the-variants.{Update, Query, Yield, Fork, Join, Unknown}
+use Rattle.dayfile.specs.File.{fileCheck}
+use Rattle.dayfile.specs.Record.{stepAt}
+use Rattle.dayfile.specs.declared.file.FileCheck.{FileCheck}
+use Rattle.dayfile.specs.declared.file.FileCheck.the-variants.{Good, Bad}
+use Rattle.dayfile.specs.declared.step.Step.{Step}
+use Rattle.dayfile.specs.declared.step.Step.the-variants.{Update, Query, Yield, Fork, Join, Unknown}
 use Rattle.plain.specs.Record.{PlainDay}
-use Rattle.table.specs.Out.{bytes}
+use Rattle.table.specs.Out.{tableBytes}
 use Rattle.consistency.proofs.Table.Stands.{Stands}
 use Rattle.consistency.proofs.Table.Calls.{OnTable, refused-same, update-same, query-same, yield-same, fork-same, join-same}
 use Rattle.consistency.proofs.Table.Follows.{fresh-stands}
@@ -30,7 +30,7 @@ step-same p t S Unknown = refused-same p t S 13
 
 stands : (f : List ℕ) (i : ℕ) → Stands (paperAfter f i) (tableAfter freshTable f i)
 unfolding paperAfter tableAfter freshTable
-stands f zero = fresh-stands (replicate bytes 0) (length-replicate {A = ℕ} bytes 0)
+stands f zero = fresh-stands (replicate tableBytes 0) (length-replicate {A = ℕ} tableBytes 0)
 stands f (suc i) = step-same (paperAfter f i) (tableAfter freshTable f i) (stands f i) (stepAt f i) .stands
 
 lines-same : (f : List ℕ) (n : ℕ) → lines freshTable f n ≡ paperLines f n

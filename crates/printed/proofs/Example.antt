@@ -14,11 +14,11 @@ use Rattle.diagram.specs.Checks.{unknownClient, openElsewhere, busyByOther, bus
 use Rattle.diagram.specs.Steps.{after}
 use Rattle.plain.specs.Answers.{called}
 use Rattle.text.specs.Decimal.{places, decimal}
-use Rattle.records.specs.Numbers.{number}
-use Rattle.records.specs.File.{fileCheck}
-use Rattle.records.specs.Record.{stepAt, stepOf}
-use Rattle.records.specs.declared.step.Step.{Step}
-use Rattle.records.specs.declared.step.Step.the-variants.{Update, Query, Yield, Fork, Join}
+use Rattle.dayfile.specs.Numbers.{number}
+use Rattle.dayfile.specs.File.{fileCheck}
+use Rattle.dayfile.specs.Record.{stepAt, stepOf}
+use Rattle.dayfile.specs.declared.step.Step.{Step}
+use Rattle.dayfile.specs.declared.step.Step.the-variants.{Update, Query, Yield, Fork, Join}
 use Rattle.report.specs.Printed.{line, printed, valueText}
 use Rattle.printed.specs.Paper.{paperAfter, paperLines, paper}
 use Rattle.printed.specs.Example.{crossing, given}

@@ -5,12 +5,12 @@ use mathlib.Core.Path.{_≡_}
 use mathlib.Core.List.{List, [], _++_}
 use Rattle.text.specs.Placed.{ascii}
 use Rattle.text.specs.Decimal.{ended}
-use Rattle.records.specs.File.{fileCheck}
-use Rattle.records.specs.Record.{stepAt}
-use Rattle.records.specs.declared.file.FileCheck.{FileCheck}
-use Rattle.records.specs.declared.file.FileCheck.the-variants.{Good, Bad}
-use Rattle.records.specs.declared.step.Step.{Step}
-use Rattle.records.specs.declared.step.Step.the-variants.{Update, Query, Yield, Fork, Join, Unknown}
+use Rattle.dayfile.specs.File.{fileCheck}
+use Rattle.dayfile.specs.Record.{stepAt}
+use Rattle.dayfile.specs.declared.file.FileCheck.{FileCheck}
+use Rattle.dayfile.specs.declared.file.FileCheck.the-variants.{Good, Bad}
+use Rattle.dayfile.specs.declared.step.Step.{Step}
+use Rattle.dayfile.specs.declared.step.Step.the-variants.{Update, Query, Yield, Fork, Join, Unknown}
 use Rattle.desk.specs.Calls as Call
 use Rattle.desk.specs.Calls.{Answer}
 use Rattle.plain.specs.Record.{Line, PlainDay, freshDay}

@@ -6,9 +6,9 @@ use lib.ListN.{replicate}
 use Rattle.updates.specs.declared.standing.State.the-variants.{Timed, Struck}
 use Rattle.text.specs.Placed.{ascii}
 use Rattle.text.specs.Decimal.{places, decimal}
-use Rattle.records.specs.Numbers.{number}
-use Rattle.records.specs.File.{fileCheck}
-use Rattle.records.specs.Record.{stepAt, stepOf}
+use Rattle.dayfile.specs.Numbers.{number}
+use Rattle.dayfile.specs.File.{fileCheck}
+use Rattle.dayfile.specs.Record.{stepAt, stepOf}
 use Rattle.report.specs.Printed.{line, lines, valueText, day, printed}
 
 abbrev header : ℕ → ℕ → List ℕ

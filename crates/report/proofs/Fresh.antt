@@ -7,7 +7,7 @@ use lib.ListN.{length, replicate, length-replicate}
 use borrow.Author.Tests.{eq-eqb}
 use Rattle.cells.specs.Steps.{freshBytes}
 use Rattle.entries.specs.Sizes as Upper
-use Rattle.table.specs.Out.{bytes}
+use Rattle.table.specs.Out.{tableBytes}
 use Rattle.table.specs.Answers.{taken}
 use Rattle.table.specs.Out.{Out}
 use Rattle.table.specs.Found.{check}
@@ -15,12 +15,12 @@ use Rattle.table.specs.Calls.{freshOut}
 use Rattle.report.specs.Printed.{freshTable}
 
 abbrev made : Out
-made = taken (freshBytes ++ replicate Upper.bytes 0) 0
+made = taken (freshBytes ++ replicate Upper.entryBytes 0) 0
 
-fresh-made : (t : List ℕ) → length t ≡ bytes → freshOut t ≡ made
+fresh-made : (t : List ℕ) → length t ≡ tableBytes → freshOut t ≡ made
 unfolding freshOut
-fresh-made t h = ap (λ (b : Bool). check (not b) 1 t made) (eq-eqb (length t) bytes h)
+fresh-made t h = ap (λ (b : Bool). check (not b) 1 t made) (eq-eqb (length t) tableBytes h)
 
-pub fresh-table : (t : List ℕ) → length t ≡ bytes → freshOut t .lent ≡ freshTable
+pub fresh-table : (t : List ℕ) → length t ≡ tableBytes → freshOut t .lent ≡ freshTable
 unfolding freshTable
-fresh-table t h = ap (λ (o : Out). o .lent) (fresh-made t h ∙ sym (fresh-made (replicate bytes 0) (length-replicate {A = ℕ} bytes 0)))
+fresh-table t h = ap (λ (o : Out). o .lent) (fresh-made t h ∙ sym (fresh-made (replicate tableBytes 0) (length-replicate {A = ℕ} tableBytes 0)))

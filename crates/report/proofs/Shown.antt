@@ -6,9 +6,9 @@ use mathlib.Core.List.{List, []}
 use lib.ListN.{length}
 use borrow.Author.Tests.{lt-ltb, le-ltb}
 use Rattle.text.specs.Placed.{ascii}
-use Rattle.records.specs.File.{fileCheck}
-use Rattle.records.specs.declared.file.FileCheck.{FileCheck}
-use Rattle.records.specs.declared.file.FileCheck.the-variants.{Good, Bad}
+use Rattle.dayfile.specs.File.{fileCheck}
+use Rattle.dayfile.specs.declared.file.FileCheck.{FileCheck}
+use Rattle.dayfile.specs.declared.file.FileCheck.the-variants.{Good, Bad}
 use Rattle.report.specs.Printed.{day, printed, printedAs, room, shown}
 
 module _ (f out : List ℕ) where

@@ -1,9 +1,9 @@
 -- The steps of a day file run on a table, each by the table's own definition of the call.
 use Prim.Native.Nat.{ℕ, zero, suc}
 use mathlib.Core.List.{List}
-use Rattle.records.specs.Record.{stepAt}
-use Rattle.records.specs.declared.step.Step.{Step}
-use Rattle.records.specs.declared.step.Step.the-variants.{Update, Query, Yield, Fork, Join, Unknown}
+use Rattle.dayfile.specs.Record.{stepAt}
+use Rattle.dayfile.specs.declared.step.Step.{Step}
+use Rattle.dayfile.specs.declared.step.Step.the-variants.{Update, Query, Yield, Fork, Join, Unknown}
 use Rattle.table.specs.Answers.{refused}
 use Rattle.table.specs.Out.{Out}
 use Rattle.table.specs.Calls.{updateOut, queryOut, yieldOut, forkOut, joinOut}

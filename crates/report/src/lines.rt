@@ -6,7 +6,7 @@ ghost use Rattle.text.specs.Placed.{placed};
 ghost use Rattle.report.specs.Printed.{line as lineOf, valueText};
 ghost use Rattle.report.specs.Printed.{lines as linesOf};
 use crate::step::run;
-use records::step::step_at;
+use dayfile::step::step_at;
 use text::number::number;
 use text::put::put;
 use updates::standing::State;

@@ -5,8 +5,8 @@ ghost use lib.ListN.{length};
 ghost use Rattle.text.specs.Placed.{placed};
 ghost use Rattle.report.specs.Printed.{day, room, shown};
 use crate::lines::lines;
-use records::file::FileCheck;
-use records::file::check_file;
+use dayfile::file::FileCheck;
+use dayfile::file::check_file;
 use text::number::number;
 use text::put::put;
 
@@ -23,7 +23,7 @@ fn put_day(f: &[u8], n: u32, out: &mut [u8]) -> usize
     ensures { λ r. ⌜ (r ≡ length (day (now (f .entry)) n)) × (now (out .exit) ≡ placed (now (out .entry)) 0 (day (now (f .entry)) n)) ⌝ }
 {
     let mut t = io::large_buffer();
-    branching::fresh::fresh(&mut t);
+    forking::fresh::fresh(&mut t);
     let a = put(out, 0, b"steps ");
     let b = number(out, a, n as u64, b'\n');
     lines(f, n, &mut t, out, b)

@@ -3,7 +3,7 @@ ghost use mathlib.Core.Path.{_≡_};
 ghost use Rattle.table.specs.Answers.{leftRead};
 ghost use Rattle.updates.specs.declared.standing.State.the-variants.{Neither};
 ghost use Rattle.report.specs.Run.{stepOut};
-use records::step::Step;
+use dayfile::step::Step;
 use table::answer::Answer;
 use table::answer::Reading;
 use updates::standing::State;
@@ -29,15 +29,15 @@ pub(crate) fn run(t: &mut [u8], step: Step) -> Reading
             kind,
             bib,
             v,
-        } => without_state(entering::update::update(t, client, revision, kind, bib, v)),
+        } => without_state(updating::update::update(t, client, revision, kind, bib, v)),
         Step::Query {
             client,
             revision,
             bib,
-        } => reading::query::query(t, client, revision, bib),
-        Step::Yield(client) => without_state(entering::yields::yields(t, client)),
-        Step::Fork(revision) => without_state(branching::fork::fork(t, revision)),
-        Step::Join(joiner, joinee) => without_state(branching::join::join(t, joiner, joinee)),
+        } => querying::query::query(t, client, revision, bib),
+        Step::Yield(client) => without_state(updating::yields::yields(t, client)),
+        Step::Fork(revision) => without_state(forking::fork::fork(t, revision)),
+        Step::Join(joiner, joinee) => without_state(forking::join::join(t, joiner, joinee)),
         Step::Unknown => Reading {
             code: 13,
             state: State::Neither,

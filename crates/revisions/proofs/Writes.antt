@@ -12,11 +12,11 @@ use borrow.Author.Tests.{eq-eqb, eqb-true, le-ltb, lt-ltb, ne-eqb}
 use Rattle.lists.specs.Lists.{restOf}
 use Rattle.lists.specs.Arranged.{insertBefore, remove}
 use Rattle.lists.proofs.Cases.{cases}
-use Rattle.cells.specs.Sizes.{bytes, revisions, clients, closed}
+use Rattle.cells.specs.Sizes.{lowerBytes, revisions, clients, closed}
 use Rattle.cells.specs.Parts.{Parts, Sized, size, split, glue, wrote, _⟨_≔_⟩, rowsPart, lowPart, highPart, seenPart, caughtPart, statePart, usedPart, lastPart, firstPart}
 use Rattle.cells.specs.Parts.{countPart, basePart, layoutPart, queuePart, openedPart, countersPart, signaturePart}
 use Rattle.cells.specs.Words.{putWord, putHalf}
-use Rattle.cells.specs.Marks.{pack, putRow}
+use Rattle.cells.specs.Flags.{pack, putRow}
 use Rattle.cells.specs.Decode.{decode}
 use Rattle.cells.specs.Range.{signature}
 use Rattle.lists.specs.Pool.{forkPool, joinPool}
@@ -38,7 +38,7 @@ word-wrote {p = p} i r v h e = holds-wrote i (λ t. putWord t r v) h e (putWord-
 with-twice : (p : Parts) (i : ℕ) (a b : List ℕ) → p ⟨ i ≔ a ⟩ ⟨ i ≔ b ⟩ ≡ p ⟨ i ≔ b ⟩
 with-twice p i a b = fun-ext (λ j. cases (eqb j i) (λ e. rw e) (λ e. rw e))
 
--- marks
+-- flags
 seen-wrote : {d d′ : List ℕ} {p : Parts} (f : (ℕ → ℕ → Bool) → ℕ → ℕ → Bool) → Holds d p → d′ ≡ wrote d seenPart (pack revisions (f (decode (split d) .seen))) → Holds d′ (p ⟨ seenPart ≔ pack revisions (f (decode p .seen)) ⟩)
 seen-wrote f h e = holds-step (λ q. q ⟨ seenPart ≔ pack revisions (f (decode q .seen)) ⟩) h e (seen-sized (h .sized) _)
 
@@ -79,7 +79,7 @@ forked p q c = cases (ltb (decode p .given) revisions)
     stays : set A 3 (decode p .given) ≡ A
     stays = ap (set A 3) (sym (getD-set-other (p countersPart) 2 3 (suc (decode p .out)) 0 (λ f. absurd (omega arith)))) ∙ set-getD A 3 0
 
-module _ (d : List ℕ) (l : length d ≡ bytes) where
+module _ (d : List ℕ) (l : length d ≡ lowerBytes) where
   pub link-done : (d₁ d₂ : List ℕ) (u v : ℕ) → d₁ ≡ wrote d lowPart (set (split d lowPart) u (v % 256)) → d₂ ≡ wrote d₁ highPart (putHalf (split d₁ highPart) u (v / 256)) → d₂ ≡ glue (linkParts (split d) u v)
   link-done d₁ d₂ u v e₁ e₂ =
       let h = holds-split d l in

@@ -9,12 +9,12 @@ use Rattle.lists.specs.Lists.{restOf}
 use Rattle.lists.specs.Arranged.{insertBefore, remove}
 use Rattle.cells.specs.Sizes.{revisions, clients, stateOut, stateJoined}
 use Rattle.cells.specs.Parts.{Parts, _⟨_≔_⟩, seenPart, caughtPart, statePart, layoutPart, queuePart, countersPart}
-use Rattle.cells.specs.Marks.{pack}
+use Rattle.cells.specs.Flags.{pack}
 use Rattle.cells.specs.Decode.{decode}
 use Rattle.lists.specs.Pool.{forkPool, joinPool}
 use Rattle.cells.specs.CellSteps.{forkCaught, joinCaught}
 
--- b is joined into a: the marks, b's state, the layout, place i of the queue, and n revisions out
+-- b is joined into a: the flags, b's state, the layout, place i of the queue, and n revisions out
 abbrev pub retireParts : Parts → ℕ → ℕ → ℕ → ℕ → Parts
 retireParts p a b i n =
     let k = decode p in
@@ -26,7 +26,7 @@ retireParts p a b i n =
     ⟨ queuePart ≔ set (p queuePart) i b ⟩
     ⟨ countersPart ≔ set (p countersPart) 2 n ⟩
 
--- q's fork c is out: the marks, c's state, the layout, and n revisions out
+-- q's fork c is out: the flags, c's state, the layout, and n revisions out
 abbrev pub startParts : Parts → ℕ → ℕ → ℕ → Parts
 startParts p q c n =
     let k = decode p in

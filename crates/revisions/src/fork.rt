@@ -3,7 +3,7 @@ ghost use mathlib.Core.Path.{_≡_};
 ghost use mathlib.Core.Bool.{true};
 ghost use Prim.Native.Nat.{_<_, _≤_};
 ghost use lib.ListN.{length};
-ghost use Rattle.cells.specs.Sizes.{bytes, revisions};
+ghost use Rattle.cells.specs.Sizes.{lowerBytes, revisions};
 ghost use Rattle.cells.specs.Parts.{glue, split};
 ghost use Rattle.cells.specs.Range.{inRange};
 ghost use Rattle.cells.specs.Steps.{forkBytes};
@@ -14,9 +14,9 @@ use fields::table::Revision;
 use fields::table::Table;
 use fields::write;
 
-// The marks, the child's state and place, and the count of those out.
+// The flags, the child's state and place, and the count of those out.
 fn start(d: &mut [u8], parent: Revision, child: Revision, out: usize)
-    requires { ⌜ (length (now d) ≡ bytes) × (parent .0 < revisions) × (child .0 < revisions) × (out < 256) ⌝ }
+    requires { ⌜ (length (now d) ≡ lowerBytes) × (parent .0 < revisions) × (child .0 < revisions) × (out < 256) ⌝ }
     ensures { λ _. ⌜ now (d .exit) ≡ glue (startParts (split (now (d .entry))) (parent .0) (child .0) out) ⌝ }
 {
     write::fork_seen(d, parent, child);
@@ -28,7 +28,7 @@ fn start(d: &mut [u8], parent: Revision, child: Revision, out: usize)
 
 // The number given is one more used, or, where all are, it leaves the queue.
 fn use_number(d: &mut [u8], given: usize)
-    requires { ⌜ (length (now d) ≡ bytes) × (given ≤ revisions) ⌝ }
+    requires { ⌜ (length (now d) ≡ lowerBytes) × (given ≤ revisions) ⌝ }
     ensures { λ _. ⌜ now (d .exit) ≡ glue (numberParts (split (now (d .entry))) given) ⌝ }
 {
     if given < Table::REVISIONS {
@@ -40,7 +40,7 @@ fn use_number(d: &mut [u8], given: usize)
 
 // The parent forks the child, a number that is not the main revision's.
 pub fn fork(d: &mut [u8], parent: Revision, child: Revision)
-    requires { ⌜ (length (now d) ≡ bytes) × (inRange (now d) ≡ true) × (parent .0 < revisions) × (0 < child .0) × (child .0 < revisions) ⌝ }
+    requires { ⌜ (length (now d) ≡ lowerBytes) × (inRange (now d) ≡ true) × (parent .0 < revisions) × (0 < child .0) × (child .0 < revisions) ⌝ }
     ensures { λ _. ⌜ now (d .exit) ≡ forkBytes (now (d .entry)) (parent .0) (child .0) ⌝ }
 {
     let out = read::out(d) + 1;

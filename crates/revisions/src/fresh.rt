@@ -1,14 +1,14 @@
 // A new day: the main revision is out, and nothing has happened.
 ghost use mathlib.Core.Path.{_≡_};
 ghost use lib.ListN.{length};
-ghost use Rattle.cells.specs.Sizes.{bytes};
+ghost use Rattle.cells.specs.Sizes.{lowerBytes};
 ghost use Rattle.cells.specs.Steps.{freshBytes};
 use fields::table::Revision;
 use fields::table::Table;
 use fields::write;
 
 pub fn fresh(d: &mut [u8])
-    requires { ⌜ length (now d) ≡ bytes ⌝ }
+    requires { ⌜ length (now d) ≡ lowerBytes ⌝ }
     ensures { λ _. ⌜ now (d .exit) ≡ freshBytes ⌝ }
 {
     fields::fresh::clear(d);

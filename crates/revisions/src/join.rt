@@ -3,7 +3,7 @@ ghost use mathlib.Core.Path.{_≡_};
 ghost use mathlib.Core.Bool.{true};
 ghost use Prim.Native.Nat.{_-_, _<_};
 ghost use lib.ListN.{length};
-ghost use Rattle.cells.specs.Sizes.{bytes, revisions};
+ghost use Rattle.cells.specs.Sizes.{lowerBytes, revisions};
 ghost use Rattle.cells.specs.Parts.{glue, split};
 ghost use Rattle.cells.specs.Decode.{cells};
 ghost use Rattle.cells.specs.Range.{inRange};
@@ -17,7 +17,7 @@ use fields::write;
 
 // The first place of the queue that is not in use: as many are as numbers were given out and are not out.
 fn queue_end(d: &[u8]) -> usize
-    requires { ⌜ (length (now d) ≡ bytes) × (inRange (now d) ≡ true) ⌝ }
+    requires { ⌜ (length (now d) ≡ lowerBytes) × (inRange (now d) ≡ true) ⌝ }
     ensures { λ i. ⌜ (i ≡ cells (now (d .entry)) .given - cells (now (d .entry)) .out) × (i < revisions) ⌝ }
 {
     let given = read::given(d);
@@ -28,9 +28,9 @@ fn queue_end(d: &[u8]) -> usize
     given - out
 }
 
-// The marks, b's state and place, its number in the queue, and the count of those out.
+// The flags, b's state and place, its number in the queue, and the count of those out.
 fn retire(d: &mut [u8], a: Revision, b: Revision, place: usize, out: usize)
-    requires { ⌜ (length (now d) ≡ bytes) × (a .0 < revisions) × (b .0 < revisions) × (place < revisions) × (out < 256) ⌝ }
+    requires { ⌜ (length (now d) ≡ lowerBytes) × (a .0 < revisions) × (b .0 < revisions) × (place < revisions) × (out < 256) ⌝ }
     ensures { λ _. ⌜ now (d .exit) ≡ glue (retireParts (split (now (d .entry))) (a .0) (b .0) place out) ⌝ }
 {
     write::join_seen(d, a, b);
@@ -43,7 +43,7 @@ fn retire(d: &mut [u8], a: Revision, b: Revision, place: usize, out: usize)
 
 // How many updates a gained is the answer.
 pub fn join(d: &mut [u8], a: Revision, b: Revision) -> usize
-    requires { ⌜ (length (now d) ≡ bytes) × (inRange (now d) ≡ true) × (a .0 < revisions) × (b .0 < revisions) ⌝ }
+    requires { ⌜ (length (now d) ≡ lowerBytes) × (inRange (now d) ≡ true) × (a .0 < revisions) × (b .0 < revisions) ⌝ }
     ensures { λ n. ⌜ (n ≡ cells (now (d .entry)) .count (b .0)) × (now (d .exit) ≡ joinBytes (now (d .entry)) (a .0) (b .0)) ⌝ }
 {
     let gain = read::count(d, b);

@@ -4,7 +4,7 @@ ghost use mathlib.Core.Bool.{cond, true};
 ghost use Prim.Native.Nat.{_<_};
 ghost use lib.Dec.{eqb};
 ghost use lib.ListN.{length};
-ghost use Rattle.cells.specs.Sizes.{bytes, revisions, updates};
+ghost use Rattle.cells.specs.Sizes.{lowerBytes, revisions, updates};
 ghost use Rattle.cells.specs.Parts.{glue, split};
 ghost use Rattle.cells.specs.Decode.{cells};
 ghost use Rattle.cells.specs.Range.{inRange};
@@ -15,7 +15,7 @@ use fields::write;
 
 // The link of u is v.
 pub fn link(d: &mut [u8], u: usize, v: usize)
-    requires { ⌜ (length (now d) ≡ bytes) × (u < updates) × (v < updates) ⌝ }
+    requires { ⌜ (length (now d) ≡ lowerBytes) × (u < updates) × (v < updates) ⌝ }
     ensures { λ _. ⌜ now (d .exit) ≡ glue (linkParts (split (now (d .entry))) u v) ⌝ }
 {
     write::link_low(d, u, v % 256);
@@ -24,7 +24,7 @@ pub fn link(d: &mut [u8], u: usize, v: usize)
 
 // The first update of r's list, or u where the list is empty.
 fn first_or(d: &[u8], r: Revision, u: usize) -> usize
-    requires { ⌜ (length (now d) ≡ bytes) × (r .0 < revisions) × (u < 65536) ⌝ }
+    requires { ⌜ (length (now d) ≡ lowerBytes) × (r .0 < revisions) × (u < 65536) ⌝ }
     ensures { λ v. ⌜ (v ≡ cond (eqb (cells (now (d .entry)) .count (r .0)) 0) u (cells (now (d .entry)) .first (r .0))) × (v < 65536) ⌝ }
 {
     if read::count(d, r) == 0 {
@@ -35,7 +35,7 @@ fn first_or(d: &[u8], r: Revision, u: usize) -> usize
 
 // The next update number goes to the end of r's own list. The number is the answer.
 pub fn append(d: &mut [u8], r: Revision) -> usize
-    requires { ⌜ (length (now d) ≡ bytes) × (inRange (now d) ≡ true) × (r .0 < revisions) × (cells (now d) .updates < updates) ⌝ }
+    requires { ⌜ (length (now d) ≡ lowerBytes) × (inRange (now d) ≡ true) × (r .0 < revisions) × (cells (now d) .updates < updates) ⌝ }
     ensures { λ u. ⌜ (u ≡ cells (now (d .entry)) .updates) × (now (d .exit) ≡ glue (appendParts (split (now (d .entry))) (r .0))) ⌝ }
 {
     let u = read::updates(d);
@@ -52,7 +52,7 @@ pub fn append(d: &mut [u8], r: Revision) -> usize
 
 // b's own list goes to the end of a's, unless it is empty.
 pub fn splice(d: &mut [u8], a: Revision, b: Revision)
-    requires { ⌜ (length (now d) ≡ bytes) × (inRange (now d) ≡ true) × (a .0 < revisions) × (b .0 < revisions) ⌝ }
+    requires { ⌜ (length (now d) ≡ lowerBytes) × (inRange (now d) ≡ true) × (a .0 < revisions) × (b .0 < revisions) ⌝ }
     ensures { λ _. ⌜ now (d .exit) ≡ glue (spliceParts (split (now (d .entry))) (a .0) (b .0)) ⌝ }
 {
     if read::count(d, b) == 0 {

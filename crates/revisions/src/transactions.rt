@@ -2,7 +2,7 @@
 ghost use mathlib.Core.Path.{_≡_};
 ghost use Prim.Native.Nat.{_<_};
 ghost use lib.ListN.{length};
-ghost use Rattle.cells.specs.Sizes.{bytes, clients, revisions};
+ghost use Rattle.cells.specs.Sizes.{lowerBytes, clients, revisions};
 ghost use Rattle.cells.specs.Steps.{closeBytes, queryBytes};
 use fields::numbers::wide;
 use fields::table::Client;
@@ -12,7 +12,7 @@ use fields::write;
 
 // An event of c on r: c's transaction is on r, and c has caught up with r alone.
 pub fn open(d: &mut [u8], c: Client, r: Revision)
-    requires { ⌜ (length (now d) ≡ bytes) × (c .0 < clients) × (r .0 < revisions) ⌝ }
+    requires { ⌜ (length (now d) ≡ lowerBytes) × (c .0 < clients) × (r .0 < revisions) ⌝ }
     ensures { λ _. ⌜ now (d .exit) ≡ queryBytes (now (d .entry)) (c .0) (r .0) ⌝ }
 {
     write::caught_only(d, c, r);
@@ -21,7 +21,7 @@ pub fn open(d: &mut [u8], c: Client, r: Revision)
 
 // c's open transaction, if any, is closed.
 pub fn close(d: &mut [u8], c: Client)
-    requires { ⌜ (length (now d) ≡ bytes) × (c .0 < clients) ⌝ }
+    requires { ⌜ (length (now d) ≡ lowerBytes) × (c .0 < clients) ⌝ }
     ensures { λ _. ⌜ now (d .exit) ≡ closeBytes (now (d .entry)) (c .0) ⌝ }
 {
     write::opened(d, c, Table::CLOSED);

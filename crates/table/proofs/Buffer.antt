@@ -12,26 +12,26 @@ use Rattle.cells.specs.Range.{inRange}
 use Rattle.checks.specs.Answers.{rangeCheck}
 use Rattle.checks.specs.declared.range.RangeCheck.the-variants as range
 use Rattle.table.specs.Halves.{low, isTable}
-use Rattle.table.specs.Out.{bytes}
+use Rattle.table.specs.Out.{tableBytes}
 use Rattle.table.specs.Checks.{lengthCheck, tableCheck}
 use Rattle.table.specs.declared.sound.LengthCheck.the-variants as buffer
 use Rattle.table.specs.declared.sound.TableCheck.the-variants as table
 
 -- the length
-pub same-length : (t : List ℕ) → length t ≡ bytes → buffer.Right ≡ lengthCheck t
+pub same-length : (t : List ℕ) → length t ≡ tableBytes → buffer.Right ≡ lengthCheck t
 unfolding lengthCheck
-same-length t h = sym (ap (λ b. cond b buffer.Right buffer.Wrong) (eq-eqb (length t) bytes h))
+same-length t h = sym (ap (λ b. cond b buffer.Right buffer.Wrong) (eq-eqb (length t) tableBytes h))
 
-pub other-length : (t : List ℕ) → (length t ≡ bytes → ⊥) → buffer.Wrong ≡ lengthCheck t
+pub other-length : (t : List ℕ) → (length t ≡ tableBytes → ⊥) → buffer.Wrong ≡ lengthCheck t
 unfolding lengthCheck
-other-length t h = sym (ap (λ b. cond b buffer.Right buffer.Wrong) (ne-eqb (length t) bytes h))
+other-length t h = sym (ap (λ b. cond b buffer.Right buffer.Wrong) (ne-eqb (length t) tableBytes h))
 
-pub length-told : (t : List ℕ) → Told (eqb (length t) bytes) buffer.Right buffer.Wrong (lengthCheck t)
+pub length-told : (t : List ℕ) → Told (eqb (length t) tableBytes) buffer.Right buffer.Wrong (lengthCheck t)
 unfolding lengthCheck
 length-told t = told _ _ _ (λ h. cc)
 
-pub long : (t : List ℕ) → lengthCheck t ≡ buffer.Right → length t ≡ bytes
-long t e = eqb-true (length t) bytes (length-told t .holds e)
+pub long : (t : List ℕ) → lengthCheck t ≡ buffer.Right → length t ≡ tableBytes
+long t e = eqb-true (length t) tableBytes (length-told t .holds e)
 
 -- the length, then the cells
 and-left : {A : Type 0} (a b : Bool) (x y : A) → a ≡ false → y ≡ cond (a && b) x y
@@ -56,12 +56,12 @@ unfolding tableCheck isTable rangeCheck
 right-cells t h e = and-both _ _ _ _ (length-told t .holds h) (held _ _ _ _ (λ d. cc) e .0)
 
 -- what the calls go on with
-pub is-table : (t : List ℕ) → tableCheck t ≡ table.Sound → (isTable t ≡ true) × (length t ≡ bytes) × (inRange (low t) ≡ true)
+pub is-table : (t : List ℕ) → tableCheck t ≡ table.Sound → (isTable t ≡ true) × (length t ≡ tableBytes) × (inRange (low t) ≡ true)
 unfolding tableCheck isTable
 is-table t e =
     let h = held (isTable t) _ _ _ (λ d. cc) e .0 in
-    let p = and-true (eqb (length t) bytes) (inRange (low t)) h in
-    (h, eqb-true (length t) bytes (p .0), p .1)
+    let p = and-true (eqb (length t) tableBytes) (inRange (low t)) h in
+    (h, eqb-true (length t) tableBytes (p .0), p .1)
 
 pub no-table : (t : List ℕ) → tableCheck t ≡ table.Damaged → isTable t ≡ false
 unfolding tableCheck

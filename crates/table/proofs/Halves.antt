@@ -9,15 +9,15 @@ use borrow.Rule.Slice.PartMut.{midOf, putMid}
 use Rattle.cells.specs.Sizes as Lower
 use Rattle.entries.specs.Sizes as Upper
 use Rattle.table.specs.Halves.{low, high}
-use Rattle.table.specs.Out.{bytes}
+use Rattle.table.specs.Out.{tableBytes}
 
-pub low-of : (a b : List ℕ) → length a ≡ Lower.bytes → low (a ++ b) ≡ a
+pub low-of : (a b : List ℕ) → length a ≡ Lower.lowerBytes → low (a ++ b) ≡ a
 unfolding low
-low-of a b h = take-at a b Lower.bytes h
+low-of a b h = take-at a b Lower.lowerBytes h
 
-pub high-of : (a b : List ℕ) → length a ≡ Lower.bytes → high (a ++ b) ≡ b
+pub high-of : (a b : List ℕ) → length a ≡ Lower.lowerBytes → high (a ++ b) ≡ b
 unfolding high
-high-of a b h = drop-at a b Lower.bytes h
+high-of a b h = drop-at a b Lower.lowerBytes h
 
 front-lent : (k : ℕ) (f : List ℕ → List ℕ) (t q : List ℕ) → q ≡ f (midOf 0 k t) → putMid 0 k t q ≡ f (take k t) ++ drop k t
 front-lent k f t q e = ap (λ x. x ++ drop k t) e
@@ -34,19 +34,19 @@ first-length a k t h = simp length-take (omega arith)
 last-length : (a k : ℕ) (t : List ℕ) → length t ≡ a + k → length (midOf a k t) ≡ k
 last-length a k t h = simp (length-take, length-drop) (omega arith)
 
-pub low-length : (t : List ℕ) → length t ≡ bytes → length (midOf 0 40960 t) ≡ Lower.bytes
+pub low-length : (t : List ℕ) → length t ≡ tableBytes → length (midOf 0 40960 t) ≡ Lower.lowerBytes
 low-length t h = first-length 40960 24576 t h
 
-pub high-length : (t : List ℕ) → length t ≡ bytes → length (midOf 40960 24576 t) ≡ Upper.bytes
+pub high-length : (t : List ℕ) → length t ≡ tableBytes → length (midOf 40960 24576 t) ≡ Upper.entryBytes
 high-length t h = last-length 40960 24576 t h
 
 to-end : (a k : ℕ) (t : List ℕ) → length t ≡ a + k → take k (drop a t) ≡ drop a t
 to-end a k t h = take-all k (drop a t) (rw length-drop (omega arith))
 
-pub high-whole : (t : List ℕ) → length t ≡ bytes → take Upper.bytes (high t) ≡ high t
+pub high-whole : (t : List ℕ) → length t ≡ tableBytes → take Upper.entryBytes (high t) ≡ high t
 unfolding high
-high-whole t h = to-end Lower.bytes Upper.bytes t h
+high-whole t h = to-end Lower.lowerBytes Upper.entryBytes t h
 
-pub upper-length : (t : List ℕ) → length t ≡ bytes → length (high t) ≡ Upper.bytes
+pub upper-length : (t : List ℕ) → length t ≡ tableBytes → length (high t) ≡ Upper.entryBytes
 unfolding high
 upper-length t h = rw length-drop (omega (arith, h))

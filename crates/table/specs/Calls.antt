@@ -21,9 +21,9 @@ use Rattle.entries.specs.Sizes as Upper
 use Rattle.entries.specs.Stored.{entry}
 use Rattle.entries.specs.Entries.{entryAt, wrote}
 use Rattle.entries.specs.Folded.{standingOf}
-use Rattle.listing.specs.Sheet.{sheet}
+use Rattle.sheets.specs.Sheet.{sheet}
 use Rattle.table.specs.Halves.{low, high, cellsOf, isTable}
-use Rattle.table.specs.Out.{bytes}
+use Rattle.table.specs.Out.{tableBytes}
 use Rattle.table.specs.Answers.{refused, taken, answered, afterTaken}
 use Rattle.table.specs.Out.{Out}
 use Rattle.table.specs.declared.answer.Level.{Level}
@@ -52,7 +52,7 @@ asked t = record {
 
 -- fresh: of 1, the length only
 unfoldable pub freshOut : List ℕ → Out
-freshOut t = settle (1 if not (eqb (length t) bytes) ∷ []) (refused t) (taken (freshBytes ++ replicate Upper.bytes 0) 0)
+freshOut t = settle (1 if not (eqb (length t) tableBytes) ∷ []) (refused t) (taken (freshBytes ++ replicate Upper.entryBytes 0) 0)
 
 unfoldable pub updateOut : List ℕ → ℕ → ℕ → ℕ → ℕ → ℕ → Out
 updateOut t c n k bib v =

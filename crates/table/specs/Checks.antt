@@ -13,7 +13,7 @@ use Rattle.fields.specs.declared.table.Client.{Client}
 use Rattle.fields.specs.declared.table.Revision.{Revision}
 use Rattle.checks.specs.Answers.{clientCheck, givenCheck}
 use Rattle.table.specs.Halves.{isTable}
-use Rattle.table.specs.Out.{bytes}
+use Rattle.table.specs.Out.{tableBytes}
 use Rattle.table.specs.Found.{onClient, onGiven, onPair}
 use Rattle.table.specs.declared.sound.LengthCheck.{LengthCheck}
 use Rattle.table.specs.declared.sound.LengthCheck.the-variants as buffer
@@ -34,7 +34,7 @@ tableCheck t = cond (isTable t) table.Sound table.Damaged
 
 -- of fresh: 1 for the length only
 unfoldable pub lengthCheck : List ℕ → LengthCheck
-lengthCheck t = cond (eqb (length t) bytes) buffer.Right buffer.Wrong
+lengthCheck t = cond (eqb (length t) tableBytes) buffer.Right buffer.Wrong
 
 -- 5 "bib above 999"
 unfoldable pub bibCheck : ℕ → BibCheck

@@ -9,7 +9,7 @@ use Rattle.cells.specs.Cells.{Cells}
 use Rattle.cells.specs.Order.{order}
 use Rattle.cells.specs.Checks.{givenOut, joined}
 use Rattle.entries.specs.Entries.{entryAt}
-use Rattle.listing.specs.Sheet.{sheet}
+use Rattle.sheets.specs.Sheet.{sheet}
 use Rattle.table.specs.Halves.{high, cellsOf}
 use Rattle.table.specs.Answers.{refused, taken}
 use Rattle.table.specs.Out.{Out}

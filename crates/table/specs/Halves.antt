@@ -4,17 +4,17 @@ use mathlib.Core.Bool.{Bool, _&&_}
 use mathlib.Core.List.{List}
 use lib.Dec.{eqb}
 use lib.ListN.{length, take, drop}
-use Rattle.table.specs.Out.{bytes}
+use Rattle.table.specs.Out.{tableBytes}
 use Rattle.cells.specs.Sizes as Lower
 use Rattle.cells.specs.Cells.{Cells}
 use Rattle.cells.specs.Decode.{cells}
 use Rattle.cells.specs.Range.{inRange}
 
 unfoldable pub low : List ℕ → List ℕ
-low t = take Lower.bytes t
+low t = take Lower.lowerBytes t
 
 unfoldable pub high : List ℕ → List ℕ
-high t = drop Lower.bytes t
+high t = drop Lower.lowerBytes t
 
 -- the cells that the checks look at
 abbrev pub cellsOf : List ℕ → Cells
@@ -22,4 +22,4 @@ cellsOf t = cells (low t)
 
 -- code 1: "buffer length isn't 65,536, or a cell is out of its range"; the entries have every byte in range
 unfoldable pub isTable : List ℕ → Bool
-isTable t = eqb (length t) bytes && inRange (low t)
+isTable t = eqb (length t) tableBytes && inRange (low t)

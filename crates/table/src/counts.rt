@@ -4,20 +4,20 @@ ghost use Prim.Native.Nat.{_<_};
 ghost use lib.ListN.{length};
 ghost use Rattle.cells.specs.Sizes.{revisions};
 ghost use Rattle.table.specs.Halves.{cellsOf};
-ghost use Rattle.table.specs.Out.{bytes};
+ghost use Rattle.table.specs.Out.{tableBytes};
 use fields::read;
 use fields::table::Revision;
 use fields::table::Table;
 
 pub fn taken(t: &[u8]) -> usize
-    requires { ⌜ length (now t) ≡ bytes ⌝ }
+    requires { ⌜ length (now t) ≡ tableBytes ⌝ }
     ensures { λ n. ⌜ (n ≡ cellsOf (now (t .entry)) .updates) × (n < 65536) ⌝ }
 {
     read::updates(&t[0..Table::LOWER])
 }
 
 pub fn own(t: &[u8], r: Revision) -> usize
-    requires { ⌜ (length (now t) ≡ bytes) × (r .0 < revisions) ⌝ }
+    requires { ⌜ (length (now t) ≡ tableBytes) × (r .0 < revisions) ⌝ }
     ensures { λ n. ⌜ (n ≡ cellsOf (now (t .entry)) .count (r .0)) × (n < 65536) ⌝ }
 {
     read::count(&t[0..Table::LOWER], r)

@@ -40,7 +40,7 @@ impl EventCheck {
 
 // 2, 3, 4: a client, and a revision that is out.
 pub fn check_place(d: &[u8], client: u8, revision: u8) -> EventCheck
-    requires { ⌜ length (now d) ≡ Lower.bytes ⌝ }
+    requires { ⌜ length (now d) ≡ Lower.lowerBytes ⌝ }
     ensures { λ a. ⌜ (a ≡ placeCheck (now (d .entry)) client revision) × eventIn a ⌝ }
 {
     let ClientCheck::Known(c) = check_client(client) else {
@@ -57,7 +57,7 @@ pub fn check_place(d: &[u8], client: u8, revision: u8) -> EventCheck
 
 // 6, 7, 8: the client may have its next event on the revision.
 pub fn check_turn(d: &[u8], c: Client, r: Revision) -> EventCheck
-    requires { ⌜ (length (now d) ≡ Lower.bytes) × (c .0 < clients) × (r .0 < revisions) ⌝ }
+    requires { ⌜ (length (now d) ≡ Lower.lowerBytes) × (c .0 < clients) × (r .0 < revisions) ⌝ }
     ensures { λ a. ⌜ (a ≡ turnCheck (now (d .entry)) c r) × eventIn a ⌝ }
 {
     let OpenCheck::Clear = check_open(d, c, r) else {

@@ -30,7 +30,7 @@ impl IdleCheck {
 }
 
 pub fn check_idle(d: &[u8], n: u8) -> IdleCheck
-    requires { ⌜ length (now d) ≡ Lower.bytes ⌝ }
+    requires { ⌜ length (now d) ≡ Lower.lowerBytes ⌝ }
     ensures { λ r. ⌜ r ≡ idleCheck (now (d .entry)) n ⌝ }
 {
     let GivenCheck::Given(r) = check_given(d, n) else {

@@ -18,7 +18,7 @@ use fields::table::Revision;
 
 // 3 and 4 of the joiner and the joinee.
 fn check_both(d: &[u8], joiner: u8, joinee: u8) -> PairCheck
-    requires { ⌜ length (now d) ≡ Lower.bytes ⌝ }
+    requires { ⌜ length (now d) ≡ Lower.lowerBytes ⌝ }
     ensures { λ r. ⌜ (r ≡ bothCheck (now (d .entry)) joiner joinee) × pairIn r ⌝ }
 {
     let GivenCheck::Given(a) = check_given(d, joiner) else {
@@ -38,7 +38,7 @@ fn check_both(d: &[u8], joiner: u8, joinee: u8) -> PairCheck
 
 // 7 of both, and 11.
 fn check_may_join(d: &[u8], a: Revision, b: Revision) -> PairCheck
-    requires { ⌜ (length (now d) ≡ Lower.bytes) × (a .0 < revisions) × (b .0 < revisions) ⌝ }
+    requires { ⌜ (length (now d) ≡ Lower.lowerBytes) × (a .0 < revisions) × (b .0 < revisions) ⌝ }
     ensures { λ r. ⌜ (r ≡ mayJoinCheck (now (d .entry)) a b) × pairIn r ⌝ }
 {
     let UseCheck::Free = check_use(d, a) else {
@@ -55,7 +55,7 @@ fn check_may_join(d: &[u8], a: Revision, b: Revision) -> PairCheck
 
 // Checks 3, 4, 7, 11.
 pub fn check_join(d: &[u8], joiner: u8, joinee: u8) -> PairCheck
-    requires { ⌜ length (now d) ≡ Lower.bytes ⌝ }
+    requires { ⌜ length (now d) ≡ Lower.lowerBytes ⌝ }
     ensures { λ r. ⌜ (r ≡ joinCheck (now (d .entry)) joiner joinee) × pairIn r ⌝ }
 {
     let found = check_both(d, joiner, joinee);

@@ -7,13 +7,13 @@ ghost use Rattle.cells.specs.Sizes.{revisions, updates};
 ghost use Rattle.cells.specs.Order.{order};
 ghost use Rattle.cells.specs.Range.{inRange};
 ghost use Rattle.table.specs.Halves.{cellsOf, low};
-ghost use Rattle.table.specs.Out.{bytes};
+ghost use Rattle.table.specs.Out.{tableBytes};
 use fields::table::Revision;
 use fields::table::Table;
 
 // The order of r into the first places of `out`; how many entries it has.
 pub fn visible(t: &[u8], r: Revision, out: &mut [u16]) -> usize
-    requires { ⌜ (length (now t) ≡ bytes) × (inRange (low (now t)) ≡ true) × (r .0 < revisions) × (length (now out) ≡ updates) ⌝ }
+    requires { ⌜ (length (now t) ≡ tableBytes) × (inRange (low (now t)) ≡ true) × (r .0 < revisions) × (length (now out) ≡ updates) ⌝ }
     ensures { λ n. ⌜ (n ≤ updates) × (n ≤ length (now (out .exit))) × (n ≡ length (order (cellsOf (now (t .entry))) (r .0))) × (take n (now (out .exit)) ≡ order (cellsOf (now (t .entry))) (r .0)) ⌝ }
 {
     order::visible::list(&t[0..Table::LOWER], r, out)

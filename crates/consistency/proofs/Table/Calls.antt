@@ -31,7 +31,7 @@ use Rattle.entries.specs.Sizes as Upper
 use Rattle.entries.specs.Stored.{entry}
 use Rattle.entries.specs.Entries.{entryAt, wrote}
 use Rattle.entries.proofs.Entries.{entry-wrote, wrote-length}
-use Rattle.listing.specs.Sheet.{sheet}
+use Rattle.sheets.specs.Sheet.{sheet}
 use Rattle.plain.specs.Record.{PlainDay, noted}
 use Rattle.plain.specs.Answers as Plain
 use Rattle.plain.specs.Answers.{Outcome, called, ending, stepped}

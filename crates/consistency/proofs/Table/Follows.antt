@@ -12,7 +12,7 @@ use Rattle.entries.specs.Sizes as Upper
 use Rattle.desk.specs.Calls.{Call, Update, Query, Yield, Fork, Join, Bundle, Looks, Look, Show, Fill, Preview, Records, Entries, callOn, lookOn}
 use Rattle.plain.specs.Record.{PlainDay, freshDay}
 use Rattle.plain.specs.Answers.{called, answers, answersFrom, dayFrom}
-use Rattle.table.specs.Out.{bytes}
+use Rattle.table.specs.Out.{tableBytes}
 use Rattle.table.specs.Calls.{freshOut}
 use Rattle.table.proofs.Halves.{low-of}
 use Rattle.following.specs.Reached.{bytesAfter, bytesFrom}
@@ -35,7 +35,7 @@ module _ (p : PlainDay) (t : List ℕ) (S : Stands p t) where
   call-same (Yield c) = yield-same p t S c
   call-same (Fork n) = fork-same p t S n
   call-same (Join n m) = join-same p t S n m
-  call-same (Bundle c n (Records bytes)) = bundle-same p t S c n bytes
+  call-same (Bundle c n (Records tableBytes)) = bundle-same p t S c n tableBytes
   call-same (Bundle c n (Entries es)) = entries-same p t S c n es
   call-same (Looks l) = look-same l
 
@@ -43,20 +43,20 @@ filled : (a : List ℕ) (n m k : ℕ) → length a ≡ n → n + m ≡ k → len
 filled a n m k e f = length-append a (replicate m 0) ∙ rw (e, length-replicate {A = ℕ} m 0) f
 
 -- a fresh table stands for the fresh day
-pub fresh-stands : (t : List ℕ) → length t ≡ bytes → Stands freshDay (freshOut t .lent)
+pub fresh-stands : (t : List ℕ) → length t ≡ tableBytes → Stands freshDay (freshOut t .lent)
 unfolding freshOut bytesAfter bytesFrom run runFrom
 fresh-stands t h =
-    rw (eq-eqb (length t) bytes h)
+    rw (eq-eqb (length t) tableBytes h)
     (record {
       steps = [];
       ok = tt;
       day-is = refl;
-      low-is = low-of freshBytes (replicate Upper.bytes 0) fresh-size;
-      size = filled freshBytes Lower.bytes Upper.bytes bytes fresh-size refl;
+      low-is = low-of freshBytes (replicate Upper.entryBytes 0) fresh-size;
+      size = filled freshBytes Lower.lowerBytes Upper.entryBytes tableBytes fresh-size refl;
       entries-are = λ n k. absurd (omega arith);
     })
   where
-    fresh-size : length freshBytes ≡ Lower.bytes
+    fresh-size : length freshBytes ≡ Lower.lowerBytes
     fresh-size = bytes-follow [] tt .size
 
 replies-from : (qs : List (Call (List ℕ))) (p : PlainDay) (t : List ℕ) → Stands p t → repliesOn t qs ≡ replies qs (answersFrom p (calls qs))
@@ -74,8 +74,8 @@ unfolding tableAfter dayFrom
 stands-after [] p t S = S
 stands-after (q ∷ qs) p t S = stands-after qs (called p (callOn length q) .next) (served t q .table) (call-same p t S q .stands)
 
-pub table-follows : (t : List ℕ) → length t ≡ bytes
+pub table-follows : (t : List ℕ) → length t ≡ tableBytes
     → (freshOut t .code ≡ 0) × (freshOut t .value ≡ 0) × ((qs : List (Call (List ℕ))) → repliesOn (freshOut t .lent) qs ≡ replies qs (answers (calls qs)))
 unfolding answers freshOut
 table-follows t h =
-    (rw (eq-eqb (length t) bytes h), rw (eq-eqb (length t) bytes h), λ qs. replies-from qs freshDay (freshOut t .lent) (fresh-stands t h))
+    (rw (eq-eqb (length t) tableBytes h), rw (eq-eqb (length t) tableBytes h), λ qs. replies-from qs freshDay (freshOut t .lent) (fresh-stands t h))

@@ -15,7 +15,7 @@ use Rattle.entries.specs.Sizes as Upper
 use Rattle.entries.specs.Entries.{entryAt}
 use Rattle.plain.specs.Record.{PlainDay}
 use Rattle.table.specs.Halves.{low, high, cellsOf, isTable}
-use Rattle.table.specs.Out.{bytes}
+use Rattle.table.specs.Out.{tableBytes}
 use Rattle.table.proofs.Halves.{low-of, high-of}
 use Rattle.following.specs.Reached.{byNumber, bytesAfter, bytesFrom, stepBytes}
 use Rattle.following.specs.Follow.{BytesFollow}
@@ -28,7 +28,7 @@ pub record Stands (p : PlainDay) (t : List ℕ) : Type 0 where
   pub ok : Accepted steps
   pub day-is : p .day ≡ run steps
   pub low-is : low t ≡ bytesAfter steps
-  pub size : length t ≡ bytes
+  pub size : length t ≡ tableBytes
   pub entries-are : (n : ℕ) → n < p .day .updates → entryAt (high t) n ≡ p .entries n
 
 bytes-both : (ss : List Step) (s : Step) (y : Day) (d : List ℕ) → bytesFrom y d (ss ++ (s ∷ [])) ≡ stepBytes (bytesFrom y d ss) (byNumber (runFrom y ss) s)
@@ -53,14 +53,14 @@ module _ (p : PlainDay) (t : List ℕ) (S : Stands p t) where
 
   pub is-table : isTable t ≡ true
   unfolding isTable
-  is-table = rw (eq-eqb (length t) bytes (S .size), bytes-are .ranged)
+  is-table = rw (eq-eqb (length t) tableBytes (S .size), bytes-are .ranged)
 
-  pub high-size : length (high t) ≡ Upper.bytes
+  pub high-size : length (high t) ≡ Upper.entryBytes
   unfolding high
-  high-size = length-drop Lower.bytes t ∙ omega (arith, S .size)
+  high-size = length-drop Lower.lowerBytes t ∙ omega (arith, S .size)
 
   -- a step taken, with any upper half that has the entries
-  pub stands-next : (s : Step) → accepted (p .day) s ≡ true → (q : PlainDay) → q .day ≡ after (p .day) s → (h : List ℕ) → length h ≡ Upper.bytes
+  pub stands-next : (s : Step) → accepted (p .day) s ≡ true → (q : PlainDay) → q .day ≡ after (p .day) s → (h : List ℕ) → length h ≡ Upper.entryBytes
       → ((n : ℕ) → n < q .day .updates → entryAt h n ≡ q .entries n) → Stands q (stepBytes (low t) (byNumber (p .day) s) ++ h)
   stands-next s e q d h l f = let w = byNumber (p .day) s in record {
     steps = S .steps ++ (s ∷ []);
@@ -77,5 +77,5 @@ module _ (p : PlainDay) (t : List ℕ) (S : Stands p t) where
       is : stepBytes (low t) (byNumber (p .day) s) ≡ bytesAfter (S .steps ++ (s ∷ []))
       is = ap (λ z. stepBytes z (byNumber (p .day) s)) (S .low-is) ∙ ap (λ z. stepBytes (bytesAfter (S .steps)) (byNumber z s)) (S .day-is) ∙ sym (bytes-step (S .steps) s)
 
-      size′ : length (stepBytes (low t) (byNumber (p .day) s)) ≡ Lower.bytes
+      size′ : length (stepBytes (low t) (byNumber (p .day) s)) ≡ Lower.lowerBytes
       size′ = ap length is ∙ bytes-follow (S .steps ++ (s ∷ [])) ok′ .size

@@ -15,8 +15,8 @@ use Rattle.cells.specs.Order.{order}
 use Rattle.entries.specs.declared.entry.Entry.{Entry}
 use Rattle.entries.specs.Entries.{entryAt}
 use Rattle.entries.specs.Folded as Folded
-use Rattle.listing.specs.Lines.{line}
-use Rattle.listing.specs.Sheet.{lines, sheet}
+use Rattle.sheets.specs.Lines.{line}
+use Rattle.sheets.specs.Sheet.{lines, sheet}
 use Rattle.plain.specs.Record as Plain
 use Rattle.plain.specs.Record.{PlainDay, linesOf, pathResult}
 use Rattle.plain.specs.Answers.{stepped}

@@ -13,7 +13,7 @@ use Rattle.machine.specs.Machine.{Machine}
 use Rattle.diagram.specs.Steps.{Event, Fork, Join, Step, Yield}
 use Rattle.diagram.specs.Accepted.{accepted}
 use Rattle.diagram.proofs.Days.Moves.{can-enter, can-fork, can-join, can-yield}
-use Rattle.cells.specs.Sizes.{bytes, clients, main, revisions}
+use Rattle.cells.specs.Sizes.{lowerBytes, clients, main, revisions}
 use Rattle.cells.specs.Parts.{Parts, Sized, closedPart, glue, signaturePart, singlePart, size, split, usedPart}
 use Rattle.cells.specs.Words.{byte, word}
 use Rattle.cells.specs.Cells.{Cells, nextNumber}
@@ -42,7 +42,7 @@ HiddenIn p = Hidden (p usedPart) (p singlePart) (p closedPart) (p signaturePart)
 
 -- bytes that keep cells k
 pub record Stored (d : List ℕ) (k : Cells) : Type 0 where
-  pub size-is : length d ≡ bytes
+  pub size-is : length d ≡ lowerBytes
   pub cells-are : cells d ≡ k
   pub hidden : HiddenIn (split d)
 
@@ -63,7 +63,7 @@ fresh-stored = stored freshParts freshCells fresh-sized fresh-follows (record {
 used-set : (l : List ℕ) (c v : ℕ) → ((r : ℕ) → r < revisions → byte l r < 2) → v < 2 → c < length l → (r : ℕ) → r < revisions → byte (set l c v) r < 2
 used-set l c v h g n r rl = rw (getD-changed l c v 0 r n) (cases (eqb r c) (λ e. rw e g) (λ e. rw e (h r rl)))
 
-module _ (y : Day) (m : Machine) (d : List ℕ) (K : Kept y m (cells d)) (size-is : length d ≡ bytes) (u : HiddenIn (split d)) where
+module _ (y : Day) (m : Machine) (d : List ℕ) (K : Kept y m (cells d)) (size-is : length d ≡ lowerBytes) (u : HiddenIn (split d)) where
   abbrev p : Parts
   p = split d
 

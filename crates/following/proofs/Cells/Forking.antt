@@ -24,7 +24,7 @@ use Rattle.diagram.proofs.Days.Moves.{CanFork}
 use Rattle.diagram.proofs.Days.Naming.{fork-count, meant-low, meant-new, meant-old, next-apart, number-new, number-old}
 use Rattle.machine.specs.Machine.{Machine, forkOn}
 use Rattle.cells.specs.Sizes.{clients, main, revisions, updates}
-use Rattle.cells.specs.Cells.{Cells, chain, freed, marked, nextNumber, own}
+use Rattle.cells.specs.Cells.{Cells, chain, freed, flagged, nextNumber, own}
 use Rattle.cells.specs.CellSteps.{forkCells, forkGiven, forkRow}
 use Rattle.cells.proofs.Places.{fork-freed, fork-freed-first, fork-outs, insert-length, shift-length}
 use Rattle.cells.proofs.Follow.{bounded}
@@ -107,13 +107,13 @@ module _ (y : Day) (m : Machine) (k : Cells) (h : Represents y m k) (L : Laid y 
   fork-first : (x : ℕ) → x ∈ m′ .layout → (f : ℕ) (l : List ℕ) → m′ .own x ≡ f ∷ l → k .first (numberOf y′ x) ≡ f
   fork-first x j f l = cases (eqb x R) (λ e. rw e (λ q. cc)) (λ e. let o = old x j e in rw (e, old-of x o) (h .first-is x o f l))
 
-  -- what is marked at p, or p's own, has a number
-  low-mark : (v : ℕ) → (marked k n v || member v (m .own p)) ≡ true → v < updates
-  low-mark v e =
+  -- what is flagged at p, or p's own, has a number
+  low-flag : (v : ℕ) → (flagged k n v || member v (m .own p)) ≡ true → v < updates
+  low-flag v e =
       let few = h .updates-few in
       let is = h .updates-is in
-      let l : v < m .updates = either (or-cases (marked k n v) (member v (m .own p)) e)
-      (λ a. L .inherited-low p i v (member-in v (m .inherited p) (h .inherited-is p i v ∙ or-right (member v (take (k .base n) (m .own main))) (marked k n v) a)))
+      let l : v < m .updates = either (or-cases (flagged k n v) (member v (m .own p)) e)
+      (λ a. L .inherited-low p i v (member-in v (m .inherited p) (h .inherited-is p i v ∙ or-right (member v (take (k .base n) (m .own main))) (flagged k n v) a)))
       (λ a. L .own-low p i v (member-in v (m .own p) a)) in
       omega arith
 
@@ -125,7 +125,7 @@ module _ (y : Day) (m : Machine) (k : Cells) (h : Represents y m k) (L : Laid y 
 
   from-other : (v : ℕ) → member v (m .inherited p ++ m .own p) ≡ (member v (take (k .base n) (m .own main)) || forkRow k n v)
   from-other v =
-      rw (member-++, h .inherited-is p i v, or-assoc, h .own-is p i, bounded (marked k n v || member v (m .own p)) v updates (low-mark v))
+      rw (member-++, h .inherited-is p i v, or-assoc, h .own-is p i, bounded (flagged k n v || member v (m .own p)) v updates (low-flag v))
 
   new-inherited : (v : ℕ)
       → member v (m .inherited p ++ m .own p) ≡ (member v (take (cond (eqb n main) (k .count main) (k .base n)) (m .own main)) || (cond (eqb n main) false true && k′ .row c v))
@@ -138,7 +138,7 @@ module _ (y : Day) (m : Machine) (k : Cells) (h : Represents y m k) (L : Laid y 
   old-row : (x v : ℕ) → eqb x c ≡ false → k′ .row x v ≡ k .row x v
   old-row x v e = cases (eqb n main) (λ q. rw q) (λ q. rw (q, e))
 
-  fork-inherited : (x : ℕ) → x ∈ m′ .layout → (v : ℕ) → member v (m′ .inherited x) ≡ (member v (take (k′ .base (numberOf y′ x)) (m′ .own main)) || marked k′ (numberOf y′ x) v)
+  fork-inherited : (x : ℕ) → x ∈ m′ .layout → (v : ℕ) → member v (m′ .inherited x) ≡ (member v (take (k′ .base (numberOf y′ x)) (m′ .own main)) || flagged k′ (numberOf y′ x) v)
   fork-inherited x j v =
       rw main-own
       (cases (eqb x R)
@@ -153,7 +153,7 @@ module _ (y : Day) (m : Machine) (k : Cells) (h : Represents y m k) (L : Laid y 
       (λ e. rw (new-of x e, eq-eqb c c refl) (cases (eqb n main) (λ q. rw q (omega arith)) (λ q. rw q (h .base-few p i))))
       (λ e. let o = old x j e in rw (old-of x o, old-test x o) (h .base-few x o)))
 
-  -- marks
+  -- flags
   sender : (x : ℕ) → x ∈ m′ .layout → eqb (numberOf y′ x) n ≡ eqb x p
   sender x j =
       cases (eqb x R)

@@ -56,8 +56,8 @@ module _ (y : Day) (m : Machine) (A : Agree y m) (N : Named y) where
   abbrev d : Diagram
   d = y .diagram
 
-  abbrev R : Real y (A .marked .fine .layout)
-  R = A .marked .fine .sound .real
+  abbrev R : Real y (A .flagged .fine .layout)
+  R = A .flagged .fine .sound .real
 
   out : (r : ℕ) → r ∈ m .layout → IsOut y r
   out r i = R .back r (rw (A .same-layout) i)
@@ -81,7 +81,7 @@ module _ (y : Day) (m : Machine) (A : Agree y m) (N : Named y) where
       by none p f = let z : _≡_ {A = ℕ} 0 1 = cc in absurd (omega arith)
       by (some t) p f =
           let z : y .transaction t .revision ≡ r = cc in
-          subst (λ x. x ∈ m .layout) z (rw (A .same-layout) at (R .out (y .transaction t .revision) (A .marked .fine .sound .runs c t p .out)))
+          subst (λ x. x ∈ m .layout) z (rw (A .same-layout) at (R .out (y .transaction t .revision) (A .flagged .fine .sound .runs c t p .out)))
 
   pub laid : Laid y m
   laid =

@@ -20,7 +20,7 @@ use Rattle.lists.proofs.Sublists.{nodup-apart, ⊑-⊆}
 use Rattle.diagram.specs.Day.{Day, numberOf}
 use Rattle.machine.specs.Machine.{Machine, shown}
 use Rattle.cells.specs.Sizes.{main, updates}
-use Rattle.cells.specs.Cells.{Cells, marked}
+use Rattle.cells.specs.Cells.{Cells, flagged}
 use Rattle.cells.specs.Order.{inherited, order}
 use Rattle.following.proofs.Cells.Laid.{Laid, apart, same-number}
 use Rattle.following.proofs.Cells.Represents.{Represents}
@@ -42,17 +42,17 @@ module _ (y : Day) (m : Machine) (k : Cells) (h : Represents y m k) (L : Laid y 
   whole : front ++ back ≡ m .own main
   whole = take-append-drop (k .base n) (m .own main)
 
-  -- what is not inherited by count is inherited if it is marked
-  outside : (l : List ℕ) → Apart front l → keep came l ≡ keep (marked k n) l
-  outside l a = keep-in came (marked k n) l (λ u j. h .inherited-is r i u ∙ cases (member u front) (λ e. absurd (a u (member-in u front e) j)) (λ e. rw e))
+  -- what is not inherited by count is inherited if it is flagged
+  outside : (l : List ℕ) → Apart front l → keep came l ≡ keep (flagged k n) l
+  outside l a = keep-in came (flagged k n) l (λ u j. h .inherited-is r i u ∙ cases (member u front) (λ e. absurd (a u (member-in u front e) j)) (λ e. rw e))
 
   once : List·Nodup (front ++ back)
   once = rw whole (flatBack-nodup (m .own) main (m .layout) (h .main-out) (L .once))
 
   by-count : (u : ℕ) → u ∈ front → came u ≡ true
-  by-count u o = h .inherited-is r i u ∙ or-left (member u front) (marked k n u) (in-member u front o)
+  by-count u o = h .inherited-is r i u ∙ or-left (member u front) (flagged k n u) (in-member u front o)
 
-  main-picked : keep came (m .own main) ≡ front ++ keep (marked k n) back
+  main-picked : keep came (m .own main) ≡ front ++ keep (flagged k n) back
   main-picked = ap (keep came) (sym whole) ∙ keep-++ came front back ∙ rw (keep-all came front by-count, outside back (nodup-apart front back once))
 
   -- of each own list the cells pick what r inherited

@@ -17,7 +17,7 @@ use Rattle.diagram.specs.Day.{Day, numberOf, outCount}
 use Rattle.diagram.proofs.Days.Found.{found}
 use Rattle.machine.specs.Machine.{Machine}
 use Rattle.cells.specs.Sizes.{clients, closed, main, revisions, stateJoined, stateNever, stateOut, updates}
-use Rattle.cells.specs.Cells.{Cells, freed, marked, nextNumber, outs, own}
+use Rattle.cells.specs.Cells.{Cells, freed, flagged, nextNumber, outs, own}
 use Rattle.cells.proofs.Chain.{chain-length}
 use Rattle.cells.proofs.Places.{first-freed}
 use Rattle.following.proofs.Cells.Laid.{Laid, number-low}
@@ -46,10 +46,10 @@ pub record Represents (y : Day) (m : Machine) (k : Cells) : Type 0 where
   -- the own lists, by their links; what was inherited, by base count and row
   pub own-is : (r : ℕ) → r ∈ m .layout → own k (numberOf y r) ≡ m .own r
   pub first-is : (r : ℕ) → r ∈ m .layout → (f : ℕ) (l : List ℕ) → m .own r ≡ f ∷ l → k .first (numberOf y r) ≡ f
-  pub inherited-is : (r : ℕ) → r ∈ m .layout → (u : ℕ) → member u (m .inherited r) ≡ (member u (take (k .base (numberOf y r)) (m .own main)) || marked k (numberOf y r) u)
+  pub inherited-is : (r : ℕ) → r ∈ m .layout → (u : ℕ) → member u (m .inherited r) ≡ (member u (take (k .base (numberOf y r)) (m .own main)) || flagged k (numberOf y r) u)
   pub base-few : (r : ℕ) → r ∈ m .layout → k .base (numberOf y r) ≤ length (m .own main)
   pub main-inherits : m .inherited main ≡ []
-  -- marks and transactions
+  -- flags and transactions
   pub seen-is : (a b : ℕ) → a ∈ m .layout → b ∈ m .layout → k .seen (numberOf y a) (numberOf y b) ≡ m .joinable a b
   pub caught-is : (c r : ℕ) → c < clients → r ∈ m .layout → k .caught c (numberOf y r) ≡ m .caughtUp c r
   pub opened-is : (c : ℕ) → c < clients → k .opened c ≡ openCell (numberOf y) (m .openOn c)

@@ -1,4 +1,4 @@
--- What is carried along a run: the machine has the day's lists and marks, and its layout is that of the diagram.
+-- What is carried along a run: the machine has the day's lists and flags, and its layout is that of the diagram.
 use Prim.Native.Nat.{_<_, ℕ}
 use mathlib.Core.Path.{_∙_, _≡_, ap, refl, sym}
 use mathlib.Core.List.{_∷_}
@@ -8,8 +8,8 @@ use lib.Dec.{eqb}
 use borrow.Author.Tests.{eqb-true}
 use Rattle.diagram.proofs.Graph.Events.{inheritedEvents, inheritedStep}
 use Rattle.diagram.proofs.Graph.Paths.{Ordered}
-use Rattle.machine.proofs.Marks.Joinable.{J, J-rule, Marked, marked-fresh}
-use Rattle.machine.proofs.Marks.Terminals.{caught}
+use Rattle.machine.proofs.Flags.Joinable.{J, J-rule, Flagged, flagged-fresh}
+use Rattle.machine.proofs.Flags.Terminals.{caught}
 use Rattle.diagram.proofs.Order.Growth.{fine-fresh}
 use Rattle.diagram.proofs.Order.Inherited.{inherited, inherited-along, inherited-older}
 use Rattle.diagram.proofs.Order.Numbered.{numbered-fresh}
@@ -22,9 +22,9 @@ use Rattle.lists.proofs.Cases.{cases}
 use Rattle.lists.specs.Lists.{changed}
 
 pub record Agree (y : Day) (k : Machine) : Type 0 where
-  pub marked : Marked y
+  pub flagged : Flagged y
   pub numbered : Numbered (y .diagram) (y .updates)
-  pub same-layout : marked .fine .layout ≡ k .layout
+  pub same-layout : flagged .fine .layout ≡ k .layout
   pub same-inherited : (r : ℕ) → IsOut y r → k .inherited r ≡ inherited (y .diagram) (y .terminal r)
   pub same-revisions : k .revisions ≡ y .revisions
   pub same-joined : (r : ℕ) → k .joined r ≡ y .joined r
@@ -35,9 +35,9 @@ pub record Agree (y : Day) (k : Machine) : Type 0 where
   pub same-own : (r : ℕ) → IsOut y r → k .own r ≡ own (y .diagram) (y .terminal r)
 
 pub agree-fresh : Agree fresh freshMachine
-unfolding tabulate marked-fresh fine-fresh
+unfolding tabulate flagged-fresh fine-fresh
 agree-fresh = record {
-  marked = marked-fresh;
+  flagged = flagged-fresh;
   numbered = numbered-fresh;
   same-layout = refl;
   same-inherited = λ r o. refl;
@@ -55,10 +55,10 @@ module _ (y : Day) (k : Machine) (A : Agree y k) where
   d = y .diagram
 
   pub terminal-low : (x : ℕ) → y .terminal x < length d
-  terminal-low x = A .marked .fine .sound .real .linked .bound x
+  terminal-low x = A .flagged .fine .sound .real .linked .bound x
 
   pub ordered : Ordered d
-  ordered = A .marked .fine .sound .real .linked .ordered
+  ordered = A .flagged .fine .sound .real .linked .ordered
 
   -- a vertex that goes on from r's terminal inherits what r did
   pub inherited-step : (v : Vertex) (r s : ℕ) → inheritedStep d (inheritedEvents d) v ≡ inheritedEvents d (y .terminal r) → inherited (v ∷ d) (changed (y .terminal) r (length d) s) ≡ inherited d (y .terminal s)

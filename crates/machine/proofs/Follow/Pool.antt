@@ -1,4 +1,4 @@
--- The marks of the machine are the sets J of the server pool, and so the pool's rule is 01's join rule.
+-- The flags of the machine are the sets J of the server pool, and so the pool's rule is 01's join rule.
 use Prim.Native.Nat.{ℕ, suc}
 use mathlib.Core.Bool.{false, not}
 use mathlib.Core.Path.{_≡_, refl, sym, _∙_, ap}
@@ -27,21 +27,21 @@ module _ (y : Day) (k : Machine) (e : k .revisions ≡ y .revisions) where
   revisions-after (Fork r) = ap suc e
   revisions-after (Join a b) = e
 
-  marks-after : (J : Pool) → k .joinable ≡ J → (s : Step) → machineAfter k s .joinable ≡ poolAfter y J s
+  flags-after : (J : Pool) → k .joinable ≡ J → (s : Step) → machineAfter k s .joinable ≡ poolAfter y J s
   unfolding machineAfter
-  marks-after J j (Event c r u) = j
-  marks-after J j (Yield c) = j
-  marks-after J j (Fork r) = ap (λ (n : ℕ). forkPool (k .joinable) r n) e ∙ ap (λ (M : Pool). forkPool M r (y .revisions)) j
-  marks-after J j (Join a b) = ap (λ (M : Pool). joinPool M a b) j
+  flags-after J j (Event c r u) = j
+  flags-after J j (Yield c) = j
+  flags-after J j (Fork r) = ap (λ (n : ℕ). forkPool (k .joinable) r n) e ∙ ap (λ (M : Pool). forkPool M r (y .revisions)) j
+  flags-after J j (Join a b) = ap (λ (M : Pool). joinPool M a b) j
 
-marks-from : (ss : List Step) (y : Day) (k : Machine) (J : Pool) → k .revisions ≡ y .revisions → k .joinable ≡ J → machineFrom k ss .joinable ≡ poolFrom y J ss
+flags-from : (ss : List Step) (y : Day) (k : Machine) (J : Pool) → k .revisions ≡ y .revisions → k .joinable ≡ J → machineFrom k ss .joinable ≡ poolFrom y J ss
 unfolding machineFrom poolFrom
-marks-from [] y k J e j = j
-marks-from (s ∷ ss) y k J e j = marks-from ss (after y s) (machineAfter k s) (poolAfter y J s) (revisions-after y k e s) (marks-after y k e J j s)
+flags-from [] y k J e j = j
+flags-from (s ∷ ss) y k J e j = flags-from ss (after y s) (machineAfter k s) (poolAfter y J s) (revisions-after y k e s) (flags-after y k e J j s)
 
 pub by-pool : (ss : List Step) → Accepted ss → ByPool ss
 unfolding pool
 by-pool ss A a b oa ob =
-    let same : pool ss a b ≡ not (notJoinable (run ss) a b) = sym (ap (λ (M : Pool). M a b) (marks-from ss fresh freshMachine (λ a b. false) refl refl)) ∙ follows-run ss A .same-joinable a b oa ob in
+    let same : pool ss a b ≡ not (notJoinable (run ss) a b) = sym (ap (λ (M : Pool). M a b) (flags-from ss fresh freshMachine (λ a b. false) refl refl)) ∙ follows-run ss A .same-joinable a b oa ob in
     let rule = joinable-iff ss A a b oa ob in
     (λ J. same ∙ ap not (rule .1 J), λ e. rule .0 (not-true (notJoinable (run ss) a b) (sym same ∙ e)))

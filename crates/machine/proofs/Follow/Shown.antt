@@ -29,8 +29,8 @@ module _ (y : Day) (k : Machine) (A : Agree y k) where
   abbrev d : Diagram
   d = y .diagram
 
-  abbrev R : Real y (A .marked .fine .layout)
-  R = A .marked .fine .sound .real
+  abbrev R : Real y (A .flagged .fine .layout)
+  R = A .flagged .fine .sound .real
 
   view-is : (r : ℕ) → IsOut y r → k .inherited r ++ k .own r ≡ view d (y .terminal r)
   view-is r o =

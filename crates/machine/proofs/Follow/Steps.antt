@@ -15,9 +15,9 @@ use Rattle.diagram.proofs.Days.Yielding.{sound-close}
 use Rattle.machine.proofs.Follow.Agrees.{Agree, inherited-step, ordered, terminal-low}
 use Rattle.diagram.proofs.Graph.Paths.{Ordered, one-more}
 use Rattle.diagram.proofs.Graph.Tables.{tabulate-newest, tabulate-older}
-use Rattle.machine.proofs.Marks.Joinable.{J, J-enter, J-join-other, J-joiner, J-fork-copy, J-fork-new, J-fork-old, J-fork-self}
-use Rattle.machine.proofs.Marks.Joinable.{marked-moves, marks-close}
-use Rattle.machine.proofs.Marks.Terminals.{caught, caught-join, caught-joiner, caught-other, caught-own, caught-fork, caught-forked}
+use Rattle.machine.proofs.Flags.Joinable.{J, J-enter, J-join-other, J-joiner, J-fork-copy, J-fork-new, J-fork-old, J-fork-self}
+use Rattle.machine.proofs.Flags.Joinable.{flagged-moves, flags-close}
+use Rattle.machine.proofs.Flags.Terminals.{caught, caught-join, caught-joiner, caught-other, caught-own, caught-fork, caught-forked}
 use Rattle.diagram.proofs.Order.Growth.{Fine, fine-moves}
 use Rattle.diagram.proofs.Order.Inherited.{inherited, inherited-older, inherited-start, view-split-own}
 use Rattle.diagram.proofs.Order.Numbered.{numbered-moves}
@@ -38,12 +38,12 @@ module _ (y : Day) (k : Machine) (A : Agree y k) where
   d = y .diagram
 
   abbrev F : Fine y
-  F = A .marked .fine
+  F = A .flagged .fine
 
   pub agree-enter : (c r : ℕ) (u : Bool) → CanEnter y c r → Agree (enter y c r u) (enterOn k c r u)
-  unfolding marked-moves fine-moves
+  unfolding flagged-moves fine-moves
   agree-enter c r u E = record {
-    marked = marked-moves y (enter y c r u) (A .marked) (enters c r u E);
+    flagged = flagged-moves y (enter y c r u) (A .flagged) (enters c r u E);
     numbered = numbered-moves y (enter y c r u) (A .numbered) (enters c r u E);
     same-layout = A .same-layout;
     same-inherited = λ s o. A .same-inherited s o ∙ sym (inherited-step y k A v r s refl);
@@ -93,7 +93,7 @@ module _ (y : Day) (k : Machine) (A : Agree y k) where
   agree-close : (c t : ℕ) → y .openBy c ≡ some t → Agree (close y c t) (yieldOn k c)
   unfolding notJoinable
   agree-close c t q = record {
-    marked = record { fine = record { layout = F .layout; hold = F .hold; sound = sound-close y (F .layout) (F .hold) (F .sound) c t q }; marks = marks-close y F (A .marked .marks) c t };
+    flagged = record { fine = record { layout = F .layout; hold = F .hold; sound = sound-close y (F .layout) (F .hold) (F .sound) c t q }; flags = flags-close y F (A .flagged .flags) c t };
     numbered = A .numbered;
     same-layout = A .same-layout;
     same-inherited = A .same-inherited;
@@ -115,7 +115,7 @@ module _ (y : Day) (k : Machine) (A : Agree y k) where
 
   pub agree-yield : (c : ℕ) (q : Option ℕ) → y .openBy c ≡ q → Agree (yield y c q) (yieldOn k c)
   agree-yield c none q = record {
-    marked = A .marked;
+    flagged = A .flagged;
     numbered = A .numbered;
     same-layout = A .same-layout;
     same-inherited = A .same-inherited;
@@ -133,9 +133,9 @@ module _ (y : Day) (k : Machine) (A : Agree y k) where
   n = y .revisions
 
   pub agree-fork : (r : ℕ) → CanFork y r → Agree (forkAt y r) (forkOn k r)
-  unfolding marked-moves fine-moves
+  unfolding flagged-moves fine-moves
   agree-fork r N = record {
-    marked = marked-moves y (forkAt y r) (A .marked) (forksAt r N);
+    flagged = flagged-moves y (forkAt y r) (A .flagged) (forksAt r N);
     numbered = numbered-moves y (forkAt y r) (A .numbered) (forksAt r N);
     same-layout = rw (A .same-revisions, A .same-layout);
     same-inherited = λ s o. rw (A .same-revisions) (inherited′ s o);
@@ -195,15 +195,15 @@ module _ (y : Day) (k : Machine) (A : Agree y k) where
           ap (λ t. cond t (eqb a r) (changed (k .joinable) n (k .joinable r) a b)) e ∙ sym (J-fork-new y F r a (λ p. omega (arith, N .out .0)) (eqb-false a n g)) ∙ ap (λ t. J (forkAt y r) a t) (sym (eqb-true b n e))
       joinable′ a b oa ob (inr e) (inl g) =
           ap (λ t. cond t (eqb a r) (changed (k .joinable) n (k .joinable r) a b)) e ∙ ap (λ t. cond t (k .joinable r) (k .joinable a) b) g ∙ A .same-joinable r b (N .out) (forked-out y r b ob e)
-          ∙ sym (J-fork-copy y F (A .marked .marks) r N b (eqb-false b n e)) ∙ ap (λ t. J (forkAt y r) t b) (sym (eqb-true a n g))
+          ∙ sym (J-fork-copy y F (A .flagged .flags) r N b (eqb-false b n e)) ∙ ap (λ t. J (forkAt y r) t b) (sym (eqb-true a n g))
       joinable′ a b oa ob (inr e) (inr g) =
           ap (λ t. cond t (eqb a r) (changed (k .joinable) n (k .joinable r) a b)) e ∙ ap (λ t. cond t (k .joinable r) (k .joinable a) b) g
           ∙ A .same-joinable a b (forked-out y r a oa g) (forked-out y r b ob e) ∙ sym (J-fork-old y F r a b (eqb-false a n g) (eqb-false b n e))
 
   pub agree-join : (a b : ℕ) → CanJoin y a b → Agree (joinInto y a b) (joinOn k a b)
-  unfolding marked-moves fine-moves
+  unfolding flagged-moves fine-moves
   agree-join a b H = record {
-    marked = marked-moves y (joinInto y a b) (A .marked) (joinsInto a b H);
+    flagged = flagged-moves y (joinInto y a b) (A .flagged) (joinsInto a b H);
     numbered = numbered-moves y (joinInto y a b) (A .numbered) (joinsInto a b H);
     same-layout = ap (remove b) (A .same-layout);
     same-inherited = λ s o. A .same-inherited s (joined-out y a b s o .0) ∙ sym (inherited-step y k A jv a s refl);
@@ -231,8 +231,8 @@ module _ (y : Day) (k : Machine) (A : Agree y k) where
           (λ e.
           ap (λ t. cond t (λ w. k .joinable a w || k .joinable b w) (k .joinable x) z) e
           ∙ ap (λ t. t || k .joinable b z) (A .same-joinable a z (H .out-a) (joined-out y a b z oz .0)) ∙ ap (λ t. J y a z || t) (A .same-joinable b z (H .out-b) (joined-out y a b z oz .0))
-          ∙ sym (J-joiner y F (A .marked .marks) a b H z oz) ∙ ap (λ t. J (joinInto y a b) t z) (sym (eqb-true x a e)))
-          (λ e. ap (λ t. cond t (λ w. k .joinable a w || k .joinable b w) (k .joinable x) z) e ∙ A .same-joinable x z (joined-out y a b x ox .0) (joined-out y a b z oz .0) ∙ sym (J-join-other y F (A .marked .marks) a b H x z (eqb-false x a e)))
+          ∙ sym (J-joiner y F (A .flagged .flags) a b H z oz) ∙ ap (λ t. J (joinInto y a b) t z) (sym (eqb-true x a e)))
+          (λ e. ap (λ t. cond t (λ w. k .joinable a w || k .joinable b w) (k .joinable x) z) e ∙ A .same-joinable x z (joined-out y a b x ox .0) (joined-out y a b z oz .0) ∙ sym (J-join-other y F (A .flagged .flags) a b H x z (eqb-false x a e)))
 
       caught′ : (c x : ℕ) → IsOut (joinInto y a b) x → cond (eqb x a) (k .caughtUp c a || k .caughtUp c b) (k .caughtUp c x) ≡ caught (joinInto y a b) c x
       caught′ c x o =

@@ -1,4 +1,4 @@
--- `checks::joinable::check_joinable` meets its contract: the tests and the mark decide. Assumes nothing.
+-- `checks::joinable::check_joinable` meets its contract: the tests and the flag decide. Assumes nothing.
 use borrow.Author.Needs.{needs}
 use borrow.Author.Tests.{eq-eqb, ne-eqb}
 use Rattle.checks.specs.Answers.{joinableCheck}

@@ -1,4 +1,4 @@
--- `checks::stale::check_stale` meets its contract: the mark decides. Assumes nothing.
+-- `checks::stale::check_stale` meets its contract: the flag decides. Assumes nothing.
 use borrow.Author.Needs.{needs}
 use Rattle.checks.specs.Answers.{staleCheck}
 use Rattle.checks.proofs.stale.check_stale.Statement.{statement}

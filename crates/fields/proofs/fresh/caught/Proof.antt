@@ -4,7 +4,7 @@ use native.Mathlib.Omega.{arith}
 use borrow.Author.Needs.{needs}
 use Rattle.cells.specs.Parts.{caughtPart, offset, size, wrote}
 use Rattle.cells.proofs.Parts.{part-wrote}
-use Rattle.fields.proofs.Zeros.{all-marked}
+use Rattle.fields.proofs.Zeros.{all-flagged}
 use Rattle.fields.proofs.fresh.caught.Statement.{statement}
 use Rattle.fields.proofs.fresh.caught.Tie as tie
 
@@ -15,7 +15,7 @@ returns c =
     let at-fresh-caught = at-store16 .before in
     let start = at-fresh-caught .before .before .before in
     let d = start .args .d .now in
-    part-wrote d caughtPart _ (omega arith) (omega arith) ∙ ap (wrote d caughtPart) (at-store16 .store16 .ensures ∙ all-marked 16 (at-fresh-caught .fresh-caught .result) (at-fresh-caught .fresh-caught .ensures))
+    part-wrote d caughtPart _ (omega arith) (omega arith) ∙ ap (wrote d caughtPart) (at-store16 .store16 .ensures ∙ all-flagged 16 (at-fresh-caught .fresh-caught .result) (at-fresh-caught .fresh-caught .ensures))
 
 pub caught-spec : {M : Type 1} → statement M
 caught-spec = tie.close (tie.spec

@@ -1,17 +1,17 @@
--- `fields::read::seen` meets its contract: the mark is read in its place. Assumes nothing.
+-- `fields::read::seen` meets its contract: the flag is read in its place. Assumes nothing.
 use mathlib.Core.Path.{_∙_, refl}
 use native.Mathlib.Omega.{arith}
 use borrow.Author.Needs.{needs}
 use Rattle.cells.specs.Decode.{cells}
 use Rattle.cells.specs.Parts.{offset, seenPart, size}
 use Rattle.cells.specs.Sizes.{revisions}
-use Rattle.fields.proofs.InPart.{mark-read}
+use Rattle.fields.proofs.InPart.{flag-read}
 use Rattle.fields.proofs.read.seen.Statement.{statement}
 use Rattle.fields.proofs.read.seen.Tie as tie
 
 returns : tie.Need-returns
 unfolding cells offset size
-returns c = c .mark .ensures ∙ mark-read (c .before .before .before .before .before .args .d .now) seenPart revisions refl (c .before .before .before .wide .ensures .0) (c .before .before .wide2 .ensures .0) (omega arith) (omega arith)
+returns c = c .flag .ensures ∙ flag-read (c .before .before .before .before .before .args .d .now) seenPart revisions refl (c .before .before .before .wide .ensures .0) (c .before .before .wide2 .ensures .0) (omega arith) (omega arith)
 
 pub seen-spec : {M : Type 1} → statement M
 seen-spec = tie.close (tie.spec

@@ -4,11 +4,11 @@ use mathlib.Core.Path.{_∙_, _≡_}
 use native.Mathlib.Omega.{arith}
 use lib.ListN.{length, take}
 use borrow.Author.Needs.{needs}
-use Rattle.cells.specs.Marks.{bit, byteOf, rowBytes}
+use Rattle.cells.specs.Flags.{bit, byteOf, rowBytes}
 use Rattle.cells.specs.Tables.{tab}
 use Rattle.cells.specs.Words.{byte}
 use Rattle.cells.proofs.Tables.{tab-done, tab-more, tab-none}
-use Rattle.marks.proofs.Bytes.{same-byte}
+use Rattle.flags.proofs.Bytes.{same-byte}
 use Rattle.fields.proofs.row.copy.Statement.{statement}
 use Rattle.fields.proofs.row.copy.Tie as tie
 

@@ -1,8 +1,8 @@
--- `fields::row::load` meets its contract: the row, or no mark where it is not in use. Assumes nothing.
+-- `fields::row::load` meets its contract: the row, or no flag where it is not in use. Assumes nothing.
 use mathlib.Core.Path.{_∙_, sym}
 use native.Mathlib.Omega.{arith}
 use borrow.Author.Needs.{needs}
-use Rattle.fields.proofs.MarkReads.{row-unused, row-used}
+use Rattle.fields.proofs.FlagReads.{row-unused, row-used}
 use Rattle.fields.proofs.row.load.Statement.{statement}
 use Rattle.fields.proofs.row.load.Tie as tie
 

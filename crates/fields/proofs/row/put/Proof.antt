@@ -2,7 +2,7 @@
 use Prim.Native.Nat.{_*_}
 use borrow.Author.Needs.{needs}
 use Rattle.lists.proofs.Replaced.{lent-replaced}
-use Rattle.cells.specs.Marks.{putRow}
+use Rattle.cells.specs.Flags.{putRow}
 use Rattle.fields.proofs.row.put.Statement.{statement}
 use Rattle.fields.proofs.row.put.Tie as tie
 

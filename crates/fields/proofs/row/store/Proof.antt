@@ -4,16 +4,16 @@ use mathlib.Core.Path.{_∙_, _≡_}
 use native.Mathlib.Omega.{arith}
 use lib.ListN.{length, take}
 use borrow.Author.Needs.{needs}
-use Rattle.cells.specs.Marks.{byteOf, markAt, rowBytes}
+use Rattle.cells.specs.Flags.{byteOf, flagAt, rowBytes}
 use Rattle.cells.specs.Tables.{tab}
 use Rattle.cells.specs.Words.{byte}
 use Rattle.cells.proofs.Tables.{tab-done, tab-more, tab-none}
-use Rattle.marks.proofs.Bytes.{same-byte}
+use Rattle.flags.proofs.Bytes.{same-byte}
 use Rattle.fields.proofs.row.store.Statement.{statement}
 use Rattle.fields.proofs.row.store.Tie as tie
 
 abbrev Inv-loop : tie.InvT-loop
-Inv-loop t₀ row i₀ t i = (i ≤ 512) × (length t ≡ length t₀) × (take i t ≡ tab (λ n. byteOf (λ j. markAt row (8 * n + j))) i)
+Inv-loop t₀ row i₀ t i = (i ≤ 512) × (length t ≡ length t₀) × (take i t ≡ tab (λ n. byteOf (λ j. flagAt row (8 * n + j))) i)
 
 abbrev μ-loop : tie.MeasureT-loop
 μ-loop t₀ row i₀ t i = 512 - i

@@ -3,10 +3,10 @@ use Prim.Native.Nat.{_-_}
 use mathlib.Core.Path.{_∙_, ap}
 use native.Mathlib.Omega.{arith}
 use borrow.Author.Needs.{needs}
-use Rattle.cells.specs.Marks.{markAt, putRow}
+use Rattle.cells.specs.Flags.{flagAt, putRow}
 use Rattle.cells.specs.Parts.{offset, rowsPart, size, split, wrote}
 use Rattle.fields.proofs.InPart.{lent-at}
-use Rattle.fields.proofs.MarkReads.{row-of}
+use Rattle.fields.proofs.FlagReads.{row-of}
 use Rattle.fields.proofs.write.row.Statement.{statement}
 use Rattle.fields.proofs.write.row.Tie as tie
 
@@ -17,8 +17,8 @@ returns c =
     let at-wide = at-put .before .before in
     let s = at-wide .before .before .args in
     let d = s .d .now in
-    lent-at d rowsPart (λ x t. putRow 512 t (x - 1) (markAt (s .row))) (omega arith) (omega arith) (at-wide .wide .ensures .0) (at-put .put .ensures)
-    ∙ ap (wrote d rowsPart) (row-of (split d rowsPart) (s .r .0) (markAt (s .row)) (omega arith))
+    lent-at d rowsPart (λ x t. putRow 512 t (x - 1) (flagAt (s .row))) (omega arith) (omega arith) (at-wide .wide .ensures .0) (at-put .put .ensures)
+    ∙ ap (wrote d rowsPart) (row-of (split d rowsPart) (s .r .0) (flagAt (s .row)) (omega arith))
 
 pub row-spec : {M : Type 1} → statement M
 row-spec = tie.close (tie.spec

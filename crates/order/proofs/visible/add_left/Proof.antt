@@ -7,7 +7,7 @@ use native.Mathlib.Omega.{arith}
 use lib.ListN.{drop, length}
 use borrow.Author.Needs.{needs}
 use Rattle.lists.specs.Arranged.{flatBack}
-use Rattle.cells.specs.Cells.{marked, outs, own}
+use Rattle.cells.specs.Cells.{flagged, outs, own}
 use Rattle.cells.specs.Decode.{cells}
 use Rattle.cells.specs.Order.{inherited, picks}
 use Rattle.cells.specs.Sizes.{updates}
@@ -58,7 +58,7 @@ loop-again c =
     let l = at-loop .loop in
     let o = ranges (s .d .now) (start .pre .1) .most-out in
     let n = outs-length (s .d .now) (start .pre .0) o in
-    let e : picks (at-base-in .base-in .result) (marked k (s .r .0)) (own k (at-at-place .at-place .result .0)) ≡ inherited k (s .r .0) (at-at-place .at-place .result .0) = ap (λ b. picks b (marked k (s .r .0)) (own k (at-at-place .at-place .result .0))) (at-base-in .base-in .ensures) in
+    let e : picks (at-base-in .base-in .result) (flagged k (s .r .0)) (own k (at-at-place .at-place .result .0)) ≡ inherited k (s .r .0) (at-at-place .at-place .result .0) = ap (λ b. picks b (flagged k (s .r .0)) (own k (at-at-place .at-place .result .0))) (at-base-in .base-in .ensures) in
     let a = added-as e (at-add-some .add-some .ensures) in
     let w = added-bounds (l .out) (l .inv .4) (l .m) _ _ _ (l .inv .2) a in
     let x = at-at-place .at-place .ensures .0 ∙ sym (outs-at k (l .i - 1) (omega arith)) in

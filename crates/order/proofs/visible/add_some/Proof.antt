@@ -2,7 +2,7 @@
 use mathlib.Core.Path.{_∙_, ap}
 use native.Mathlib.Omega.{arith}
 use borrow.Author.Needs.{needs}
-use Rattle.cells.specs.Cells.{marked}
+use Rattle.cells.specs.Cells.{flagged}
 use Rattle.cells.specs.Decode.{cells}
 use Rattle.cells.specs.Order.{picks}
 use Rattle.order.proofs.Laws.{added-as, gathered, gathered-length}
@@ -29,7 +29,7 @@ returns c =
     let start = at-own-list .before .before .before .before .before in
     let s = start .args in
     let k = cells (s .d .now) in
-    added-as (ap (picks (s .base) (marked k (s .r .0))) (gathered k (s .x .0) _ _ _ (at-own-list .own-list .ensures .0) (at-own-list .own-list .ensures .2) .1)) (at-sift .sift .ensures)
+    added-as (ap (picks (s .base) (flagged k (s .r .0))) (gathered k (s .x .0) _ _ _ (at-own-list .own-list .ensures .0) (at-own-list .own-list .ensures .2) .1)) (at-sift .sift .ensures)
 
 pub add-some-spec : {M : Type 1} → statement M
 add-some-spec = tie.close (tie.spec

@@ -3,7 +3,7 @@ use mathlib.Core.Path.{_∙_, ap, sym}
 use native.Mathlib.Omega.{arith}
 use borrow.Author.Needs.{needs}
 use Rattle.lists.specs.Arranged.{flatBack}
-use Rattle.cells.specs.Cells.{marked}
+use Rattle.cells.specs.Cells.{flagged}
 use Rattle.cells.specs.Decode.{cells}
 use Rattle.cells.specs.Order.{inherited, order}
 use Rattle.order.proofs.Laws.{added-as, added-bounds, added-then, picks-all}
@@ -38,7 +38,7 @@ returns c =
     let k = cells (s .d .now) in
     let f = inherited k (s .r .0) in
     let left = added-as (ap (flatBack f) (sym (at-place-of .place-of .ensures .1))) (at-add-left .add-left .ensures) in
-    let own-list = added-as (picks-all k (s .r .0) (at-count .count .result) (marked k (s .r .0)) (at-count .count .ensures .0)) (at-add-some .add-some .ensures) in
+    let own-list = added-as (picks-all k (s .r .0) (at-count .count .result) (flagged k (s .r .0)) (at-count .count .ensures .0)) (at-add-some .add-some .ensures) in
     let a = added-then (s .out .now) (start .pre .3) 0 _ _ _ _ _ _ (omega arith) left own-list in
     (a .many, a .eq)
 

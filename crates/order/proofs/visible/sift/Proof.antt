@@ -4,7 +4,7 @@ use mathlib.Core.Path.{_≡_}
 use native.Mathlib.Omega.{arith}
 use lib.ListN.{length, take}
 use borrow.Author.Needs.{needs}
-use Rattle.cells.specs.Cells.{marked}
+use Rattle.cells.specs.Cells.{flagged}
 use Rattle.cells.specs.Decode.{cells}
 use Rattle.cells.specs.Order.{picks}
 use Rattle.cells.specs.Sizes.{updates}
@@ -14,7 +14,7 @@ use Rattle.order.proofs.visible.sift.Statement.{statement}
 use Rattle.order.proofs.visible.sift.Tie as tie
 
 abbrev Inv-loop : tie.InvT-loop
-Inv-loop d r base list out₀ n i₀ m₀ out i m = (i ≤ length list) × (m ≤ updates) × (length out ≡ updates) × Added out₀ n (picks base (marked (cells d) (r .0)) (take i list)) out m
+Inv-loop d r base list out₀ n i₀ m₀ out i m = (i ≤ length list) × (m ≤ updates) × (length out ≡ updates) × Added out₀ n (picks base (flagged (cells d) (r .0)) (take i list)) out m
 
 abbrev μ-loop : tie.MeasureT-loop
 μ-loop d r base list out₀ n i₀ m₀ out i m = length list - i
@@ -23,7 +23,7 @@ loop-holds : tie.Need-loop-holds Inv-loop μ-loop
 loop-holds c =
     let start = c .before .before .before in
     let s = start .args in
-    (search needs, search needs, search needs, sift-start (s .out .now) (start .pre .2) (s .n) (start .pre .3) (s .base) (marked (cells (s .d .now)) (s .r .0)) (s .list .now))
+    (search needs, search needs, search needs, sift-start (s .out .now) (start .pre .2) (s .n) (start .pre .3) (s .base) (flagged (cells (s .d .now)) (s .r .0)) (s .list .now))
 
 loop-again : tie.Need-loop-again Inv-loop μ-loop
 loop-again c =
@@ -33,7 +33,7 @@ loop-again c =
     let s = start .args in
     let l = at-loop .loop in
     let b = added-bounds (l .out) (l .inv .2) (l .m) _ _ _ (l .inv .1) (at-offer .offer .ensures) in
-    (omega arith, b .1, b .2, sift-more (s .out .now) (start .pre .2) (s .n) (start .pre .3) (s .base) (marked (cells (s .d .now)) (s .r .0)) (s .list .now) (l .i) (l .out) (l .m) _ _ (omega arith) (l .inv .3) (at-offer .offer .ensures))
+    (omega arith, b .1, b .2, sift-more (s .out .now) (start .pre .2) (s .n) (start .pre .3) (s .base) (flagged (cells (s .d .now)) (s .r .0)) (s .list .now) (l .i) (l .out) (l .m) _ _ (omega arith) (l .inv .3) (at-offer .offer .ensures))
 
 returns : tie.Need-returns Inv-loop μ-loop
 returns c =
@@ -41,7 +41,7 @@ returns c =
     let start = at-loop .before .before .before .before in
     let s = start .args in
     let l = at-loop .loop in
-    sift-end (s .out .now) (start .pre .2) (s .n) (start .pre .3) (s .base) (marked (cells (s .d .now)) (s .r .0)) (s .list .now) (l .i) (l .out) (l .m) (omega arith) (l .inv .3)
+    sift-end (s .out .now) (start .pre .2) (s .n) (start .pre .3) (s .base) (flagged (cells (s .d .now)) (s .r .0)) (s .list .now) (l .i) (l .out) (l .m) (omega arith) (l .inv .3)
 
 pub sift-spec : {M : Type 1} → statement M
 sift-spec = tie.close (tie.spec

@@ -1,7 +1,7 @@
--- `order::visible::wanted` meets its contract: by count, or by its mark. Assumes nothing.
+-- `order::visible::wanted` meets its contract: by count, or by its flag. Assumes nothing.
 use borrow.Author.Needs.{needs}
 use borrow.Author.Tests.{le-ltb, lt-ltb}
-use Rattle.order.proofs.Laws.{past-marks}
+use Rattle.order.proofs.Laws.{past-flags}
 use Rattle.order.proofs.visible.wanted.Statement.{statement}
 use Rattle.order.proofs.visible.wanted.Tie as tie
 
@@ -12,7 +12,7 @@ returns-2 : tie.Need-returns-2
 returns-2 c =
     let at-if1 = c .before in
     let start = at-if1 .before .before in
-    rw (le-ltb _ _ (at-if1 .if1 .left)) (past-marks (start .args .d .now) (start .args .r .0) (start .args .u) (c .if2 .taken))
+    rw (le-ltb _ _ (at-if1 .if1 .left)) (past-flags (start .args .d .now) (start .args .r .0) (start .args .u) (c .if2 .taken))
 
 returns-3 : tie.Need-returns-3
 returns-3 c = rw (le-ltb _ _ (c .before .before .if1 .left)) (c .inherited .ensures)

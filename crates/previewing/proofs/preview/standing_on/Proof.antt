@@ -5,7 +5,7 @@ use Rattle.cells.specs.Order.{order}
 use Rattle.order.proofs.Laws.{fits}
 use Rattle.table.specs.Halves.{high}
 use Rattle.table.proofs.Halves.{high-length}
-use Rattle.reading.proofs.Along.{along-entries}
+use Rattle.querying.proofs.Along.{along-entries}
 use Rattle.previewing.proofs.preview.standing_on.Statement.{statement}
 use Rattle.previewing.proofs.preview.standing_on.Tie as tie
 

@@ -8,7 +8,7 @@ use borrow.Author.Needs.{needs}
 use Rattle.text.specs.Placed.{placed}
 use Rattle.text.proofs.Places.{placed-none, both-put}
 use Rattle.report.proofs.Grown.{table-none, lines-none, table-more, lines-more}
-use Rattle.records.specs.Record.{stepAt}
+use Rattle.dayfile.specs.Record.{stepAt}
 use Rattle.table.specs.Answers.{leftRead}
 use Rattle.report.specs.Run.{outAt, stepOut, tableAfter}
 use Rattle.report.specs.Printed.{line as lineOf, lines as linesOf}

@@ -6,7 +6,7 @@ use lib.ListN.{length}
 use borrow.Author.Needs.{needs}
 use Rattle.text.specs.Placed.{placed}
 use Rattle.text.proofs.Places.{placed-none}
-use Rattle.records.proofs.Good.{count-bound}
+use Rattle.dayfile.proofs.Good.{count-bound}
 use Rattle.report.proofs.Shown.{shown-none, shown-bad, shown-good}
 use Rattle.report.proofs.output.report.Statement.{statement}
 use Rattle.report.proofs.output.report.Tie as tie

@@ -1,0 +1,21 @@
+-- `flags::change::fork_seen` meets its contract: row c becomes row p, then column c is set. Assumes nothing.
+use mathlib.Core.Path.{_∙_}
+use native.Mathlib.Omega.{arith}
+use borrow.Author.Needs.{needs}
+use Rattle.flags.proofs.Laws.{fork-rows}
+use Rattle.flags.proofs.change.fork_seen.Statement.{statement}
+use Rattle.flags.proofs.change.fork_seen.Tie as tie
+
+returns : tie.Need-returns
+returns c =
+    let s = c .before .before .args in
+    c .fork-column .ensures ∙ fork-rows (s .seen) (s .parent) (s .child) (search needs) (omega arith)
+
+pub fork-seen-spec : {M : Type 1} → statement M
+fork-seen-spec = tie.close (tie.spec
+    (λ c. search needs)
+    (λ c. search needs)
+    (λ c. search needs)
+    (λ c. search needs)
+    (λ c κs. search needs)
+    returns)

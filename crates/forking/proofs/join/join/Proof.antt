@@ -1,0 +1,24 @@
+-- `branching::join::join` meets its contract: code 1, then the other checks and the work. Assumes nothing.
+use mathlib.Core.Path.{_∙_, sym}
+use borrow.Author.Needs.{needs}
+use Rattle.table.proofs.Buffer.{is-table, no-table}
+use Rattle.table.proofs.Calls.{no-join}
+use Rattle.forking.proofs.join.join.Statement.{statement}
+use Rattle.forking.proofs.join.join.Tie as tie
+
+returns : tie.Need-returns
+returns c = no-join _ (no-table _ (sym (c .before .before .check-table .ensures) ∙ c .enum-told2 .given .1)) _ _
+
+join-sound-requires : tie.Need-join-sound-requires
+join-sound-requires c κs = is-table _ (sym (c .before .before .before .check-table .ensures) ∙ c .before .enum-told .given .1)
+
+pub join-spec : {M : Type 1} → statement M
+join-spec = tie.close (tie.spec
+    (λ c κs. search needs)
+    (λ c. search needs)
+    (λ c. search needs)
+    (λ c. search needs)
+    returns
+    join-sound-requires
+    (λ c. search needs)
+    (λ c. search needs))

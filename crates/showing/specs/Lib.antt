@@ -1,2 +1,0 @@
--- What the check of a sheet finds.
-pub mod Checks

@@ -1,0 +1,35 @@
+-- No claim rests on this file: it serves the code.
+-- What the checks of an update find, in their order.
+use Prim.{Unit}
+use Prim.Native.Nat.{ℕ, _<_}
+use mathlib.Core.Bool.{cond}
+use mathlib.Core.List.{List}
+use Rattle.updates.specs.Kinds.{kindCheck, badBib}
+use Rattle.cells.specs.Sizes.{clients, revisions, updates}
+use Rattle.cells.specs.Decode.{cells}
+use Rattle.cells.specs.Checks.{logFull}
+use Rattle.entries.specs.Sizes.{bibRange}
+use Rattle.table.specs.Found.{onKind, onEvent}
+use Rattle.table.specs.Checks.{placeCheck, turnCheck}
+use Rattle.updating.specs.declared.update.UpdateCheck.{UpdateCheck}
+use Rattle.updating.specs.declared.update.UpdateCheck.the-variants as update
+
+-- 2 to 9 of an update
+unfoldable pub updateCheck : List ℕ → ℕ → ℕ → ℕ → ℕ → UpdateCheck
+updateCheck d c n k bib =
+    onEvent (placeCheck d c n) update.Refused (λ x y.
+    cond (badBib bib) (update.Refused 5) (
+    onKind (kindCheck k) (update.Refused 5) (λ kind.
+    onEvent (turnCheck d x y) update.Refused (λ x y.
+    cond (logFull (cells d)) (update.Refused 9) (
+    update.Allowed x y kind)))))
+
+-- what is found is in range
+abbrev pub updateIn : List ℕ → ℕ → UpdateCheck → Type 0
+updateIn d bib (update.Refused k) = Unit {0}
+updateIn d bib (update.Allowed x y kind) = (x .0 < clients) × (y .0 < revisions) × (cells d .updates < updates) × (bib < bibRange)
+
+-- the code of a check that ends the call, 0 where none does
+abbrev pub updateCode : UpdateCheck → ℕ
+updateCode (update.Refused k) = k
+updateCode (update.Allowed x y kind) = 0
