@@ -181,7 +181,8 @@ module _ (r : List ℕ) (b : ℕ) (m : List ℕ) (a : ℕ) (l : List ℕ) (s : C
       through : x ≡ a → J b y ≡ true → ((y ∷ x ∷ []) ⊑ (r ++ (m ++ (a ∷ l)))) × (jt y .inherited ⊆ seen (jt x))
       through q f =
           let h = inv .joins b y b-out (⊑-⊆ fewer y k) f in
-          rw q (Sublistᴰ·append (∈-⊑ y r (in-front r _ (inv .distinct) (h .0))) (∈-⊑ a (m ++ (a ∷ l)) (Memᴰ·append-right m (List·Memᴰ·head refl))), λ n j. covered-b s r b m a l (inv .distinct) (inv .once) (inv .good) above n (h .1 n (rw (grow-inh s a (s b .own) y) at j)))
+          let before : (y ∷ a ∷ []) ⊑ (r ++ (m ++ (a ∷ l))) = Sublistᴰ·append (∈-⊑ y r (in-front r _ (inv .distinct) (h .0))) (∈-⊑ a (m ++ (a ∷ l)) (Memᴰ·append-right m (List·Memᴰ·head refl))) in
+          rw q (before, λ n j. covered-b s r b m a l (inv .distinct) (inv .once) (inv .good) above n (h .1 n (rw (grow-inh s a (s b .own) y) at j)))
 
       by-a : x ≡ a → (J a y ≡ true) ⊎ (J b y ≡ true) → ((y ∷ x ∷ []) ⊑ (r ++ (m ++ (a ∷ l)))) × (jt y .inherited ⊆ seen (jt x))
       by-a q (inl f) = kept (rw q f)

@@ -3,7 +3,7 @@ use Prim.Native.Nat.{ℕ}
 use mathlib.Core.Path.{_≡_, refl}
 use mathlib.Core.List.{List, [], _∷_}
 use lib.ListN.{replicate}
-use Rattle.dayfile.specs.Numbers.{number}
+use Rattle.buffers.specs.Numbers.{number}
 use Rattle.bundles.specs.declared.check.BundleCheck.the-variants.{Count, Wrong}
 use Rattle.bundles.specs.Records.{entryIn, isWrong}
 use Rattle.bundles.specs.Packed.{recordOf, bundleCheck}

@@ -8,7 +8,7 @@ use lib.Dec.{eqb, ltb}
 use lib.ListN.{length, take, drop, length-append}
 use lib.Seq.{take-at, drop-at}
 use Rattle.lists.proofs.Rows.{rows-length}
-use Rattle.dayfile.proofs.Widths.{number-two, number-word}
+use Rattle.buffers.proofs.Widths.{number-two, number-word}
 use Rattle.bundles.specs.declared.entry.Entry.{Entry}
 use Rattle.bundles.specs.Records.{entryIn, entriesFrom, entriesIn, isWrong, laid}
 use Rattle.bundles.specs.Packed.{recordOf, recordsOf}

@@ -4,7 +4,7 @@ use mathlib.Core.Bool.{Bool, not, _||_}
 use mathlib.Core.List.{List, [], _∷_, _++_}
 use lib.Dec.{eqb, ltb}
 use lib.ListN.{length, take, drop, getD}
-use Rattle.dayfile.specs.Numbers.{numberAt, word}
+use Rattle.buffers.specs.Numbers.{numberAt, word}
 use Rattle.bundles.specs.declared.entry.Entry.{Entry}
 
 -- "kind (1 byte), tablet (1), bib (2), v (4), update's number (4), least significant byte first"

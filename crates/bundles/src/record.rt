@@ -6,7 +6,7 @@ ghost use Rattle.bundles.specs.Records.{entryAt, entryIn, laid};
 ghost use Rattle.bundles.specs.Packed.{withRecord};
 use crate::entry::Entry;
 use crate::sizes::Record;
-use dayfile::numbers::read;
+use buffers::numbers::read;
 
 // The record's client and number are not looked at.
 fn decode(p: &[u8]) -> Entry

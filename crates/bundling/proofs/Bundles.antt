@@ -16,14 +16,13 @@ use Rattle.bundles.specs.declared.check.BundleCheck.the-variants.{Wrong}
 use Rattle.bundles.proofs.First.{Counted, some-of, uncounted}
 use Rattle.cells.specs.Decode.{cells}
 use Rattle.cells.specs.Checks.{isClient, givenOut, joined, openElsewhere, busyByOther, stale, logFull}
-use Rattle.fields.specs.declared.table.Client.{Client}
-use Rattle.fields.specs.declared.table.Revision.{Revision}
+use Rattle.sizes.specs.declared.numbers.Client.{Client}
+use Rattle.sizes.specs.declared.numbers.Revision.{Revision}
 use Rattle.table.specs.Halves.{low, cellsOf, isTable}
 use Rattle.table.specs.Answers.{afterTaken, refused}
 use Rattle.table.specs.Calls.{bundleOut, sentOut, settled, updateOut}
-use Rattle.table.specs.Found.{onEvent, onKind}
-use Rattle.table.specs.Checks.{placeCheck, turnCheck}
-use Rattle.table.proofs.Calls.{client-is, event-cond, given-is}
+use Rattle.table.specs.Found.{onKind}
+use Rattle.table.proofs.Calls.{client-is, given-is}
 use Rattle.bundling.specs.Bundles.{Going}
 use Rattle.updating.specs.Checks.{updateCheck}
 use Rattle.updating.specs.declared.update.UpdateCheck.{UpdateCheck}
@@ -44,8 +43,8 @@ checks-are : (d : List ℕ) (c n k bib : ℕ)
     cond (stale (cells d) c n) (update.Refused 8) (
     cond (logFull (cells d)) (update.Refused 9) (
     update.Allowed (record { 0 = c }) (record { 0 = n }) kind)))))))))
-unfolding updateCheck placeCheck turnCheck onEvent
-checks-are d c n k bib = simp (client-is, given-is, event-cond)
+unfolding updateCheck
+checks-are d c n k bib = simp (client-is, given-is)
 
 -- what the first update's checks leave
 abbrev Settles : List ℕ → ℕ → ℕ → UpdateCheck → Type 0

@@ -1,12 +1,12 @@
 -- A step on the parts is the step on the cells: query, update, close and join.
 use Prim.Native.Nat.{ℕ, suc, _+_, _-_, _<_}
-use mathlib.Core.Bool.{Bool, true, false, cond, _&&_}
+use mathlib.Core.Bool.{Bool, true, false, cond, _&&_, _||_}
 use mathlib.Core.Path.{_≡_, refl, _∙_, fun-ext}
 use native.Mathlib.Omega.{arith}
 use lib.Dec.{eqb, ltb}
 use lib.ListN.{set}
 use lib.Seq.{getD-set-same, getD-set-other}
-use borrow.Author.Tests.{eqb-true, lt-ltb}
+use borrow.Author.Tests.{eq-eqb, eqb-true, lt-ltb}
 use Rattle.lists.specs.Lists.{changed}
 use Rattle.lists.proofs.Cases.{cases}
 use Rattle.cells.specs.Sizes.{revisions, clients, updates, closed}
@@ -110,13 +110,7 @@ module _ (p : Parts) (h : Sized p) (c r : ℕ) (cl : c < clients) (rl : r < revi
           given = byte-put-other (p countersPart) 0 (suc u) 3 (omega arith) (omega arith) i;
         }
 
--- a row or a column of flags changed, inside the rows
-within-row : (n : ℕ) (f : ℕ → ℕ → Bool) (a : ℕ) (g : ℕ → Bool) → a < n → Within n f → ((y : ℕ) → ltb y 64 ≡ false → g y ≡ false) → Within n (changed f a g)
-within-row n f a g al w wg x y e =
-    cases (eqb x a)
-    (λ q. rw q (wg y (rw (eqb-true x a q, lt-ltb a n al) at e)))
-    (λ q. rw q (w x y e))
-
+-- a column of flags changed, inside the rows
 pub within-column : (n : ℕ) (f : ℕ → ℕ → Bool) (a : ℕ) (g : ℕ → Bool) → a < 64 → Within n f → ((x : ℕ) → ltb x n ≡ false → g x ≡ false) → Within n (λ x. changed (f x) a (g x))
 within-column n f a g al w wg x y e =
     cases (eqb y a)
@@ -130,15 +124,21 @@ outside-row n f w x y e = w x y (rw e)
 pub outside-column : (n : ℕ) (f : ℕ → ℕ → Bool) → Within n f → (x y : ℕ) → ltb y 64 ≡ false → f x y ≡ false
 outside-column n f w x y e = w x y (cases (ltb x n) (λ q. rw (q, e)) (λ q. rw q))
 
+either-within : (l x y : Bool) → (l ≡ false → x ≡ false) → (l ≡ false → y ≡ false) → (l && (x || y)) ≡ (x || y)
+either-within true x y f g = refl
+either-within false x y f g = rw (f refl, g refl)
+
 module _ (p : Parts) (h : Sized p) (a b : ℕ) (al : a < revisions) (bl : b < revisions) (fl : decode p .first b < updates) (ll : decode p .last a < updates) where
   abbrev k : Cells
   k = decode p
 
   join-seen : (x y : ℕ) → decode (joinParts p a b) .seen x y ≡ joinPool (k .seen) a b x y
-  join-seen =
+  unfolding size
+  join-seen x y =
       let w = flags-within revisions (p seenPart) in
-      flag-pack revisions (joinPool (k .seen) a b)
-      (within-row revisions (k .seen) a _ al w (λ y e. rw (outside-column revisions (k .seen) w a y e, outside-column revisions (k .seen) w b y e)))
+      let out = outside-column revisions (k .seen) w in
+      flag-row 8 revisions (p seenPart) a (joinPool (k .seen) a b a) (h .of seenPart) al x y
+      ∙ cases (eqb x a) (λ e. rw (e, eq-eqb a a refl) (either-within (ltb y 64) (k .seen a y) (k .seen b y) (out a y) (out b y))) (λ e. rw e)
 
   join-caught : (x y : ℕ) → decode (joinParts p a b) .caught x y ≡ joinCaught (k .caught) a b x y
   join-caught =

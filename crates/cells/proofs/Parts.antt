@@ -7,9 +7,10 @@ use native.Mathlib.Nat.{add-zero, add-suc}
 use native.Mathlib.Omega.{arith}
 use lib.Dec.{eqb, ltb}
 use lib.ListN.{length, take, drop, getD, length-append, length-drop, List·getD-eq-default}
-use lib.Seq.{take-at, drop-at, take-add, take-all, getD-take, getD-drop, length-take-le}
+use lib.Seq.{take-at, drop-at, drop-drop, take-add, take-all, getD-take, getD-drop, length-take-le}
 use borrow.Author.Tests.{eqb-true, eq-eqb, ne-eqb, ltb-true, ltb-false}
 use borrow.Rule.Slice.PartMut.{midOf, putMid}
+use Rattle.lists.specs.Arranged.{replaced}
 use Rattle.lists.proofs.Cases.{cases}
 use Rattle.cells.specs.Sizes.{lowerBytes}
 use Rattle.cells.specs.Parts.{Parts, Sized, parts, sizes, size, offset, inRow, glue, split, wrote, _⟨_≔_⟩}
@@ -128,6 +129,9 @@ pub part-lent : (d : List ℕ) (i : ℕ) (f : List ℕ → List ℕ) {q : List �
 unfolding split
 part-lent d i f {q} h l e = part-wrote d i q h l ∙ ap (wrote d i) e
 
+pub part-put : (d : List ℕ) (i : ℕ) (q : List ℕ) → length d ≡ lowerBytes → i < parts → replaced d (offset i) (size i) q ≡ wrote d i q
+part-put d i q h l = ap (λ z. take (offset i) d ++ (q ++ z)) (sym (drop-drop (size i) (offset i) d)) ∙ part-wrote d i q h l
+
 -- byte j of k bytes from a on, and of part i, read in the whole
 pub mid-byte : (d : List ℕ) (a k j : ℕ) → j < k → getD d (a + j) 0 ≡ getD (midOf a k d) j 0
 mid-byte d a k j h = sym (getD-drop a d j 0) ∙ sym (getD-take k (drop a d) j 0 h)
@@ -154,3 +158,8 @@ holds-step g h e s = record { eq = e ∙ ap (λ q. glue (g q)) (split-is h); siz
 -- one part written, with a function of the old one
 pub holds-wrote : {d d′ : List ℕ} {p : Parts} (i : ℕ) (f : List ℕ → List ℕ) → Holds d p → d′ ≡ wrote d i (f (split d i)) → length (f (p i)) ≡ size i → Holds d′ (p ⟨ i ≔ f (p i) ⟩)
 holds-wrote {p} i f h e l = holds-step (λ q. q ⟨ i ≔ f (q i) ⟩) h e (sized-with (h .sized) i (f (p i)) l)
+
+-- one part put in whole
+pub holds-put : {d d′ : List ℕ} {p : Parts} (i : ℕ) (q : List ℕ) → i < parts → length q ≡ size i → Holds d p → d′ ≡ replaced d (offset i) (length q) q → Holds d′ (p ⟨ i ≔ q ⟩)
+holds-put {d} {p} i q l s h e =
+    holds-wrote i (λ t. q) h (e ∙ ap (λ n. replaced d (offset i) n q) s ∙ part-put d i q (ap length (h .eq) ∙ glue-length p (h .sized)) l) s

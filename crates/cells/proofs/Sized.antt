@@ -43,6 +43,10 @@ pub caught-sized : {p : Parts} → Sized p → (f : ℕ → ℕ → Bool) → Si
 unfolding size
 caught-sized h f = sized-with h caughtPart (pack clients f) (pack-length clients f)
 
+pub seenRow-sized : {p : Parts} → Sized p → (a : ℕ) (f : ℕ → Bool) → a < revisions → Sized (p ⟨ seenPart ≔ putRow 8 (p seenPart) a f ⟩)
+unfolding size
+seenRow-sized {p} h a f l = let s = h .of seenPart in sized-with h seenPart (putRow 8 (p seenPart) a f) (putRow-length 8 revisions (p seenPart) a f s l ∙ s)
+
 pub caughtRow-sized : {p : Parts} → Sized p → (c : ℕ) (f : ℕ → Bool) → c < clients → Sized (p ⟨ caughtPart ≔ putRow 8 (p caughtPart) c f ⟩)
 unfolding size
 caughtRow-sized {p} h c f l = let s = h .of caughtPart in sized-with h caughtPart (putRow 8 (p caughtPart) c f) (putRow-length 8 clients (p caughtPart) c f s l ∙ s)
@@ -108,12 +112,12 @@ splice-sized {p} h a b =
     either-size true i l e = h .of i
     either-size false i l e = e ∙ h .of i
 
-pub join-sized : {p : Parts} → Sized p → (a b : ℕ) → Sized (joinParts p a b)
+pub join-sized : {p : Parts} → Sized p → (a b : ℕ) → a < revisions → Sized (joinParts p a b)
 unfolding size
-join-sized {p} h a b =
+join-sized {p} h a b al =
     let k = decode p in
     let s = sized-with (splice-sized h a b) countPart (putWord (p countPart) a (k .count a + k .count b)) (putWord-length (p countPart) a _ ∙ h .of countPart) in
-    let m = caught-sized (seen-sized s (joinPool (k .seen) a b)) (joinCaught (k .caught) a b) in
+    let m = caught-sized (seenRow-sized s a (joinPool (k .seen) a b a) al) (joinCaught (k .caught) a b) in
     let t = sized-with m statePart (set (p statePart) b stateJoined) (length-set (p statePart) b _ ∙ h .of statePart) in
     let l = sized-with t layoutPart (take revisions (remove b (p layoutPart) ++ (0 ∷ []))) (whole (remove b (p layoutPart) ++ (0 ∷ [])) (remove-length b (p layoutPart))) in
     let q = sized-with l queuePart (joinQueue k b) (length-set (p queuePart) (k .given - k .out) b ∙ h .of queuePart) in
@@ -126,6 +130,7 @@ pub fresh-sized : Sized freshParts
 unfolding size signature
 fresh-sized =
     let z : Sized (λ i. replicate (size i) 0) = record { of = λ i. length-replicate (size i) 0 } in
-    let a = sized-with (caught-sized z (λ c r. true)) statePart (set (replicate 64 0) main stateOut) refl in
+    let f = sized-with (caught-sized z (λ c r. true)) statePart (set (replicate revisions 0) main stateOut) refl in
+    let a = sized-with f layoutPart (replicate revisions main) refl in
     let b = sized-with (sized-with (sized-with a queuePart (replicate 64 1) refl) openedPart (replicate 16 closed) refl) countersPart (0 ∷ 0 ∷ 1 ∷ 1 ∷ []) refl in
     sized-with b signaturePart signature refl

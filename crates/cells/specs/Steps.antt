@@ -21,9 +21,10 @@ abbrev pub freshParts : Parts
 freshParts =
     (λ i. replicate (size i) 0)
     ⟨ caughtPart ≔ pack clients (λ c r. true) ⟩
-    ⟨ statePart ≔ set (replicate 64 0) main stateOut ⟩
-    ⟨ queuePart ≔ replicate 64 1 ⟩
-    ⟨ openedPart ≔ replicate 16 closed ⟩
+    ⟨ statePart ≔ set (replicate revisions 0) main stateOut ⟩
+    ⟨ layoutPart ≔ replicate revisions main ⟩
+    ⟨ queuePart ≔ replicate revisions 1 ⟩
+    ⟨ openedPart ≔ replicate clients closed ⟩
     ⟨ countersPart ≔ 0 ∷ 0 ∷ 1 ∷ 1 ∷ [] ⟩
     ⟨ signaturePart ≔ signature ⟩
 
@@ -99,7 +100,7 @@ joinParts p a b =
     let k = decode p in
     spliceParts p a b
     ⟨ countPart ≔ putWord (p countPart) a (k .count a + k .count b) ⟩
-    ⟨ seenPart ≔ pack revisions (joinPool (k .seen) a b) ⟩
+    ⟨ seenPart ≔ putRow 8 (p seenPart) a (joinPool (k .seen) a b a) ⟩
     ⟨ caughtPart ≔ pack clients (joinCaught (k .caught) a b) ⟩
     ⟨ statePart ≔ set (p statePart) b stateJoined ⟩
     ⟨ layoutPart ≔ take revisions (remove b (p layoutPart) ++ (0 ∷ [])) ⟩

@@ -10,10 +10,10 @@ use Rattle.cells.specs.Cells.{nextNumber}
 use Rattle.cells.specs.Decode.{cells}
 use Rattle.cells.specs.Range.{inRange}
 use Rattle.cells.proofs.Range.{next-ranged, ranges}
-use Rattle.fields.specs.Numbers.{revisionCheck}
-use Rattle.fields.specs.declared.table.Client.{Client}
-use Rattle.fields.specs.declared.table.Revision.{Revision}
-use Rattle.fields.specs.declared.table.RevisionCheck.the-variants as revision
+use Rattle.sizes.specs.Numbers.{revisionCheck}
+use Rattle.sizes.specs.declared.numbers.Client.{Client}
+use Rattle.sizes.specs.declared.numbers.Revision.{Revision}
+use Rattle.sizes.specs.declared.numbers.RevisionCheck.the-variants as revision
 use Rattle.fields.proofs.InRange.{known-below, known-revision, unknown-above, unknown-revision}
 use Rattle.checks.specs.Answers.{clientCheck, givenCheck, nextCheck}
 use Rattle.checks.specs.declared.given.GivenCheck.the-variants as given

@@ -8,15 +8,13 @@ ghost use Rattle.cells.specs.Sizes.{lowerBytes, clients};
 ghost use Rattle.cells.specs.Decode.{cells};
 ghost use Rattle.cells.specs.Checks.{busy, busyByOther};
 ghost use Rattle.checks.specs.Answers.{otherUseCheck, useCheck};
-use crate::client::ClientCheck;
-use crate::client::check_client;
-use fields::numbers::wide;
 use fields::read;
-use fields::table::Client;
-use fields::table::Revision;
-use fields::table::Table;
+use sizes::numbers::Client;
+use sizes::numbers::Revision;
+use sizes::numbers::wide;
+use sizes::table::Table;
 
-// How many clients there are, of the type of a client number.
+// How many clients there are, of the type of a client number: each number below it is a client.
 const CLIENTS: u8 = Table::CLIENTS as u8;
 
 pub enum UseCheck {
@@ -24,15 +22,12 @@ pub enum UseCheck {
     Busy,
 }
 
-// Whether client x's transaction is on revision `at`.
-fn is_on(d: &[u8], x: u8, at: usize) -> bool
-    requires { ⌜ (length (now d) ≡ lowerBytes) × (x < clients) ⌝ }
-    ensures { λ b. ⌜ b ≡ eqb (cells (now (d .entry)) .opened x) at ⌝ }
+// Whether x has an open transaction on r.
+fn is_on(d: &[u8], x: Client, r: Revision) -> bool
+    requires { ⌜ (length (now d) ≡ lowerBytes) × (x .0 < clients) ⌝ }
+    ensures { λ b. ⌜ b ≡ eqb (cells (now (d .entry)) .opened (x .0)) (r .0) ⌝ }
 {
-    let ClientCheck::Known(c) = check_client(x) else {
-        return false;
-    };
-    read::opened(d, c) == at
+    read::opened(d, x) == wide(r.0)
 }
 
 // Whether some client has an open transaction on r.
@@ -40,10 +35,9 @@ fn is_busy(d: &[u8], r: Revision) -> bool
     requires { ⌜ length (now d) ≡ lowerBytes ⌝ }
     ensures { λ b. ⌜ b ≡ busy (cells (now (d .entry))) (r .0) ⌝ }
 {
-    let at = wide(r.0);
     let mut x: u8 = 0;
     while x < CLIENTS {
-        if is_on(d, x, at) {
+        if is_on(d, Client(x), r) {
             return true;
         }
         x += 1;
@@ -51,15 +45,15 @@ fn is_busy(d: &[u8], r: Revision) -> bool
     false
 }
 
-// Whether client x is not c and its transaction is on revision `at`.
-fn is_other_on(d: &[u8], x: u8, c: u8, at: usize) -> bool
-    requires { ⌜ (length (now d) ≡ lowerBytes) × (x < clients) ⌝ }
-    ensures { λ b. ⌜ b ≡ (not (eqb x c) && eqb (cells (now (d .entry)) .opened x) at) ⌝ }
+// Whether x is not c and has an open transaction on r.
+fn is_other_on(d: &[u8], x: Client, c: Client, r: Revision) -> bool
+    requires { ⌜ (length (now d) ≡ lowerBytes) × (x .0 < clients) ⌝ }
+    ensures { λ b. ⌜ b ≡ (not (eqb (x .0) (c .0)) && eqb (cells (now (d .entry)) .opened (x .0)) (r .0)) ⌝ }
 {
-    if x == c {
+    if x.0 == c.0 {
         return false;
     }
-    is_on(d, x, at)
+    is_on(d, x, r)
 }
 
 // Whether a client other than c has an open transaction on r.
@@ -67,11 +61,9 @@ fn is_busy_by_other(d: &[u8], c: Client, r: Revision) -> bool
     requires { ⌜ length (now d) ≡ lowerBytes ⌝ }
     ensures { λ b. ⌜ b ≡ busyByOther (cells (now (d .entry))) (c .0) (r .0) ⌝ }
 {
-    let at = wide(r.0);
-    let me = c.0;
     let mut x: u8 = 0;
     while x < CLIENTS {
-        if is_other_on(d, x, me, at) {
+        if is_other_on(d, Client(x), c, r) {
             return true;
         }
         x += 1;

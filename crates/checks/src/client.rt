@@ -1,9 +1,9 @@
 // Code 2: a client number.
 ghost use mathlib.Core.Path.{_≡_};
 ghost use Rattle.checks.specs.Answers.{clientCheck};
-use fields::numbers::wide;
-use fields::table::Client;
-use fields::table::Table;
+use sizes::numbers::Client;
+use sizes::numbers::wide;
+use sizes::table::Table;
 
 pub enum ClientCheck {
     Known(Client),

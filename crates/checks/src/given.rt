@@ -4,10 +4,10 @@ ghost use lib.ListN.{length};
 ghost use Rattle.cells.specs.Sizes.{lowerBytes};
 ghost use Rattle.checks.specs.Answers.{givenCheck};
 use fields::read;
-use fields::table::Revision;
-use fields::table::RevisionCheck;
-use fields::table::Table;
-use fields::table::check_revision;
+use sizes::numbers::Revision;
+use sizes::numbers::RevisionCheck;
+use sizes::numbers::check_revision;
+use sizes::table::Table;
 
 pub enum GivenCheck {
     Given(Revision),

@@ -5,7 +5,7 @@ ghost use lib.ListN.{length};
 ghost use Rattle.cells.specs.Sizes.{lowerBytes, revisions};
 ghost use Rattle.checks.specs.Answers.{joinableCheck};
 use fields::read;
-use fields::table::Revision;
+use sizes::numbers::Revision;
 
 pub enum JoinableCheck {
     Joinable,

@@ -5,8 +5,8 @@ ghost use lib.ListN.{length};
 ghost use Rattle.cells.specs.Sizes.{lowerBytes, revisions};
 ghost use Rattle.checks.specs.Answers.{joinedCheck};
 use fields::read;
-use fields::table::Revision;
-use fields::table::Table;
+use sizes::numbers::Revision;
+use sizes::table::Table;
 
 pub enum JoinedCheck {
     Out,

@@ -4,7 +4,7 @@ ghost use lib.ListN.{length};
 ghost use Rattle.cells.specs.Sizes.{lowerBytes};
 ghost use Rattle.checks.specs.Answers.{logCheck};
 use fields::read;
-use fields::table::Table;
+use sizes::table::Table;
 
 pub enum LogCheck {
     Room,

@@ -8,10 +8,10 @@ ghost use Rattle.cells.specs.Decode.{cells};
 ghost use Rattle.cells.specs.Range.{inRange};
 ghost use Rattle.checks.specs.Answers.{nextCheck};
 use fields::read;
-use fields::table::Revision;
-use fields::table::RevisionCheck;
-use fields::table::Table;
-use fields::table::check_revision;
+use sizes::numbers::Revision;
+use sizes::numbers::RevisionCheck;
+use sizes::numbers::check_revision;
+use sizes::table::Table;
 
 pub enum NextCheck {
     Next(Revision),

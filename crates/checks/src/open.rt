@@ -4,11 +4,11 @@ ghost use Prim.Native.Nat.{_<_};
 ghost use lib.ListN.{length};
 ghost use Rattle.cells.specs.Sizes.{lowerBytes, clients};
 ghost use Rattle.checks.specs.Answers.{openCheck};
-use fields::numbers::wide;
 use fields::read;
-use fields::table::Client;
-use fields::table::Revision;
-use fields::table::Table;
+use sizes::numbers::Client;
+use sizes::numbers::Revision;
+use sizes::numbers::wide;
+use sizes::table::Table;
 
 pub enum OpenCheck {
     Clear,

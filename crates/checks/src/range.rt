@@ -8,20 +8,20 @@ ghost use Rattle.cells.specs.Sizes.{lowerBytes};
 ghost use Rattle.cells.specs.Parts.{countersPart, queuePart, signaturePart, split};
 ghost use Rattle.cells.specs.Range.{bytesBelow, countersIn, inRange, placesIn, queueIn, recordsIn, signed, singlesIn, wordsBelow};
 ghost use Rattle.checks.specs.Answers.{rangeCheck};
+use fields::parts::BASE;
+use fields::parts::CLOSED_UPDATES;
+use fields::parts::COUNT;
+use fields::parts::FIRST;
+use fields::parts::LAST;
+use fields::parts::LAYOUT;
+use fields::parts::OPENED;
+use fields::parts::QUEUE;
+use fields::parts::SIGNATURE;
+use fields::parts::SINGLE;
+use fields::parts::STATE;
+use fields::parts::USED;
 use fields::read;
-use fields::table::BASE;
-use fields::table::CLOSED_UPDATES;
-use fields::table::COUNT;
-use fields::table::FIRST;
-use fields::table::LAST;
-use fields::table::LAYOUT;
-use fields::table::OPENED;
-use fields::table::QUEUE;
-use fields::table::SIGNATURE;
-use fields::table::SINGLE;
-use fields::table::STATE;
-use fields::table::Table;
-use fields::table::USED;
+use sizes::table::Table;
 
 pub enum RangeCheck {
     Sound,

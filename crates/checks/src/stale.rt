@@ -5,8 +5,8 @@ ghost use lib.ListN.{length};
 ghost use Rattle.cells.specs.Sizes.{lowerBytes, clients, revisions};
 ghost use Rattle.checks.specs.Answers.{staleCheck};
 use fields::read;
-use fields::table::Client;
-use fields::table::Revision;
+use sizes::numbers::Client;
+use sizes::numbers::Revision;
 
 pub enum StaleCheck {
     CaughtUp,

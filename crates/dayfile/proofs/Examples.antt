@@ -3,7 +3,7 @@ use Prim.Native.Nat.{ℕ}
 use mathlib.Core.Path.{_≡_, refl}
 use mathlib.Core.List.{List, [], _∷_, _++_}
 use lib.ListN.{replicate}
-use Rattle.dayfile.specs.Numbers.{number}
+use Rattle.buffers.specs.Numbers.{number}
 use Rattle.dayfile.specs.File.{fileCheck}
 use Rattle.dayfile.specs.Record.{stepAt, stepOf}
 use Rattle.dayfile.specs.declared.file.FileCheck.the-variants.{Good, Bad}

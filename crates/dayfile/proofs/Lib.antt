@@ -1,4 +1,3 @@
--- Laws of a number and its bytes, and of what a good file is; and examples.
-pub mod Widths
+-- Laws of what a good file is, and examples.
 pub mod Good
 pub mod Examples

@@ -4,7 +4,7 @@ use mathlib.Core.Bool.{Bool, cond, not, _||_}
 use mathlib.Core.List.{List}
 use lib.Dec.{eqb, ltb}
 use lib.ListN.{length}
-use Rattle.dayfile.specs.Numbers.{numberAt}
+use Rattle.buffers.specs.Numbers.{numberAt}
 use Rattle.dayfile.specs.declared.file.FileCheck.{FileCheck}
 use Rattle.dayfile.specs.declared.file.FileCheck.the-variants.{Good, Bad}
 

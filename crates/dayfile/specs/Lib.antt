@@ -1,4 +1,3 @@
--- What a day file says: its numbers, its header, its records. 01, "Day file and printed day".
-pub mod Numbers
+-- What a day file says: its header, its records. 01, "Day file and printed day".
 pub mod File
 pub mod Record

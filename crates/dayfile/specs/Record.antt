@@ -4,7 +4,7 @@ use mathlib.Core.Bool.{cond}
 use mathlib.Core.List.{List}
 use lib.Dec.{eqb, leb}
 use lib.ListN.{length, take, drop, getD}
-use Rattle.dayfile.specs.Numbers.{numberAt}
+use Rattle.buffers.specs.Numbers.{numberAt}
 use Rattle.dayfile.specs.File.{offset}
 use Rattle.dayfile.specs.declared.step.Step.{Step}
 use Rattle.dayfile.specs.declared.step.Step.the-variants.{Update, Query, Yield, Fork, Join, Unknown}

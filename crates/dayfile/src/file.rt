@@ -1,7 +1,7 @@
 // The check of the file: header and length.
 ghost use mathlib.Core.Path.{_≡_};
 ghost use Rattle.dayfile.specs.File.{fileCheck};
-use crate::numbers::read;
+use buffers::numbers::read;
 
 pub struct File;
 

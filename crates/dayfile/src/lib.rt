@@ -1,5 +1,4 @@
 // The day file as bytes: its check, and each record as a step. Knows no table.
 pub mod file; // file.rt: the check of the file
-pub mod numbers; // numbers.rt: numbers of several bytes
 mod record; // record.rt: twelve bytes decoded
 pub mod step; // step.rt: a step, and the step of a record by its index

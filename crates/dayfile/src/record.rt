@@ -3,8 +3,8 @@ ghost use mathlib.Core.Path.{_≡_};
 ghost use lib.ListN.{length};
 ghost use Rattle.dayfile.specs.Record.{queryOf, stepOf, updateOf};
 ghost use Rattle.dayfile.specs.Record.{bib as Record·bib};
-use crate::numbers::read;
 use crate::step::Step;
+use buffers::numbers::read;
 
 fn bib(p: &[u8]) -> u16
     requires { ⌜ length (now p) ≡ 12 ⌝ }

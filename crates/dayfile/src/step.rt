@@ -2,8 +2,8 @@
 ghost use mathlib.Core.Path.{_≡_};
 ghost use Rattle.dayfile.specs.Record.{stepAt};
 use crate::file::File;
-use crate::numbers::read;
 use crate::record::decode;
+use buffers::numbers::read;
 
 // Revision: 01's box. Client: 01's tablet. The numbers are as the file has them, of any size.
 pub enum Step {

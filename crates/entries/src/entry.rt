@@ -7,11 +7,3 @@ pub struct Entry {
     pub bib: u16,
     pub v: u32,
 }
-
-impl Entry {
-    // docs/CELLS.md: six bytes an entry
-    pub const BYTES: usize = 6;
-
-    // 01: "4,096 updates at most"
-    pub const MOST: u16 = 4096;
-}

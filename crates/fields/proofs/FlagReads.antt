@@ -30,7 +30,11 @@ module _ (d : List ℕ) where
   pub flagged-at : (r u : ℕ) → r < revisions → (r ≡ 0 → ⊥) → u < updates → cells d .used r ≡ true → bit (getD d (512 * (r - 1) + u / 8) 0) (u % 8) ≡ flagged (cells d) r u
   unfolding cells offset size
   flagged-at zero u h n l e = absurd (n refl)
-  flagged-at (suc r) u h n l e = rw (e, sub-one, lt-ltb r 63 (omega arith), lt-ltb u updates l) (let e : 512 * r + u / 8 ≡ offset rowsPart + (512 * r + u / 8) = omega arith in ap (λ z. bit (getD d z 0) (u % 8)) e ∙ ap (λ b. bit b (u % 8)) (part-byte d rowsPart (512 * r + u / 8) (omega arith)))
+  flagged-at (suc r) u h n l e =
+      let at = 512 * r + u / 8 in
+      let in-part : at ≡ offset rowsPart + at = omega arith in
+      rw (e, sub-one, lt-ltb r 63 (omega arith), lt-ltb u updates l)
+      (ap (λ z. bit (getD d z 0) (u % 8)) in-part ∙ ap (λ b. bit b (u % 8)) (part-byte d rowsPart at (omega arith)))
 
   -- a whole row
   pub row-used : (r x : ℕ) → 0 < r → r < revisions → x ≡ r → cells d .used r ≡ true → rowBytes 512 (λ u. bit (byte d (512 * (x - 1) + u / 8)) (u % 8)) ≡ rowBytes 512 (flagged (cells d) r)

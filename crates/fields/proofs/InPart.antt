@@ -1,4 +1,4 @@
--- A byte, a word or flags of a part: the part is lent and written at an index x that equals r. A flag read in the whole.
+-- A byte or a word of a part: the part is lent and written at an index x that equals r. A flag read in the whole.
 use Prim.Native.Nat.{ℕ, _+_, _*_, _/_, _%_, _<_}
 use mathlib.Core.Path.{_≡_, ap, _∙_}
 use mathlib.Core.List.{List}
@@ -30,6 +30,3 @@ module _ (d : List ℕ) (i : ℕ) where
 
   pub word-lent : (v : ℕ) {q : List ℕ} {x r : ℕ} → length d ≡ lowerBytes → i < parts → x ≡ r → q ≡ putWord lent x v → putMid (offset i) (size i) d q ≡ wrote d i (putWord (split d i) r v)
   word-lent v = lent-at (λ r t. putWord t r v)
-
-  pub flags-lent : (f : ℕ → ℕ → List ℕ → List ℕ) {q : List ℕ} {x y a b : ℕ} → length d ≡ lowerBytes → i < parts → x ≡ a → y ≡ b → q ≡ f x y lent → putMid (offset i) (size i) d q ≡ wrote d i (f a b (split d i))
-  flags-lent f {x} {b} h l e g w = lent-at (λ z. f z b) h l e (w ∙ ap (λ z. f x z lent) g)

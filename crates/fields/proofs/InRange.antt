@@ -7,10 +7,10 @@ use lib.Dec.{ltb}
 use borrow.Author.Tests.{ltb-true, ltb-false}
 use Rattle.lists.proofs.Cases.{cases}
 use Rattle.cells.specs.Sizes.{revisions}
-use Rattle.fields.specs.Numbers.{revisionCheck}
-use Rattle.fields.specs.declared.table.Revision.{Revision}
-use Rattle.fields.specs.declared.table.RevisionCheck.{RevisionCheck}
-use Rattle.fields.specs.declared.table.RevisionCheck.the-variants.{Known, Unknown}
+use Rattle.sizes.specs.Numbers.{revisionCheck}
+use Rattle.sizes.specs.declared.numbers.Revision.{Revision}
+use Rattle.sizes.specs.declared.numbers.RevisionCheck.{RevisionCheck}
+use Rattle.sizes.specs.declared.numbers.RevisionCheck.the-variants.{Known, Unknown}
 
 -- An answer of such a check, told as a number: the number that it knows, plus one, or 0. So it tells on which side of the limit n is.
 module _ {C : Type 0} (told : C → ℕ) (n limit : ℕ) (yes no : C) (ey : told yes ≡ suc n) (en : told no ≡ 0) {a : C} (e : cond (ltb n limit) yes no ≡ a) where

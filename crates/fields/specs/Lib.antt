@@ -1,3 +1,2 @@
--- Words of the layout's code, and the range check of a revision number.
-pub mod Numbers
+-- The layout of the places: words of the code.
 pub mod Place

@@ -3,7 +3,7 @@ ghost use mathlib.Core.Path.{_≡_};
 ghost use mathlib.Core.List.{[], _++_, _∷_};
 ghost use Prim.Native.Nat.{_+_, _<_};
 ghost use lib.ListN.{drop, length, take};
-use crate::table::Table;
+use sizes::table::Table;
 
 // The last place.
 const LAST_PLACE: usize = Table::REVISIONS - 1;

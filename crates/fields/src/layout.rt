@@ -5,7 +5,7 @@ ghost use lib.ListN.{length, take};
 ghost use Rattle.lists.specs.Arranged.{insertBefore, remove};
 ghost use Rattle.fields.specs.Place.{firstPlace};
 use crate::gaps;
-use crate::table::Table;
+use sizes::table::Table;
 
 // The first place of r, or `Table::REVISIONS`.
 pub fn find(t: &[u8], r: u8) -> usize

@@ -3,12 +3,7 @@ ghost use mathlib.Core.Path.{_≡_};
 ghost use Prim.Native.Nat.{_+_, _*_, _/_, _<_};
 ghost use lib.ListN.{length, set};
 ghost use Rattle.cells.specs.Words.{byte, half, putHalf, putWord, word};
-
-pub fn wide(x: u8) -> usize
-    ensures { λ r. ⌜ (r ≡ x) × (r < 256) ⌝ }
-{
-    x as usize
-}
+use sizes::numbers::wide;
 
 pub fn word_at(t: &[u8], r: usize) -> usize
     requires { ⌜ 2 * r + 1 < length (now t) ⌝ }

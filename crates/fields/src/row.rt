@@ -7,10 +7,10 @@ ghost use Rattle.cells.specs.Words.{byte};
 ghost use Rattle.cells.specs.Flags.{bit, flagAt, putRow, rowBytes};
 ghost use Rattle.cells.specs.Cells.{flagged};
 ghost use Rattle.cells.specs.Decode.{cells};
-use crate::numbers::wide;
 use crate::read;
-use crate::table::Revision;
-use crate::table::Table;
+use sizes::numbers::Revision;
+use sizes::numbers::wide;
+use sizes::table::Table;
 
 // Row x of the rows.
 fn copy(d: &[u8], x: usize) -> [u8; Table::ROW]

@@ -20,26 +20,26 @@ use crate::layout;
 use crate::numbers::put_byte;
 use crate::numbers::put_half;
 use crate::numbers::put_word;
-use crate::numbers::wide;
-use crate::table::BASE;
-use crate::table::CAUGHT;
-use crate::table::COUNT;
-use crate::table::COUNTERS;
-use crate::table::Client;
-use crate::table::FIRST;
-use crate::table::HIGH;
-use crate::table::LAST;
-use crate::table::LAYOUT;
-use crate::table::LOW;
-use crate::table::NAMES;
-use crate::table::OPENED;
-use crate::table::QUEUE;
-use crate::table::ROWS;
-use crate::table::Revision;
-use crate::table::SEEN;
-use crate::table::STATE;
-use crate::table::Table;
-use crate::table::USED;
+use crate::parts::BASE;
+use crate::parts::CAUGHT;
+use crate::parts::COUNT;
+use crate::parts::COUNTERS;
+use crate::parts::FIRST;
+use crate::parts::HIGH;
+use crate::parts::LAST;
+use crate::parts::LAYOUT;
+use crate::parts::LOW;
+use crate::parts::NAMES;
+use crate::parts::OPENED;
+use crate::parts::QUEUE;
+use crate::parts::ROWS;
+use crate::parts::SEEN;
+use crate::parts::STATE;
+use crate::parts::USED;
+use sizes::numbers::Client;
+use sizes::numbers::Revision;
+use sizes::numbers::wide;
+use sizes::table::Table;
 
 pub fn state(d: &mut [u8], r: Revision, v: usize)
     requires { ⌜ (length (now d) ≡ lowerBytes) × (r .0 < revisions) × (v < 256) ⌝ }
@@ -131,7 +131,7 @@ pub fn caught_only(d: &mut [u8], c: Client, r: Revision)
     requires { ⌜ (length (now d) ≡ lowerBytes) × (c .0 < clients) × (r .0 < revisions) ⌝ }
     ensures { λ _. ⌜ now (d .exit) ≡ wrote (now (d .entry)) caughtPart (putRow 8 (split (now (d .entry)) caughtPart) (c .0) (λ y. eqb y (r .0))) ⌝ }
 {
-    flags::packed::set_only(&mut d[CAUGHT..STATE], wide(c.0), wide(r.0));
+    flags::packed::set_only(&mut d[CAUGHT..STATE], c, r);
 }
 
 // The parent forked the child: the seen flags.
@@ -139,15 +139,15 @@ pub fn fork_seen(d: &mut [u8], parent: Revision, child: Revision)
     requires { ⌜ (length (now d) ≡ lowerBytes) × (parent .0 < revisions) × (child .0 < revisions) ⌝ }
     ensures { λ _. ⌜ now (d .exit) ≡ wrote (now (d .entry)) seenPart (pack revisions (forkPool (cells (now (d .entry)) .seen) (parent .0) (child .0))) ⌝ }
 {
-    flags::packed::fork_seen(&mut d[SEEN..CAUGHT], wide(parent.0), wide(child.0));
+    flags::packed::fork_seen(&mut d[SEEN..CAUGHT], parent, child);
 }
 
 // a joined b: the seen flags.
 pub fn join_seen(d: &mut [u8], a: Revision, b: Revision)
     requires { ⌜ (length (now d) ≡ lowerBytes) × (a .0 < revisions) × (b .0 < revisions) ⌝ }
-    ensures { λ _. ⌜ now (d .exit) ≡ wrote (now (d .entry)) seenPart (pack revisions (joinPool (cells (now (d .entry)) .seen) (a .0) (b .0))) ⌝ }
+    ensures { λ _. ⌜ now (d .exit) ≡ wrote (now (d .entry)) seenPart (putRow 8 (split (now (d .entry)) seenPart) (a .0) (joinPool (cells (now (d .entry)) .seen) (a .0) (b .0) (a .0))) ⌝ }
 {
-    flags::packed::join_seen(&mut d[SEEN..CAUGHT], wide(a.0), wide(b.0));
+    flags::packed::join_seen(&mut d[SEEN..CAUGHT], a, b);
 }
 
 // The parent forked the child: the caught-up flags.
@@ -155,7 +155,7 @@ pub fn fork_caught(d: &mut [u8], parent: Revision, child: Revision)
     requires { ⌜ (length (now d) ≡ lowerBytes) × (parent .0 < revisions) × (child .0 < revisions) ⌝ }
     ensures { λ _. ⌜ now (d .exit) ≡ wrote (now (d .entry)) caughtPart (pack clients (forkCaught (cells (now (d .entry)) .caught) (parent .0) (child .0))) ⌝ }
 {
-    flags::packed::fork_caught(&mut d[CAUGHT..STATE], wide(parent.0), wide(child.0));
+    flags::packed::fork_caught(&mut d[CAUGHT..STATE], parent, child);
 }
 
 // a joined b: the caught-up flags.
@@ -163,7 +163,7 @@ pub fn join_caught(d: &mut [u8], a: Revision, b: Revision)
     requires { ⌜ (length (now d) ≡ lowerBytes) × (a .0 < revisions) × (b .0 < revisions) ⌝ }
     ensures { λ _. ⌜ now (d .exit) ≡ wrote (now (d .entry)) caughtPart (pack clients (joinCaught (cells (now (d .entry)) .caught) (a .0) (b .0))) ⌝ }
 {
-    flags::packed::join_caught(&mut d[CAUGHT..STATE], wide(a.0), wide(b.0));
+    flags::packed::join_caught(&mut d[CAUGHT..STATE], a, b);
 }
 
 // The child comes into the layout in front of the parent.

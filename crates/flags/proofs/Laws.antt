@@ -16,7 +16,7 @@ use Rattle.cells.specs.Flags.{bit, byteOf, flagAt, flagIn, rowBytes, putRow, pa
 use Rattle.lists.specs.Pool.{forkPool, joinPool}
 use Rattle.cells.specs.CellSteps.{forkCaught, joinCaught}
 use Rattle.cells.proofs.Tables.{getD-changed, getD-tab, set-tab, tab-append, tab-none, tab-of, tab-same}
-use Rattle.cells.proofs.Flags.{bit-byte, byte-same, flag-row-bytes, flag-rows, pack-same, rowBytes-length, rowBytes-same, rows-same, rows-length}
+use Rattle.cells.proofs.Flags.{putRow-same, bit-byte, byte-same, flag-row-bytes, flag-rows, pack-same, rowBytes-length, rowBytes-same, rows-same, rows-length}
 
 -- one flag set in a row
 pub set-flag : (w : ℕ) (f : ℕ → Bool) (u v : ℕ) → u < 8 * w → v ≡ byteOf (changed (bit (byte (rowBytes w f) (u / 8))) (u % 8) true) → set (rowBytes w f) (u / 8) v ≡ rowBytes w (changed f u true)
@@ -61,14 +61,13 @@ flags-off row w on q = rowBytes-same 8 _ (λ y. cond (flagAt w y) on (flagAt row
 pub column-row : (row w : List ℕ) (c : ℕ) (on : Bool) → w ≡ rowBytes 8 (λ y. eqb y c) → rowBytes 8 (λ y. cond (flagAt w y) on (flagAt row y)) ≡ rowBytes 8 (changed (flagAt row) c on)
 column-row row w c on e = rowBytes-same 8 _ (changed (flagAt row) c on) (λ y h. ap (λ b. cond b on (flagAt row y)) (ap (λ z. flagAt z y) e ∙ flag-row-bytes 8 (λ z. eqb z c) y h))
 
+pub column-rows : (n : ℕ) (s : List (List ℕ)) (w : List ℕ) (c : ℕ) (on : ℕ → Bool) → w ≡ rowBytes 8 (λ y. eqb y c)
+    → tab (λ i. rowBytes 8 (λ y. cond (flagAt w y) (on i) (flagOf s i y))) n ≡ tab (λ i. rowBytes 8 (changed (flagOf s i) c (on i))) n
+column-rows n s w c on e = tab-same _ _ n (λ i h. column-row (getD s i []) w c (on i) e)
+
 -- a row of n rows replaced
 pub flag-set : (s : List (List ℕ)) (c : ℕ) (row : List ℕ) (x y : ℕ) → c < length s → flagOf (set s c row) x y ≡ changed (flagOf s) c (flagAt row) x y
 flag-set s c row x y h = rw (getD-changed s c row [] x h) (cases (eqb x c) (λ e. rw e) (λ e. rw e))
-
-join-row : (s : List (List ℕ)) (a b x y : ℕ) → a < length s → y < 64 → flagOf (set s a (rowBytes 8 (joinPool (flagOf s) a b a))) x y ≡ joinPool (flagOf s) a b x y
-join-row s a b x y h l =
-    flag-set s a (rowBytes 8 (joinPool (flagOf s) a b a)) x y h
-    ∙ cases (eqb x a) (λ e. rw (e, flag-row-bytes 8 (joinPool (flagOf s) a b a) y l, eq-eqb a a refl)) (λ e. rw e)
 
 -- the rows of a fork: row c is row p, and column c as told
 pub fork-rows : (s : List (List ℕ)) (p c : ℕ) → length s ≡ 64 → c < 64 → rows 64 (λ x. changed (flagOf (set s c (getD s p [])) x) c (eqb x p)) ≡ rows 64 (forkPool (flagOf s) p c)
@@ -85,9 +84,6 @@ fork-seen-same f g p c pl h x y xl yl =
     cases (eqb y c)
     (λ e. rw e)
     (λ e. rw e (cases (eqb x c) (λ i. rw i (h p y pl yl)) (λ i. rw i (h x y xl yl))))
-
-join-seen-same : (f g : ℕ → ℕ → Bool) (a b : ℕ) → a < 64 → b < 64 → Same 64 f g → Same 64 (joinPool f a b) (joinPool g a b)
-join-seen-same f g a b al bl h x y xl yl = cases (eqb x a) (λ e. rw (e, h a y al yl, h b y bl yl)) (λ e. rw e (h x y xl yl))
 
 fork-caught-same : (f g : ℕ → ℕ → Bool) (p c : ℕ) → p < 64 → Same 16 f g → Same 16 (forkCaught f p c) (forkCaught g p c)
 fork-caught-same f g p c pl h x y xl yl = cases (eqb y c) (λ e. rw e (h x p xl pl)) (λ e. rw e (h x y xl yl))
@@ -106,11 +102,6 @@ module _ (t : List ℕ) (s z : List (List ℕ)) (p c : ℕ) (pl : p < 64) (cl : 
   pub fork-seen-stored : s ≡ rows 64 (flagIn 8 64 t) → z ≡ rows 64 (forkPool (flagOf s) p c) → pack 64 (flagOf z) ≡ pack 64 (forkPool (flagIn 8 64 t) p c)
   fork-seen-stored e g = stored 64 _ _ z (as-rows 64 _ z g) (fork-seen-same (flagOf s) (flagIn 8 64 t) p c pl (as-rows 64 _ s e))
 
-  pub join-seen-stored : s ≡ rows 64 (flagIn 8 64 t) → z ≡ set s p (rowBytes 8 (joinPool (flagOf s) p c p)) → pack 64 (flagOf z) ≡ pack 64 (joinPool (flagIn 8 64 t) p c)
-  join-seen-stored e g =
-      let l : length s ≡ 64 = ap length e ∙ rows-length 64 (flagIn 8 64 t) in
-      stored 64 _ _ z (λ x y xl yl. ap (λ m. flagOf m x y) g ∙ join-row s p c x y (omega arith) yl) (join-seen-same (flagOf s) (flagIn 8 64 t) p c pl cl (as-rows 64 _ s e))
-
   pub fork-caught-stored : s ≡ rows 16 (flagIn 8 16 t) → z ≡ rows 16 (forkCaught (flagOf s) p c) → pack 16 (flagOf z) ≡ pack 16 (forkCaught (flagIn 8 16 t) p c)
   fork-caught-stored e g = stored 16 _ _ z (as-rows 16 _ z g) (fork-caught-same (flagOf s) (flagIn 8 16 t) p c pl (as-rows 16 _ s e))
 
@@ -120,6 +111,17 @@ module _ (t : List ℕ) (s z : List (List ℕ)) (p c : ℕ) (pl : p < 64) (cl : 
 -- row x of n rows, loaded
 pub row-loaded : (n : ℕ) (t : List ℕ) (x : ℕ) → x < n → rowBytes 8 (λ y. bit (byte t (8 * x + y / 8)) (y % 8)) ≡ rowBytes 8 (flagIn 8 n t x)
 row-loaded n t x h = rowBytes-same 8 _ (flagIn 8 n t x) (λ y g. rw (lt-ltb x n h, lt-ltb y 64 g))
+
+loaded-flag : (t row : List ℕ) (x y : ℕ) → x < 64 → y < 64 → row ≡ rowBytes 8 (λ z. bit (byte t (8 * x + z / 8)) (z % 8)) → flagAt row y ≡ flagIn 8 64 t x y
+loaded-flag t row x y xl yl e = ap (λ z. flagAt z y) (e ∙ row-loaded 64 t x xl) ∙ flag-row-bytes 8 (flagIn 8 64 t x) y yl
+
+-- the joiner's row and the joinee's loaded, and the flags of either stored
+pub join-row-stored : (t joiner joinee row : List ℕ) (a b : ℕ) → a < 64 → b < 64
+    → joiner ≡ rowBytes 8 (λ y. bit (byte t (8 * a + y / 8)) (y % 8)) → joinee ≡ rowBytes 8 (λ y. bit (byte t (8 * b + y / 8)) (y % 8))
+    → row ≡ rowBytes 8 (λ y. flagAt joiner y || flagAt joinee y) → putRow 8 t a (flagAt row) ≡ putRow 8 t a (joinPool (flagIn 8 64 t) a b a)
+join-row-stored t joiner joinee row a b al bl ea eb e =
+    putRow-same 8 t a (flagAt row) (joinPool (flagIn 8 64 t) a b a)
+    (λ y h. ap (λ z. flagAt z y) e ∙ flag-row-bytes 8 (λ z. flagAt joiner z || flagAt joinee z) y h ∙ rw (loaded-flag t joiner a y al h ea, loaded-flag t joinee b y bl h eb, eq-eqb a a refl))
 
 -- rows stored one after the other: x of them are
 pub pack-none : (f : ℕ → ℕ → Bool) → [] ≡ pack 0 f

@@ -3,28 +3,32 @@ ghost use mathlib.Core.Path.{_≡_};
 ghost use mathlib.Core.Bool.{cond, not, _||_, _&&_};
 ghost use Prim.Native.Nat.{_<_};
 ghost use lib.Dec.{eqb};
-ghost use lib.ListN.{set};
 ghost use Rattle.lists.specs.Lists.{changed};
+ghost use Rattle.cells.specs.Sizes.{clients, revisions};
 ghost use Rattle.cells.specs.Flags.{flagAt, rowBytes, rows, flagOf};
-ghost use Rattle.lists.specs.Pool.{forkPool, joinPool};
+ghost use Rattle.lists.specs.Pool.{forkPool};
 ghost use Rattle.cells.specs.CellSteps.{forkCaught, joinCaught};
-use crate::ROW;
 use crate::bits;
+use sizes::numbers::Revision;
+use sizes::numbers::wide;
+use sizes::table::Table;
 
 // The row with one flag alone.
-pub fn only(r: usize) -> [u8; ROW]
-    requires { ⌜ r < 64 ⌝ }
-    ensures { λ row. ⌜ row ≡ rowBytes 8 (λ y. eqb y r) ⌝ }
+pub fn only(r: Revision) -> [u8; Table::FLAGS]
+    requires { ⌜ r .0 < revisions ⌝ }
+    ensures { λ row. ⌜ row ≡ rowBytes 8 (λ y. eqb y (r .0)) ⌝ }
 {
-    let mut row = [0; ROW];
-    row[r / 8] = bits::set(0, r % 8);
+    let y = wide(r.0);
+    let mut row = [0; Table::FLAGS];
+    row[y / 8] = bits::set(0, y % 8);
     row
 }
 
-fn flag(row: [u8; ROW], y: usize) -> bool
-    requires { ⌜ y < 64 ⌝ }
-    ensures { λ r. ⌜ r ≡ flagAt row y ⌝ }
+fn flag(row: [u8; Table::FLAGS], r: Revision) -> bool
+    requires { ⌜ r .0 < revisions ⌝ }
+    ensures { λ on. ⌜ on ≡ flagAt row (r .0) ⌝ }
 {
+    let y = wide(r.0);
     bits::flag(row[y / 8], y % 8)
 }
 
@@ -35,12 +39,12 @@ fn or(a: bool, b: bool) -> bool
 }
 
 // The flags of either row.
-fn either(a: [u8; ROW], b: [u8; ROW]) -> [u8; ROW]
+fn either(a: [u8; Table::FLAGS], b: [u8; Table::FLAGS]) -> [u8; Table::FLAGS]
     ensures { λ r. ⌜ r ≡ rowBytes 8 (λ y. flagAt a y || flagAt b y) ⌝ }
 {
-    let mut z = [0; ROW];
+    let mut z = [0; Table::FLAGS];
     let mut k: usize = 0;
-    while k < ROW {
+    while k < Table::FLAGS {
         z[k] = bits::either(a[k], b[k]);
         k += 1;
     }
@@ -48,12 +52,12 @@ fn either(a: [u8; ROW], b: [u8; ROW]) -> [u8; ROW]
 }
 
 // The flags of a that b has not.
-fn without(a: [u8; ROW], b: [u8; ROW]) -> [u8; ROW]
+fn without(a: [u8; Table::FLAGS], b: [u8; Table::FLAGS]) -> [u8; Table::FLAGS]
     ensures { λ r. ⌜ r ≡ rowBytes 8 (λ y. flagAt a y && not (flagAt b y)) ⌝ }
 {
-    let mut z = [0; ROW];
+    let mut z = [0; Table::FLAGS];
     let mut k: usize = 0;
-    while k < ROW {
+    while k < Table::FLAGS {
         z[k] = bits::without(a[k], b[k]);
         k += 1;
     }
@@ -61,60 +65,70 @@ fn without(a: [u8; ROW], b: [u8; ROW]) -> [u8; ROW]
 }
 
 // The row with the flags of w as told. A loop over rows makes w once.
-fn with(row: [u8; ROW], w: [u8; ROW], on: bool) -> [u8; ROW]
+fn with(row: [u8; Table::FLAGS], w: [u8; Table::FLAGS], on: bool) -> [u8; Table::FLAGS]
     ensures { λ r. ⌜ r ≡ rowBytes 8 (λ y. cond (flagAt w y) on (flagAt row y)) ⌝ }
 {
     if on { either(row, w) } else { without(row, w) }
 }
 
 // The child's column: the parent has seen the child's fork, and no other has.
-fn fork_column(s: [[u8; ROW]; 64], parent: usize, child: usize) -> [[u8; ROW]; 64]
-    requires { ⌜ (parent < 64) × (child < 64) ⌝ }
-    ensures { λ r. ⌜ r ≡ rows 64 (λ x. changed (flagOf s x) child (eqb x parent)) ⌝ }
+fn fork_column(
+    s: [[u8; Table::FLAGS]; Table::REVISIONS],
+    parent: Revision,
+    child: Revision,
+) -> [[u8; Table::FLAGS]; Table::REVISIONS]
+    requires { ⌜ (parent .0 < revisions) × (child .0 < revisions) ⌝ }
+    ensures { λ r. ⌜ r ≡ rows revisions (λ x. changed (flagOf s x) (child .0) (eqb x (parent .0))) ⌝ }
 {
     let column = only(child);
-    let mut z = [[0; ROW]; 64];
+    let at = wide(parent.0);
+    let mut z = [[0; Table::FLAGS]; Table::REVISIONS];
     let mut x: usize = 0;
-    while x < 64 {
+    while x < Table::REVISIONS {
         let row = s[x];
-        z[x] = with(row, column, x == parent);
+        z[x] = with(row, column, x == at);
         x += 1;
     }
     z
 }
 
 // The seen flags after the parent forked the child.
-pub fn fork_seen(seen: [[u8; ROW]; 64], parent: usize, child: usize) -> [[u8; ROW]; 64]
-    requires { ⌜ (parent < 64) × (child < 64) ⌝ }
-    ensures { λ r. ⌜ r ≡ rows 64 (forkPool (flagOf seen) parent child) ⌝ }
+pub fn fork_seen(
+    seen: [[u8; Table::FLAGS]; Table::REVISIONS],
+    parent: Revision,
+    child: Revision,
+) -> [[u8; Table::FLAGS]; Table::REVISIONS]
+    requires { ⌜ (parent .0 < revisions) × (child .0 < revisions) ⌝ }
+    ensures { λ r. ⌜ r ≡ rows revisions (forkPool (flagOf seen) (parent .0) (child .0)) ⌝ }
 {
     let mut s = seen;
-    let row = s[parent];
-    s[child] = row;
+    let row = s[wide(parent.0)];
+    s[wide(child.0)] = row;
     fork_column(s, parent, child)
 }
 
-// The seen flags after a joined b.
-pub fn join_seen(seen: [[u8; ROW]; 64], a: usize, b: usize) -> [[u8; ROW]; 64]
-    requires { ⌜ (a < 64) × (b < 64) ⌝ }
-    ensures { λ r. ⌜ r ≡ set seen a (rowBytes 8 (joinPool (flagOf seen) a b a)) ⌝ }
+// The joiner's row of seen flags after the join, from its own row and the joinee's.
+pub fn join_seen(pair: [[u8; Table::FLAGS]; 2]) -> [u8; Table::FLAGS]
+    ensures { λ r. ⌜ r ≡ rowBytes 8 (λ y. flagOf pair 0 y || flagOf pair 1 y) ⌝ }
 {
-    let mut s = seen;
-    let x = s[a];
-    let y = s[b];
-    s[a] = either(x, y);
-    s
+    let joiner = pair[0];
+    let joinee = pair[1];
+    either(joiner, joinee)
 }
 
 // The caught-up flags after the parent forked the child.
-pub fn fork_caught(caught: [[u8; ROW]; 16], parent: usize, child: usize) -> [[u8; ROW]; 16]
-    requires { ⌜ (parent < 64) × (child < 64) ⌝ }
-    ensures { λ r. ⌜ r ≡ rows 16 (forkCaught (flagOf caught) parent child) ⌝ }
+pub fn fork_caught(
+    caught: [[u8; Table::FLAGS]; Table::CLIENTS],
+    parent: Revision,
+    child: Revision,
+) -> [[u8; Table::FLAGS]; Table::CLIENTS]
+    requires { ⌜ (parent .0 < revisions) × (child .0 < revisions) ⌝ }
+    ensures { λ r. ⌜ r ≡ rows clients (forkCaught (flagOf caught) (parent .0) (child .0)) ⌝ }
 {
     let column = only(child);
-    let mut z = [[0; ROW]; 16];
+    let mut z = [[0; Table::FLAGS]; Table::CLIENTS];
     let mut x: usize = 0;
-    while x < 16 {
+    while x < Table::CLIENTS {
         let row = caught[x];
         z[x] = with(row, column, flag(row, parent));
         x += 1;
@@ -123,14 +137,18 @@ pub fn fork_caught(caught: [[u8; ROW]; 16], parent: usize, child: usize) -> [[u8
 }
 
 // The caught-up flags after a joined b.
-pub fn join_caught(caught: [[u8; ROW]; 16], a: usize, b: usize) -> [[u8; ROW]; 16]
-    requires { ⌜ (a < 64) × (b < 64) ⌝ }
-    ensures { λ r. ⌜ r ≡ rows 16 (joinCaught (flagOf caught) a b) ⌝ }
+pub fn join_caught(
+    caught: [[u8; Table::FLAGS]; Table::CLIENTS],
+    a: Revision,
+    b: Revision,
+) -> [[u8; Table::FLAGS]; Table::CLIENTS]
+    requires { ⌜ (a .0 < revisions) × (b .0 < revisions) ⌝ }
+    ensures { λ r. ⌜ r ≡ rows clients (joinCaught (flagOf caught) (a .0) (b .0)) ⌝ }
 {
     let column = only(a);
-    let mut z = [[0; ROW]; 16];
+    let mut z = [[0; Table::FLAGS]; Table::CLIENTS];
     let mut x: usize = 0;
-    while x < 16 {
+    while x < Table::CLIENTS {
         let row = caught[x];
         z[x] = with(row, column, or(flag(row, a), flag(row, b)));
         x += 1;

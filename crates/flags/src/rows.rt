@@ -2,45 +2,46 @@
 ghost use mathlib.Core.Path.{_≡_};
 ghost use Prim.Native.Nat.{_+_, _*_, _/_, _%_, _<_, _≤_};
 ghost use lib.ListN.{length};
+ghost use Rattle.cells.specs.Sizes.{clients, revisions};
 ghost use Rattle.cells.specs.Words.{byte};
 ghost use Rattle.cells.specs.Flags.{bit, flagAt, flagIn, rowBytes, putRow, pack, rows, flagOf};
-use crate::ROW;
 use crate::bits;
+use sizes::table::Table;
 
 // Row x.
-fn load_row(t: &[u8], x: usize) -> [u8; ROW]
-    requires { ⌜ (x < 64) × (8 * x + 8 ≤ length (now t)) ⌝ }
+pub fn load_row(t: &[u8], x: usize) -> [u8; Table::FLAGS]
+    requires { ⌜ (x < revisions) × (8 * x + 8 ≤ length (now t)) ⌝ }
     ensures { λ r. ⌜ r ≡ rowBytes 8 (λ y. bit (byte (now (t .entry)) (8 * x + y / 8)) (y % 8)) ⌝ }
 {
-    let mut row = [0; ROW];
+    let mut row = [0; Table::FLAGS];
     let mut k: usize = 0;
-    while k < ROW {
-        row[k] = bits::same(t[ROW * x + k]);
+    while k < Table::FLAGS {
+        row[k] = bits::same(t[Table::FLAGS * x + k]);
         k += 1;
     }
     row
 }
 
-pub fn load64(t: &[u8]) -> [[u8; ROW]; 64]
+pub fn load64(t: &[u8]) -> [[u8; Table::FLAGS]; Table::REVISIONS]
     requires { ⌜ length (now t) ≡ 512 ⌝ }
-    ensures { λ r. ⌜ r ≡ rows 64 (flagIn 8 64 (now (t .entry))) ⌝ }
+    ensures { λ r. ⌜ r ≡ rows revisions (flagIn 8 revisions (now (t .entry))) ⌝ }
 {
-    let mut s = [[0; ROW]; 64];
+    let mut s = [[0; Table::FLAGS]; Table::REVISIONS];
     let mut x: usize = 0;
-    while x < 64 {
+    while x < Table::REVISIONS {
         s[x] = load_row(t, x);
         x += 1;
     }
     s
 }
 
-pub fn load16(t: &[u8]) -> [[u8; ROW]; 16]
+pub fn load16(t: &[u8]) -> [[u8; Table::FLAGS]; Table::CLIENTS]
     requires { ⌜ length (now t) ≡ 128 ⌝ }
-    ensures { λ r. ⌜ r ≡ rows 16 (flagIn 8 16 (now (t .entry))) ⌝ }
+    ensures { λ r. ⌜ r ≡ rows clients (flagIn 8 clients (now (t .entry))) ⌝ }
 {
-    let mut s = [[0; ROW]; 16];
+    let mut s = [[0; Table::FLAGS]; Table::CLIENTS];
     let mut x: usize = 0;
-    while x < 16 {
+    while x < Table::CLIENTS {
         s[x] = load_row(t, x);
         x += 1;
     }
@@ -48,35 +49,35 @@ pub fn load16(t: &[u8]) -> [[u8; ROW]; 16]
 }
 
 // Row x replaced.
-pub fn store_row(t: &mut [u8], x: usize, row: [u8; ROW])
-    requires { ⌜ (x < 64) × (8 * x + 8 ≤ length (now t)) ⌝ }
+pub fn store_row(t: &mut [u8], x: usize, row: [u8; Table::FLAGS])
+    requires { ⌜ (x < revisions) × (8 * x + 8 ≤ length (now t)) ⌝ }
     ensures { λ _. ⌜ now (t .exit) ≡ putRow 8 (now (t .entry)) x (flagAt row) ⌝ }
 {
     let mut k: usize = 0;
-    while k < ROW {
-        t[ROW * x + k] = bits::same(row[k]);
+    while k < Table::FLAGS {
+        t[Table::FLAGS * x + k] = bits::same(row[k]);
         k += 1;
     }
 }
 
-pub fn store64(t: &mut [u8], s: [[u8; ROW]; 64])
+pub fn store64(t: &mut [u8], s: [[u8; Table::FLAGS]; Table::REVISIONS])
     requires { ⌜ length (now t) ≡ 512 ⌝ }
-    ensures { λ _. ⌜ now (t .exit) ≡ pack 64 (flagOf s) ⌝ }
+    ensures { λ _. ⌜ now (t .exit) ≡ pack revisions (flagOf s) ⌝ }
 {
     let mut x: usize = 0;
-    while x < 64 {
+    while x < Table::REVISIONS {
         let row = s[x];
         store_row(t, x, row);
         x += 1;
     }
 }
 
-pub fn store16(t: &mut [u8], s: [[u8; ROW]; 16])
+pub fn store16(t: &mut [u8], s: [[u8; Table::FLAGS]; Table::CLIENTS])
     requires { ⌜ length (now t) ≡ 128 ⌝ }
-    ensures { λ _. ⌜ now (t .exit) ≡ pack 16 (flagOf s) ⌝ }
+    ensures { λ _. ⌜ now (t .exit) ≡ pack clients (flagOf s) ⌝ }
 {
     let mut x: usize = 0;
-    while x < 16 {
+    while x < Table::CLIENTS {
         let row = s[x];
         store_row(t, x, row);
         x += 1;

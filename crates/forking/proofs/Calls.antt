@@ -7,15 +7,14 @@ use Rattle.cells.specs.Cells.{nextNumber}
 use Rattle.cells.specs.Decode.{cells}
 use Rattle.cells.specs.Steps.{forkBytes}
 use Rattle.cells.specs.Checks.{noneLeft}
-use Rattle.fields.specs.declared.table.Revision.{Revision}
+use Rattle.sizes.specs.declared.numbers.Revision.{Revision}
 use Rattle.checks.specs.Answers.{nextCheck}
 use Rattle.table.specs.Halves.{low, high, isTable}
 use Rattle.table.specs.Answers.{refused, taken}
 use Rattle.table.specs.Calls.{forkOut}
-use Rattle.table.specs.Found.{onNext, onIdle, onPair}
-use Rattle.table.specs.Checks.{idleCheck}
+use Rattle.table.specs.Found.{onNext, onPair}
 use Rattle.table.specs.declared.pair.PairCheck.{PairCheck}
-use Rattle.table.proofs.Calls.{over, given-is, idle-cond, pair-cond}
+use Rattle.table.proofs.Calls.{over, given-is, pair-cond}
 use Rattle.forking.specs.Checks.{forkCheck}
 
 -- the check's answer taken apart is a test
@@ -32,8 +31,8 @@ no-fork t h n = rw h
 -- the call on a table, from what its checks find
 pub fork-by : (t : List ℕ) → isTable t ≡ true → (n : ℕ) (z : PairCheck) → forkCheck (low t) n ≡ z
     → onPair z (refused t) (λ p c. taken (forkBytes (low t) (p .0) (c .0) ++ high t) (c .0)) ≡ forkOut t n
-unfolding forkCheck idleCheck forkOut onIdle onPair
-fork-by t h n z e = rw (← e) (simp (given-is, next-is, idle-cond, pair-cond, h))
+unfolding forkCheck forkOut onPair
+fork-by t h n z e = rw (← e) (simp (given-is, next-is, pair-cond, h))
 
 pub same-taken : (a b : List ℕ) (v w : ℕ) → a ≡ b → v ≡ w → taken a v ≡ taken b w
 same-taken a b v w e f = rw (e, f)

@@ -11,7 +11,7 @@ use Rattle.cells.specs.Decode.{cells}
 use Rattle.cells.specs.Range.{inRange}
 use Rattle.cells.specs.Checks.{noneLeft}
 use Rattle.cells.proofs.Range.{next-ranged, ranges}
-use Rattle.fields.specs.declared.table.Revision.{Revision}
+use Rattle.sizes.specs.declared.numbers.Revision.{Revision}
 use Rattle.checks.specs.Answers.{nextCheck}
 use Rattle.checks.specs.declared.next.NextCheck.the-variants as left
 

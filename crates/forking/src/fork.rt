@@ -13,13 +13,17 @@ ghost use Rattle.table.specs.Out.{tableBytes};
 ghost use Rattle.table.specs.Answers.{left};
 ghost use Rattle.table.specs.Calls.{forkOut};
 ghost use Rattle.forking.specs.Checks.{forkCheck, forkIn};
+use checks::busy::UseCheck;
+use checks::busy::check_use;
+use checks::given::GivenCheck;
+use checks::given::check_given;
+use checks::joined::JoinedCheck;
+use checks::joined::check_joined;
 use checks::next::NextCheck;
 use checks::next::check_next;
-use fields::table::Revision;
-use fields::table::Table;
+use sizes::numbers::Revision;
+use sizes::table::Table;
 use table::answer::Answer;
-use table::idle;
-use table::idle::IdleCheck;
 use table::pair::PairCheck;
 use table::sound;
 use table::sound::TableCheck;
@@ -37,9 +41,14 @@ fn check_fork(d: &[u8], revision: u8) -> PairCheck
     requires { ⌜ (length (now d) ≡ Lower.lowerBytes) × (inRange (now d) ≡ true) ⌝ }
     ensures { λ a. ⌜ (a ≡ forkCheck (now (d .entry)) revision) × forkIn a ⌝ }
 {
-    let found = idle::check_idle(d, revision);
-    let IdleCheck::Idle(p) = found else {
-        return PairCheck::Refused(found.code());
+    let GivenCheck::Given(p) = check_given(d, revision) else {
+        return PairCheck::Refused(3);
+    };
+    let JoinedCheck::Out = check_joined(d, p) else {
+        return PairCheck::Refused(4);
+    };
+    let UseCheck::Free = check_use(d, p) else {
+        return PairCheck::Refused(7);
     };
     let NextCheck::Next(c) = check_next(d) else {
         return PairCheck::Refused(10);

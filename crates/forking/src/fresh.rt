@@ -7,9 +7,8 @@ ghost use Rattle.entries.specs.Sizes as Upper;
 ghost use Rattle.table.specs.Out.{tableBytes};
 ghost use Rattle.table.specs.Answers.{left};
 ghost use Rattle.table.specs.Calls.{freshOut};
-use fields::table::Table;
+use sizes::table::Table;
 use table::answer::Answer;
-use table::sizes::Whole;
 use table::sound;
 use table::sound::LengthCheck;
 
@@ -19,7 +18,7 @@ fn start(t: &mut [u8])
     ensures { λ _. ⌜ now (t .exit) ≡ freshBytes ++ replicate Upper.entryBytes 0 ⌝ }
 {
     revisions::fresh::fresh(&mut t[0..Table::LOWER]);
-    fields::fresh::clear(&mut t[Table::LOWER..Whole::BYTES]);
+    buffers::clear::clear(&mut t[Table::LOWER..Table::BYTES]);
 }
 
 pub fn fresh(t: &mut [u8]) -> Answer

@@ -5,7 +5,7 @@ use mathlib.Core.Path.{_≡_}
 use mathlib.Core.List.{List}
 use Rattle.cells.specs.Decode.{cells}
 use Rattle.cells.specs.Checks.{joined}
-use Rattle.fields.specs.declared.table.Revision.{Revision}
+use Rattle.sizes.specs.declared.numbers.Revision.{Revision}
 use Rattle.checks.specs.Answers.{givenCheck}
 use Rattle.checks.specs.declared.given.GivenCheck.{GivenCheck}
 use Rattle.checks.specs.declared.given.GivenCheck.the-variants as given

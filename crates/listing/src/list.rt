@@ -15,12 +15,11 @@ ghost use Rattle.table.specs.Calls.{listOut};
 ghost use Rattle.table.specs.Found.{check, shownOut};
 ghost use Rattle.listing.specs.Checks.{sheetCheck};
 use bundles::sizes::Record;
-use fields::table::Revision;
-use fields::table::Table;
+use sizes::numbers::Revision;
+use sizes::table::Table;
 use table::answer::Answer;
 use table::idle;
 use table::idle::IdleCheck;
-use table::sizes::Whole;
 use table::sound;
 use table::sound::TableCheck;
 use table::visible::visible;
@@ -51,7 +50,7 @@ fn put(t: &[u8], order: &[u16], n: usize, sheet: &mut [u8]) -> Answer
     let SheetCheck::Fits = check_sheet(sheet, n) else {
         return Answer { code: 12, value: 0 };
     };
-    sheets::lines::lines(&t[Table::LOWER..Whole::BYTES], order, n, sheet);
+    sheets::lines::lines(&t[Table::LOWER..Table::BYTES], order, n, sheet);
     Answer {
         code: 0,
         value: n as u32,

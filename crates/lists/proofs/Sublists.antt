@@ -138,8 +138,10 @@ only P Sublistᴰ·slnil d f g = ends
 only P (Sublistᴰ·cons {a} {l₁} {l₂} s) d f g =
     drops (λ p. nodup-cons .0 d .0 ∣ ⊑-⊆ s a (g a (List·Memᴰ·head refl) p) ∣₁) (only P s (nodup-cons .0 d .1) f (λ e i p. g e (List·Memᴰ·tail i) p))
 only P (Sublistᴰ·cons-cons {a} {b} {l₁} {l₂} q s) d f g =
-    subst (λ z. Only P (b ∷ l₂) (z ∷ l₁)) (sym q)
-    (keeps (subst P q (f a (List·Memᴰ·head refl))) (only P s (nodup-cons .0 d .1) (λ e i. f e (List·Memᴰ·tail i)) (λ e i p. either (List·Memᴰ·cases-cons (g e (List·Memᴰ·tail i) p)) (λ r. absurd (nodup-cons .0 d .0 ∣ Memᴰ·cast (sym (r ∙ q)) i ∣₁)) (λ h. h))))
+    subst (λ z. Only P (b ∷ l₂) (z ∷ l₁)) (sym q) (keeps (subst P q (f a (List·Memᴰ·head refl))) (only P s (nodup-cons .0 d .1) (λ e i. f e (List·Memᴰ·tail i)) behind))
+  where
+    behind : (e : ℕ) → e ∈ l₂ → P e → e ∈ l₁
+    behind e i p = either (List·Memᴰ·cases-cons (g e (List·Memᴰ·tail i) p)) (λ r. absurd (nodup-cons .0 d .0 ∣ Memᴰ·cast (sym (r ∙ q)) i ∣₁)) (λ h. h)
 
 -- `Only` decides the list
 pub only-same : {P : ℕ → Type 0} {l v w : List ℕ} → Only P l v → Only P l w → v ≡ w

@@ -36,7 +36,8 @@ module _ (b : List ℕ) (lb : length b ≡ updates) where
 
   pub push-full : (n x : ℕ) → n ≡ updates → Added b n (x ∷ []) b n
   push-full n x h =
-      let f : front b n (x ∷ []) ≡ take n b = ap (λ k. take updates (take k b ++ (x ∷ []))) h ∙ ap (λ z. take updates (z ++ (x ∷ []))) (take-all updates b (omega arith)) ∙ take-append-le updates b (x ∷ []) (omega arith) ∙ ap (λ k. take k b) (sym h) in
+      let f : front b n (x ∷ []) ≡ take n b =
+      ap (λ k. take updates (take k b ++ (x ∷ []))) h ∙ ap (λ z. take updates (z ++ (x ∷ []))) (take-all updates b (omega arith)) ∙ take-append-le updates b (x ∷ []) (omega arith) ∙ ap (λ k. take k b) (sym h) in
       record { many = sym (ap length f ∙ length-take-le n b (omega arith)); eq = sym (ap (λ z. z ++ drop n b) f ∙ take-append-drop n b) }
 
   pub push-room : (n x : ℕ) → n < updates → Added b n (x ∷ []) (set b n x) (n + 1)

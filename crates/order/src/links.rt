@@ -11,8 +11,8 @@ ghost use Rattle.cells.specs.Decode.{cells};
 ghost use Rattle.cells.specs.Range.{inRange};
 ghost use Rattle.order.specs.Chain.{withChain};
 use fields::read;
-use fields::table::Revision;
-use fields::table::Table;
+use sizes::numbers::Revision;
+use sizes::table::Table;
 
 // Room for a list.
 pub fn room() -> [u16; Table::UPDATES]

@@ -15,10 +15,10 @@ ghost use Rattle.cells.specs.Range.{inRange};
 ghost use Rattle.order.specs.Added.{Added, offered};
 use crate::links;
 use fields::read;
-use fields::table::Revision;
-use fields::table::RevisionCheck;
-use fields::table::Table;
-use fields::table::check_revision;
+use sizes::numbers::Revision;
+use sizes::numbers::RevisionCheck;
+use sizes::numbers::check_revision;
+use sizes::table::Table;
 
 // x goes behind the first n, if there is room.
 fn push(out: &mut [u16], n: usize, x: u16) -> usize

@@ -9,7 +9,7 @@ use Rattle.updates.specs.declared.kind.Kind.the-variants.{Time, Penalty, Strike
 use Rattle.updates.specs.Kinds.{kindCheck}
 use Rattle.updates.specs.Effect.{earliest, penalized, effect, stateOf, valueIn}
 use Rattle.updates.specs.Applied.{applied}
-use Rattle.dayfile.specs.Numbers.{number}
+use Rattle.buffers.specs.Numbers.{number}
 use Rattle.bundles.specs.Records.{entriesIn, entriesFrom, isWrong}
 use Rattle.diagram.specs.Sizes.{revisionLimit, clientLimit, updateLimit}
 use Rattle.diagram.specs.Diagram.{leads}

@@ -20,7 +20,7 @@ use Rattle.table.specs.Halves.{low, high, cellsOf, isTable}
 use Rattle.table.specs.Out.{tableBytes}
 use Rattle.table.specs.Calls.{joinOut, noProspect, readOn, previewOut, standingAt}
 use Rattle.table.specs.Found.{onPair}
-use Rattle.table.specs.Checks.{bothCheck, mayJoinCheck, joinCheck}
+use Rattle.table.specs.Checks.{joinCheck}
 use Rattle.table.specs.declared.answer.Prospect.{Prospect}
 use Rattle.table.specs.declared.answer.Reading.{Reading}
 use Rattle.table.specs.declared.pair.PairCheck.{PairCheck}
@@ -59,5 +59,5 @@ module _ (t : List ℕ) (n m : ℕ) where
     -- the call on a table, from what its checks find
     pub preview-by : isTable t ≡ true → (z : PairCheck) → previewCheck (low t) n m bib ≡ z
         → onPair z noProspect (λ a b. readOn (joinBytes (low t) (a .0) (b .0) ++ high t) (a .0) bib (cellsOf t .count (b .0))) ≡ previewOut t n m bib
-    unfolding previewCheck joinCheck bothCheck mayJoinCheck previewOut onPair
+    unfolding previewCheck joinCheck previewOut onPair
     preview-by h z e = rw (← e) (simp (given-is, pair-cond, either, h))

@@ -17,20 +17,19 @@ ghost use Rattle.table.specs.Out.{tableBytes};
 ghost use Rattle.table.specs.Calls.{noProspect, previewOut, readOn};
 ghost use Rattle.table.specs.Checks.{pairIn};
 ghost use Rattle.previewing.specs.Checks.{previewCheck};
+use buffers::put::copy;
 use checks::range::RangeCheck;
 use checks::range::check_range;
-use fields::fresh::copy;
-use fields::table::Revision;
-use fields::table::Table;
 use querying::standing::tell;
 use revisions::join::join;
+use sizes::numbers::Revision;
+use sizes::table::Table;
 use table::answer::Prospect;
 use table::bib;
 use table::bib::BibCheck;
 use table::counts;
 use table::join::check_join;
 use table::pair::PairCheck;
-use table::sizes::Whole;
 use table::sound;
 use table::sound::TableCheck;
 use updates::standing::Standing;
@@ -70,7 +69,7 @@ fn standing_on(d: &[u8], t: &[u8], r: Revision, bib: u16) -> Standing
 {
     let mut out = order::links::room();
     let n = order::visible::list(d, r, &mut out);
-    entries::standing::standing(&t[Table::LOWER..Whole::BYTES], &out, n, bib)
+    entries::standing::standing(&t[Table::LOWER..Table::BYTES], &out, n, bib)
 }
 
 // A copy of t that has been joined, d its lower half, read at a.

@@ -14,7 +14,7 @@ use Rattle.diagram.specs.Checks.{unknownClient, openElsewhere, busyByOther, bus
 use Rattle.diagram.specs.Steps.{after}
 use Rattle.plain.specs.Answers.{called}
 use Rattle.text.specs.Decimal.{places, decimal}
-use Rattle.dayfile.specs.Numbers.{number}
+use Rattle.buffers.specs.Numbers.{number}
 use Rattle.dayfile.specs.File.{fileCheck}
 use Rattle.dayfile.specs.Record.{stepAt, stepOf}
 use Rattle.dayfile.specs.declared.step.Step.{Step}
@@ -37,7 +37,8 @@ unfolding crossing number stepAt stepOf
 as-named = refl
 
 on-paper : paper crossing ≡ given
-unfolding crossing given paper paperLines paperAfter fileCheck number stepAt stepOf line valueText decimal places called after leads tabulate isGiven meant nextNumber unknownClient openElsewhere busyByOther busy anyBelow stale logFull noneLeft notJoinable revisionLimit clientLimit updateLimit kindCheck effect earliest penalized stateOf valueIn applied
+unfolding crossing given paper paperLines paperAfter fileCheck number stepAt stepOf line valueText decimal places called after leads tabulate isGiven
+    meant nextNumber unknownClient openElsewhere busyByOther busy anyBelow stale logFull noneLeft notJoinable revisionLimit clientLimit updateLimit kindCheck effect earliest penalized stateOf valueIn applied
 on-paper = refl
 
 pub example-printed : printed crossing ≡ given

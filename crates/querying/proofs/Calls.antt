@@ -6,13 +6,12 @@ use mathlib.Core.List.{List, _++_}
 use Rattle.updates.specs.Effect.{stateOf, valueIn}
 use Rattle.updates.specs.declared.standing.Standing.{Standing}
 use Rattle.cells.specs.Steps.{queryBytes}
-use Rattle.fields.specs.declared.table.Client.{Client}
-use Rattle.fields.specs.declared.table.Revision.{Revision}
+use Rattle.sizes.specs.declared.numbers.Client.{Client}
+use Rattle.sizes.specs.declared.numbers.Revision.{Revision}
 use Rattle.table.specs.Halves.{low, high, isTable}
 use Rattle.table.specs.Answers.{refused, answered, leftRead}
 use Rattle.table.specs.Calls.{queryOut, standingAt}
 use Rattle.table.specs.Found.{onEvent}
-use Rattle.table.specs.Checks.{placeCheck, turnCheck}
 use Rattle.table.specs.declared.answer.Reading.{Reading}
 use Rattle.table.specs.declared.event.EventCheck.{EventCheck}
 use Rattle.table.specs.declared.event.EventCheck.the-variants as event
@@ -28,7 +27,7 @@ no-query t h c n b = rw h
 module _ (t : List ℕ) (h : isTable t ≡ true) where
   query-by : (c n b : ℕ) (z : EventCheck) → queryCheck (low t) c n b ≡ z
       → onEvent z (refused t) (λ x y. answered (queryBytes (low t) (x .0) (y .0) ++ high t) (standingAt t (y .0) b)) ≡ queryOut t c n b
-  unfolding queryCheck placeCheck turnCheck queryOut onEvent
+  unfolding queryCheck queryOut onEvent
   query-by c n b z e = rw (← e) (simp (client-is, given-is, event-cond, h))
 
   module _ (c n b : ℕ) (f : EventCheck) (e : f ≡ queryCheck (low t) c n b) where

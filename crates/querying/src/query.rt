@@ -16,13 +16,24 @@ ghost use Rattle.table.specs.Checks.{eventIn};
 ghost use Rattle.querying.specs.Checks.{queryCheck};
 use crate::standing::standing_at;
 use crate::standing::tell;
-use fields::table::Client;
-use fields::table::Revision;
-use fields::table::Table;
+use checks::busy::UseCheck;
+use checks::busy::check_use_by_other;
+use checks::client::ClientCheck;
+use checks::client::check_client;
+use checks::given::GivenCheck;
+use checks::given::check_given;
+use checks::joined::JoinedCheck;
+use checks::joined::check_joined;
+use checks::open::OpenCheck;
+use checks::open::check_open;
+use checks::stale::StaleCheck;
+use checks::stale::check_stale;
+use sizes::numbers::Client;
+use sizes::numbers::Revision;
+use sizes::table::Table;
 use table::answer::Reading;
-use table::bib;
 use table::bib::BibCheck;
-use table::event;
+use table::bib::check_bib;
 use table::event::EventCheck;
 use table::sound;
 use table::sound::TableCheck;
@@ -41,14 +52,28 @@ fn check_lower(d: &[u8], client: u8, revision: u8, bib: u16) -> EventCheck
     requires { ⌜ length (now d) ≡ Lower.lowerBytes ⌝ }
     ensures { λ a. ⌜ (a ≡ queryCheck (now (d .entry)) client revision bib) × eventIn a ⌝ }
 {
-    let found = event::check_place(d, client, revision);
-    let EventCheck::Allowed(c, r) = found else {
-        return found;
+    let ClientCheck::Known(c) = check_client(client) else {
+        return EventCheck::Refused(2);
     };
-    let BibCheck::Known = bib::check_bib(bib) else {
+    let GivenCheck::Given(r) = check_given(d, revision) else {
+        return EventCheck::Refused(3);
+    };
+    let JoinedCheck::Out = check_joined(d, r) else {
+        return EventCheck::Refused(4);
+    };
+    let BibCheck::Known = check_bib(bib) else {
         return EventCheck::Refused(5);
     };
-    event::check_turn(d, c, r)
+    let OpenCheck::Clear = check_open(d, c, r) else {
+        return EventCheck::Refused(6);
+    };
+    let UseCheck::Free = check_use_by_other(d, c, r) else {
+        return EventCheck::Refused(7);
+    };
+    let StaleCheck::CaughtUp = check_stale(d, c, r) else {
+        return EventCheck::Refused(8);
+    };
+    EventCheck::Allowed(c, r)
 }
 
 // The same of a whole table.

@@ -9,10 +9,9 @@ ghost use Rattle.updates.specs.Effect.{stateOf, valueIn};
 ghost use Rattle.table.specs.Halves.{low};
 ghost use Rattle.table.specs.Out.{tableBytes};
 ghost use Rattle.table.specs.Calls.{standingAt};
-use fields::table::Revision;
-use fields::table::Table;
+use sizes::numbers::Revision;
+use sizes::table::Table;
 use table::answer::Reading;
-use table::sizes::Whole;
 use table::visible::visible;
 use updates::standing::Standing;
 use updates::standing::State;
@@ -49,5 +48,5 @@ pub(crate) fn standing_at(t: &[u8], r: Revision, bib: u16) -> Standing
 {
     let mut out = order::links::room();
     let n = visible(t, r, &mut out);
-    entries::standing::standing(&t[Table::LOWER..Whole::BYTES], &out, n, bib)
+    entries::standing::standing(&t[Table::LOWER..Table::BYTES], &out, n, bib)
 }

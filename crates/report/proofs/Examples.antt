@@ -6,7 +6,7 @@ use lib.ListN.{replicate}
 use Rattle.updates.specs.declared.standing.State.the-variants.{Timed, Struck}
 use Rattle.text.specs.Placed.{ascii}
 use Rattle.text.specs.Decimal.{places, decimal}
-use Rattle.dayfile.specs.Numbers.{number}
+use Rattle.buffers.specs.Numbers.{number}
 use Rattle.dayfile.specs.File.{fileCheck}
 use Rattle.dayfile.specs.Record.{stepAt, stepOf}
 use Rattle.report.specs.Printed.{line, lines, valueText, day, printed}

@@ -10,23 +10,22 @@ use lib.ListN.{length, set, take, replicate, length-replicate, length-set}
 use lib.Seq.{getD-set-other, set-getD}
 use borrow.Author.Tests.{eq-eqb, eqb-true, le-ltb, lt-ltb, ne-eqb}
 use Rattle.lists.specs.Lists.{restOf}
-use Rattle.lists.specs.Arranged.{insertBefore, remove}
+use Rattle.lists.specs.Arranged.{insertBefore, remove, replaced}
 use Rattle.lists.proofs.Cases.{cases}
-use Rattle.cells.specs.Sizes.{lowerBytes, revisions, clients, closed}
-use Rattle.cells.specs.Parts.{Parts, Sized, size, split, glue, wrote, _⟨_≔_⟩, rowsPart, lowPart, highPart, seenPart, caughtPart, statePart, usedPart, lastPart, firstPart}
-use Rattle.cells.specs.Parts.{countPart, basePart, layoutPart, queuePart, openedPart, countersPart, signaturePart}
+use Rattle.cells.specs.Sizes.{lowerBytes, revisions, clients, main, stateOut}
+use Rattle.cells.specs.Parts.{Parts, Sized, parts, offset, size, split, glue, wrote, _⟨_≔_⟩, rowsPart, lowPart, highPart, seenPart, caughtPart, statePart, usedPart, lastPart, firstPart}
+use Rattle.cells.specs.Parts.{countPart, basePart, layoutPart, queuePart, openedPart, countersPart}
 use Rattle.cells.specs.Words.{putWord, putHalf}
 use Rattle.cells.specs.Flags.{pack, putRow}
 use Rattle.cells.specs.Decode.{decode}
-use Rattle.cells.specs.Range.{signature}
 use Rattle.lists.specs.Pool.{forkPool, joinPool}
 use Rattle.cells.specs.CellSteps.{forkCaught, forkRow, joinCaught}
 use Rattle.cells.specs.Steps.{queryParts, linkParts, appendParts, putRowOf, inheritParts, forkParts, spliceParts, freshBytes, queryBytes, updateBytes, forkBytes, joinBytes}
-use Rattle.cells.proofs.Parts.{Holds, glue-split, holds-split, holds-step, holds-wrote, sized-with, split-is, with-same}
+use Rattle.cells.proofs.Parts.{Holds, glue-split, holds-split, holds-put, holds-step, holds-wrote, sized-with, split-is, with-same}
 use Rattle.cells.proofs.Words.{putWord-length, putHalf-length}
-use Rattle.cells.proofs.Sized.{append-sized, caught-sized, caughtRow-sized, inherit-sized, layout-sized, link-sized, query-sized, row-sized, seen-sized, splice-sized}
+use Rattle.cells.proofs.Sized.{append-sized, caught-sized, caughtRow-sized, inherit-sized, layout-sized, link-sized, query-sized, row-sized, seen-sized, seenRow-sized, splice-sized}
 use Rattle.cells.proofs.Places.{insert-length, remove-length}
-use Rattle.revisions.specs.Pieces.{numberParts, retireParts, startParts}
+use Rattle.revisions.specs.Pieces.{freshCounts, freshRevisions, numberParts, retireParts, startParts}
 
 -- a byte, and a word, of one part
 byte-wrote : {d d′ : List ℕ} {p : Parts} (i r v : ℕ) → Holds d p → d′ ≡ wrote d i (set (split d i) r v) → Holds d′ (p ⟨ i ≔ set (p i) r v ⟩)
@@ -34,6 +33,22 @@ byte-wrote {p = p} i r v h e = holds-wrote i (λ t. set t r v) h e (length-set (
 
 word-wrote : {d d′ : List ℕ} {p : Parts} (i r v : ℕ) → Holds d p → d′ ≡ wrote d i (putWord (split d i) r v) → Holds d′ (p ⟨ i ≔ putWord (p i) r v ⟩)
 word-wrote {p = p} i r v h e = holds-wrote i (λ t. putWord t r v) h e (putWord-length (p i) r v ∙ h .sized .of i)
+
+-- part i put in whole
+abbrev pub Put : List ℕ → List ℕ → ℕ → List ℕ → Type 0
+Put d d′ i q = d′ ≡ replaced d (offset i) (length q) q
+
+-- q was put in, and it is r
+pub put-as : (d d′ q r : List ℕ) (i : ℕ) → q ≡ r → d′ ≡ replaced d (offset i) (length q) q → Put d d′ i r
+put-as d d′ q r i e f = f ∙ ap (λ z. replaced d (offset i) (length z) z) e
+
+-- three parts, one after the other
+pub three-put : (d d₁ d₂ d₃ : List ℕ) (i j k : ℕ) (a b c : List ℕ) → length d ≡ lowerBytes → i < parts → j < parts → k < parts → length a ≡ size i → length b ≡ size j → length c ≡ size k
+    → Put d d₁ i a → Put d₁ d₂ j b → Put d₂ d₃ k c → d₃ ≡ glue (split d ⟨ i ≔ a ⟩ ⟨ j ≔ b ⟩ ⟨ k ≔ c ⟩)
+three-put d d₁ d₂ d₃ i j k a b c l il jl kl x y z e₁ e₂ e₃ =
+    let h₁ = holds-put i a il x (holds-split d l) e₁ in
+    let h₂ = holds-put j b jl y h₁ e₂ in
+    holds-put k c kl z h₂ e₃ .eq
 
 with-twice : (p : Parts) (i : ℕ) (a b : List ℕ) → p ⟨ i ≔ a ⟩ ⟨ i ≔ b ⟩ ≡ p ⟨ i ≔ b ⟩
 with-twice p i a b = fun-ext (λ j. cases (eqb j i) (λ e. rw e) (λ e. rw e))
@@ -131,13 +146,13 @@ module _ (d : List ℕ) (l : length d ≡ lowerBytes) where
       let h₂ = word-wrote lastPart a end h₁ e₂ in
       word-wrote firstPart a first h₂ e₃ .eq ∙ rw (ne-eqb (decode (split d) .count b) 0 (λ z. nz (en ∙ z)), eg, ef, et, ee)
 
-  pub retire-done : (d₁ d₂ d₃ d₄ d₅ d₆ : List ℕ) (a b i n : ℕ)
-      → d₁ ≡ wrote d seenPart (pack revisions (joinPool (decode (split d) .seen) a b)) → d₂ ≡ wrote d₁ caughtPart (pack clients (joinCaught (decode (split d₁) .caught) a b))
+  pub retire-done : (d₁ d₂ d₃ d₄ d₅ d₆ : List ℕ) (a b i n : ℕ) → a < revisions
+      → d₁ ≡ wrote d seenPart (putRow 8 (split d seenPart) a (joinPool (decode (split d) .seen) a b a)) → d₂ ≡ wrote d₁ caughtPart (pack clients (joinCaught (decode (split d₁) .caught) a b))
       → d₃ ≡ wrote d₂ statePart (set (split d₂ statePart) b 2) → d₄ ≡ wrote d₃ layoutPart (take revisions (remove b (split d₃ layoutPart) ++ (0 ∷ [])))
       → d₅ ≡ wrote d₄ queuePart (set (split d₄ queuePart) i b) → d₆ ≡ wrote d₅ countersPart (set (split d₅ countersPart) 2 n) → d₆ ≡ glue (retireParts (split d) a b i n)
-  retire-done d₁ d₂ d₃ d₄ d₅ d₆ a b i n e₁ e₂ e₃ e₄ e₅ e₆ =
+  retire-done d₁ d₂ d₃ d₄ d₅ d₆ a b i n al e₁ e₂ e₃ e₄ e₅ e₆ =
       let h = holds-split d l in
-      let h₁ = seen-wrote (λ f. joinPool f a b) h e₁ in
+      let h₁ = holds-step (λ q. q ⟨ seenPart ≔ putRow 8 (q seenPart) a (joinPool (decode q .seen) a b a) ⟩) h e₁ (seenRow-sized (h .sized) a _ al) in
       let h₂ = caught-wrote (λ f. joinCaught f a b) h₁ e₂ in
       let h₃ = byte-wrote statePart b 2 h₂ e₃ in
       let h₄ = holds-step (λ q. q ⟨ layoutPart ≔ take revisions (remove b (q layoutPart) ++ (0 ∷ [])) ⟩) h₃ e₄ (layout-sized (h₃ .sized) (remove b (split d layoutPart) ++ (0 ∷ [])) (remove-length b (split d layoutPart))) in
@@ -203,21 +218,18 @@ module _ (d : List ℕ) (l : length d ≡ lowerBytes) where
       let h₂ = holds-step (λ p. startParts p q c (o + 1)) h₁ e₂ (start-sized (h₁ .sized) q c (o + 1)) in
       e₃ ∙ ap (λ p. glue (numberParts p g)) (split-is h₂) ∙ rw (add-one, eo, eg) (ap glue (forked (split d) q c))
 
--- a new day, from bytes that are all 0
-pub fresh-done : (d₁ d₂ d₃ d₄ d₅ d₆ d₇ d₈ : List ℕ)
-    → d₁ ≡ glue (λ i. replicate (size i) 0) → d₂ ≡ wrote d₁ caughtPart (pack clients (λ c r. true)) → d₃ ≡ wrote d₂ statePart (set (split d₂ statePart) 0 1)
-    → d₄ ≡ wrote d₃ queuePart (replicate revisions 1) → d₅ ≡ wrote d₄ openedPart (replicate clients closed)
-    → d₆ ≡ wrote d₅ countersPart (set (split d₅ countersPart) 2 1) → d₇ ≡ wrote d₆ countersPart (set (split d₆ countersPart) 3 1)
-    → d₈ ≡ wrote d₇ signaturePart signature → d₈ ≡ freshBytes
-unfolding freshBytes size signature
-fresh-done d₁ d₂ d₃ d₄ d₅ d₆ d₇ d₈ e₁ e₂ e₃ e₄ e₅ e₆ e₇ e₈ =
+-- a new day: bytes that are all 0, the caught-up flags, then each part put in whole
+fresh-revisions-sized : {p : Parts} → Sized p → Sized (freshRevisions p)
+unfolding size
+fresh-revisions-sized h =
+    sized-with (sized-with (sized-with h statePart (set (replicate revisions 0) main stateOut) refl) layoutPart (replicate revisions main) refl) queuePart (replicate revisions 1) refl
+
+pub fresh-done : (d₁ d₂ d₃ d₄ : List ℕ) → d₁ ≡ glue (λ i. replicate (size i) 0) → d₂ ≡ wrote d₁ caughtPart (pack clients (λ c r. true))
+    → d₃ ≡ glue (freshRevisions (split d₂)) → d₄ ≡ glue (freshCounts (split d₃)) → d₄ ≡ freshBytes
+unfolding freshBytes
+fresh-done d₁ d₂ d₃ d₄ e₁ e₂ e₃ e₄ =
     let z : Sized (λ i. replicate (size i) 0) = record { of = λ i. length-replicate (size i) 0 } in
     let h₁ : Holds d₁ (λ i. replicate (size i) 0) = record { eq = e₁; sized = z } in
     let h₂ = caught-wrote (λ f c r. true) h₁ e₂ in
-    let h₃ = byte-wrote statePart 0 1 h₂ e₃ in
-    let h₄ = holds-wrote queuePart (λ t. replicate revisions 1) h₃ e₄ refl in
-    let h₅ = holds-wrote openedPart (λ t. replicate clients closed) h₄ e₅ refl in
-    let h₆ = byte-wrote countersPart 2 1 h₅ e₆ in
-    let h₇ = byte-wrote countersPart 3 1 h₆ e₇ in
-    let e = holds-wrote signaturePart (λ t. signature) h₇ e₈ refl .eq in
-    e ∙ ap (λ p. glue (p ⟨ signaturePart ≔ signature ⟩)) (with-twice _ countersPart _ _)
+    let h₃ = holds-step freshRevisions h₂ e₃ (fresh-revisions-sized (h₂ .sized)) in
+    e₄ ∙ ap (λ p. glue (freshCounts p)) (split-is h₃)

@@ -4,22 +4,38 @@ use Prim.Native.Nat.{ℕ, suc}
 use mathlib.Core.Bool.{cond}
 use mathlib.Core.List.{[], _∷_, _++_}
 use lib.Dec.{ltb}
-use lib.ListN.{set, take}
+use lib.ListN.{replicate, set, take}
 use Rattle.lists.specs.Lists.{restOf}
 use Rattle.lists.specs.Arranged.{insertBefore, remove}
-use Rattle.cells.specs.Sizes.{revisions, clients, stateOut, stateJoined}
-use Rattle.cells.specs.Parts.{Parts, _⟨_≔_⟩, seenPart, caughtPart, statePart, layoutPart, queuePart, countersPart}
-use Rattle.cells.specs.Flags.{pack}
+use Rattle.cells.specs.Sizes.{revisions, clients, closed, main, stateOut, stateJoined}
+use Rattle.cells.specs.Parts.{Parts, _⟨_≔_⟩, seenPart, caughtPart, statePart, layoutPart, queuePart, openedPart, countersPart, signaturePart}
+use Rattle.cells.specs.Range.{signature}
+use Rattle.cells.specs.Flags.{pack, putRow}
 use Rattle.cells.specs.Decode.{decode}
 use Rattle.lists.specs.Pool.{forkPool, joinPool}
 use Rattle.cells.specs.CellSteps.{forkCaught, joinCaught}
+
+-- a fresh day's parts, but for the caught-up flags
+abbrev pub freshRevisions : Parts → Parts
+freshRevisions p =
+    p
+    ⟨ statePart ≔ set (replicate revisions 0) main stateOut ⟩
+    ⟨ layoutPart ≔ replicate revisions main ⟩
+    ⟨ queuePart ≔ replicate revisions 1 ⟩
+
+abbrev pub freshCounts : Parts → Parts
+freshCounts p =
+    p
+    ⟨ openedPart ≔ replicate clients closed ⟩
+    ⟨ countersPart ≔ 0 ∷ 0 ∷ 1 ∷ 1 ∷ [] ⟩
+    ⟨ signaturePart ≔ signature ⟩
 
 -- b is joined into a: the flags, b's state, the layout, place i of the queue, and n revisions out
 abbrev pub retireParts : Parts → ℕ → ℕ → ℕ → ℕ → Parts
 retireParts p a b i n =
     let k = decode p in
     p
-    ⟨ seenPart ≔ pack revisions (joinPool (k .seen) a b) ⟩
+    ⟨ seenPart ≔ putRow 8 (p seenPart) a (joinPool (k .seen) a b a) ⟩
     ⟨ caughtPart ≔ pack clients (joinCaught (k .caught) a b) ⟩
     ⟨ statePart ≔ set (p statePart) b stateJoined ⟩
     ⟨ layoutPart ≔ take revisions (remove b (p layoutPart) ++ (0 ∷ [])) ⟩

@@ -10,9 +10,9 @@ ghost use Rattle.cells.specs.Steps.{forkBytes};
 ghost use Rattle.revisions.specs.Pieces.{numberParts, startParts};
 use crate::inherit;
 use fields::read;
-use fields::table::Revision;
-use fields::table::Table;
 use fields::write;
+use sizes::numbers::Revision;
+use sizes::table::Table;
 
 // The flags, the child's state and place, and the count of those out.
 fn start(d: &mut [u8], parent: Revision, child: Revision, out: usize)

@@ -2,21 +2,47 @@
 ghost use mathlib.Core.Path.{_≡_};
 ghost use lib.ListN.{length};
 ghost use Rattle.cells.specs.Sizes.{lowerBytes};
+ghost use Rattle.cells.specs.Parts.{glue, split};
 ghost use Rattle.cells.specs.Steps.{freshBytes};
-use fields::table::Revision;
-use fields::table::Table;
-use fields::write;
+ghost use Rattle.revisions.specs.Pieces.{freshCounts, freshRevisions};
+use buffers::clear::clear;
+use buffers::put::put;
+use fields::fresh::caught;
+use fields::parts;
+use sizes::table::Table;
+
+// States, layout and queue.
+fn put_revisions(d: &mut [u8])
+    requires { ⌜ length (now d) ≡ lowerBytes ⌝ }
+    ensures { λ _. ⌜ now (d .exit) ≡ glue (freshRevisions (split (now (d .entry)))) ⌝ }
+{
+    let state = Table::fresh_state();
+    let layout = Table::fresh_layout();
+    let queue = Table::fresh_queue();
+    put(d, parts::STATE, &state);
+    put(d, parts::LAYOUT, &layout);
+    put(d, parts::QUEUE, &queue);
+}
+
+// Open transactions, counters and signature.
+fn put_counts(d: &mut [u8])
+    requires { ⌜ length (now d) ≡ lowerBytes ⌝ }
+    ensures { λ _. ⌜ now (d .exit) ≡ glue (freshCounts (split (now (d .entry)))) ⌝ }
+{
+    let opened = Table::fresh_opened();
+    let counters = Table::fresh_counters();
+    let signature = Table::signature();
+    put(d, parts::OPENED, &opened);
+    put(d, parts::COUNTERS, &counters);
+    put(d, parts::SIGNATURE, &signature);
+}
 
 pub fn fresh(d: &mut [u8])
     requires { ⌜ length (now d) ≡ lowerBytes ⌝ }
     ensures { λ _. ⌜ now (d .exit) ≡ freshBytes ⌝ }
 {
-    fields::fresh::clear(d);
-    fields::fresh::caught(d);
-    write::state(d, Revision::main(), Table::STATE_OUT);
-    fields::fresh::queue(d);
-    fields::fresh::opened(d);
-    write::out(d, 1);
-    write::given(d, 1);
-    fields::fresh::sign(d);
+    clear(d);
+    caught(d);
+    put_revisions(d);
+    put_counts(d);
 }

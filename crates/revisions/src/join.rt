@@ -11,9 +11,9 @@ ghost use Rattle.cells.specs.Steps.{joinBytes};
 ghost use Rattle.revisions.specs.Pieces.{retireParts};
 use crate::own;
 use fields::read;
-use fields::table::Revision;
-use fields::table::Table;
 use fields::write;
+use sizes::numbers::Revision;
+use sizes::table::Table;
 
 // The first place of the queue that is not in use: as many are as numbers were given out and are not out.
 fn queue_end(d: &[u8]) -> usize

@@ -10,8 +10,8 @@ ghost use Rattle.cells.specs.Decode.{cells};
 ghost use Rattle.cells.specs.Range.{inRange};
 ghost use Rattle.cells.specs.Steps.{appendParts, linkParts, spliceParts};
 use fields::read;
-use fields::table::Revision;
 use fields::write;
+use sizes::numbers::Revision;
 
 // The link of u is v.
 pub fn link(d: &mut [u8], u: usize, v: usize)

@@ -9,8 +9,8 @@ ghost use Rattle.cells.specs.Range.{inRange};
 ghost use Rattle.cells.specs.Steps.{queryBytes, updateBytes};
 use crate::own;
 use crate::transactions;
-use fields::table::Client;
-use fields::table::Revision;
+use sizes::numbers::Client;
+use sizes::numbers::Revision;
 
 // The update's number is the answer: the count of updates taken before it.
 pub fn update(d: &mut [u8], c: Client, r: Revision) -> usize

@@ -4,11 +4,11 @@ ghost use Prim.Native.Nat.{_<_};
 ghost use lib.ListN.{length};
 ghost use Rattle.cells.specs.Sizes.{lowerBytes, clients, revisions};
 ghost use Rattle.cells.specs.Steps.{closeBytes, queryBytes};
-use fields::numbers::wide;
-use fields::table::Client;
-use fields::table::Revision;
-use fields::table::Table;
 use fields::write;
+use sizes::numbers::Client;
+use sizes::numbers::Revision;
+use sizes::numbers::wide;
+use sizes::table::Table;
 
 // An event of c on r: c's transaction is on r, and c has caught up with r alone.
 pub fn open(d: &mut [u8], c: Client, r: Revision)

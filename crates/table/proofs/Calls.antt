@@ -6,8 +6,8 @@ use mathlib.Core.List.{List, _++_}
 use Rattle.cells.specs.Decode.{cells}
 use Rattle.cells.specs.Steps.{joinBytes}
 use Rattle.cells.specs.Checks.{isClient, givenOut}
-use Rattle.fields.specs.declared.table.Client.{Client}
-use Rattle.fields.specs.declared.table.Revision.{Revision}
+use Rattle.sizes.specs.declared.numbers.Client.{Client}
+use Rattle.sizes.specs.declared.numbers.Revision.{Revision}
 use Rattle.checks.specs.Answers.{clientCheck, givenCheck}
 use Rattle.checks.specs.declared.client.ClientCheck.the-variants as client
 use Rattle.checks.specs.declared.given.GivenCheck.the-variants as given
@@ -15,7 +15,7 @@ use Rattle.table.specs.Halves.{low, high, cellsOf, isTable}
 use Rattle.table.specs.Answers.{refused, taken}
 use Rattle.table.specs.Calls.{joinOut}
 use Rattle.table.specs.Found.{onClient, onGiven, onIdle, onEvent, onPair}
-use Rattle.table.specs.Checks.{bothCheck, mayJoinCheck, joinCheck}
+use Rattle.table.specs.Checks.{joinCheck}
 use Rattle.table.specs.declared.idle.IdleCheck.{IdleCheck}
 use Rattle.table.specs.declared.event.EventCheck.{EventCheck}
 use Rattle.table.specs.declared.pair.PairCheck.{PairCheck}
@@ -69,5 +69,5 @@ no-join t h n m = rw h
 
 pub join-by : (t : List ℕ) → isTable t ≡ true → (n m : ℕ) (z : PairCheck) → joinCheck (low t) n m ≡ z
     → onPair z (refused t) (λ a b. taken (joinBytes (low t) (a .0) (b .0) ++ high t) (cellsOf t .count (b .0))) ≡ joinOut t n m
-unfolding joinCheck bothCheck mayJoinCheck joinOut onPair
+unfolding joinCheck joinOut onPair
 join-by t h n m z e = rw (← e) (simp (given-is, pair-cond, either, h))

@@ -9,8 +9,8 @@ use borrow.Author.Tests.{ltb-true}
 use Rattle.updates.specs.Kinds.{badBib}
 use Rattle.lists.proofs.Cases.{and-true}
 use Rattle.lists.proofs.Told.{held, failed, Told, told}
-use Rattle.fields.specs.declared.table.Client.{Client}
-use Rattle.fields.specs.declared.table.Revision.{Revision}
+use Rattle.sizes.specs.declared.numbers.Client.{Client}
+use Rattle.sizes.specs.declared.numbers.Revision.{Revision}
 use Rattle.cells.specs.Sizes.{clients, revisions}
 use Rattle.cells.specs.Decode.{cells}
 use Rattle.cells.specs.Checks.{givenOut, joined, openElsewhere, busy, busyByOther, stale, joinable}

@@ -8,13 +8,11 @@ use lib.ListN.{length}
 use Rattle.updates.specs.Kinds.{badBib}
 use Rattle.cells.specs.Sizes.{clients, revisions}
 use Rattle.cells.specs.Decode.{cells}
-use Rattle.cells.specs.Checks.{joined, openElsewhere, busy, busyByOther, stale, joinable}
-use Rattle.fields.specs.declared.table.Client.{Client}
-use Rattle.fields.specs.declared.table.Revision.{Revision}
-use Rattle.checks.specs.Answers.{clientCheck, givenCheck}
+use Rattle.cells.specs.Checks.{joined, busy, joinable}
+use Rattle.checks.specs.Answers.{givenCheck}
 use Rattle.table.specs.Halves.{isTable}
 use Rattle.table.specs.Out.{tableBytes}
-use Rattle.table.specs.Found.{onClient, onGiven, onPair}
+use Rattle.table.specs.Found.{onGiven}
 use Rattle.table.specs.declared.sound.LengthCheck.{LengthCheck}
 use Rattle.table.specs.declared.sound.LengthCheck.the-variants as buffer
 use Rattle.table.specs.declared.sound.TableCheck.{TableCheck}
@@ -40,7 +38,7 @@ lengthCheck t = cond (eqb (length t) tableBytes) buffer.Right buffer.Wrong
 unfoldable pub bibCheck : ℕ → BibCheck
 bibCheck n = cond (badBib n) bib.Unknown bib.Known
 
--- 3, 4, 7 of a fork and a list
+-- 3, 4, 7 of a list
 unfoldable pub idleCheck : List ℕ → ℕ → IdleCheck
 idleCheck d n =
     onGiven (givenCheck d n) (idle.Refused 3) (λ r.
@@ -48,42 +46,17 @@ idleCheck d n =
     cond (busy (cells d) (r .0)) (idle.Refused 7) (
     idle.Idle r)))
 
--- 3, 4 of a join
-unfoldable pub bothCheck : List ℕ → ℕ → ℕ → PairCheck
-bothCheck d n m =
+-- 3, 4, 7, 11 of a join
+unfoldable pub joinCheck : List ℕ → ℕ → ℕ → PairCheck
+joinCheck d n m =
     onGiven (givenCheck d n) (pair.Refused 3) (λ a.
     onGiven (givenCheck d m) (pair.Refused 3) (λ b.
     cond (joined (cells d) (a .0)) (pair.Refused 4) (
     cond (joined (cells d) (b .0)) (pair.Refused 4) (
-    pair.Allowed a b))))
-
--- 7, 11 of a join
-unfoldable pub mayJoinCheck : List ℕ → Revision → Revision → PairCheck
-mayJoinCheck d a b =
     cond (busy (cells d) (a .0)) (pair.Refused 7) (
     cond (busy (cells d) (b .0)) (pair.Refused 7) (
     cond (not (joinable (cells d) (a .0) (b .0))) (pair.Refused 11) (
-    pair.Allowed a b)))
-
--- 3, 4, 7, 11 of a join
-unfoldable pub joinCheck : List ℕ → ℕ → ℕ → PairCheck
-joinCheck d n m = onPair (bothCheck d n m) pair.Refused (λ a b. mayJoinCheck d a b)
-
--- 2, 3, 4 of an update and a query
-unfoldable pub placeCheck : List ℕ → ℕ → ℕ → EventCheck
-placeCheck d c n =
-    onClient (clientCheck c) (event.Refused 2) (λ x.
-    onGiven (givenCheck d n) (event.Refused 3) (λ y.
-    cond (joined (cells d) (y .0)) (event.Refused 4) (
-    event.Allowed x y)))
-
--- 6, 7, 8 of an update and a query
-unfoldable pub turnCheck : List ℕ → Client → Revision → EventCheck
-turnCheck d x y =
-    cond (openElsewhere (cells d) (x .0) (y .0)) (event.Refused 6) (
-    cond (busyByOther (cells d) (x .0) (y .0)) (event.Refused 7) (
-    cond (stale (cells d) (x .0) (y .0)) (event.Refused 8) (
-    event.Allowed x y)))
+    pair.Allowed a b)))))))
 
 -- what is found is in range
 abbrev pub eventIn : EventCheck → Type 0

@@ -15,8 +15,8 @@ use Rattle.table.specs.Answers.{refused, taken}
 use Rattle.table.specs.Out.{Out}
 use Rattle.table.specs.Calls.{noFill, told}
 use Rattle.table.specs.declared.answer.Level.{Level}
-use Rattle.fields.specs.declared.table.Client.{Client}
-use Rattle.fields.specs.declared.table.Revision.{Revision}
+use Rattle.sizes.specs.declared.numbers.Client.{Client}
+use Rattle.sizes.specs.declared.numbers.Revision.{Revision}
 use Rattle.checks.specs.declared.client.ClientCheck.{ClientCheck}
 use Rattle.checks.specs.declared.client.ClientCheck.the-variants as client
 use Rattle.checks.specs.declared.given.GivenCheck.{GivenCheck}
@@ -53,12 +53,12 @@ unfoldable pub onKind : {A : Type 0} → KindCheck → A → (Kind → A) → A
 onKind kinds.Unknown end rest = end
 onKind (kinds.Known k) end rest = rest k
 
--- 3, 4 and 7 of a fork and a list
+-- 3, 4 and 7 of a list
 unfoldable pub onIdle : {A : Type 0} → IdleCheck → (ℕ → A) → (Revision → A) → A
 onIdle (idle.Refused k) end rest = end k
 onIdle (idle.Idle r) end rest = rest r
 
--- 2 to 9 of an update and a query, as far as they go
+-- 2 to 8 of a query
 unfoldable pub onEvent : {A : Type 0} → EventCheck → (ℕ → A) → (Client → Revision → A) → A
 onEvent (event.Refused k) end rest = end k
 onEvent (event.Allowed c r) end rest = rest c r

@@ -1,7 +1,7 @@
 // Code 5 of a bib.
 ghost use mathlib.Core.Path.{_≡_};
 ghost use Rattle.table.specs.Checks.{bibCheck};
-use crate::sizes::Whole;
+use sizes::table::Table;
 
 pub enum BibCheck {
     Known,
@@ -11,7 +11,7 @@ pub enum BibCheck {
 pub fn check_bib(n: u16) -> BibCheck
     ensures { λ r. ⌜ r ≡ bibCheck n ⌝ }
 {
-    if n < Whole::BIBS {
+    if n < Table::BIBS {
         BibCheck::Known
     } else {
         BibCheck::Unknown

@@ -6,8 +6,8 @@ ghost use Rattle.cells.specs.Sizes.{revisions};
 ghost use Rattle.table.specs.Halves.{cellsOf};
 ghost use Rattle.table.specs.Out.{tableBytes};
 use fields::read;
-use fields::table::Revision;
-use fields::table::Table;
+use sizes::numbers::Revision;
+use sizes::table::Table;
 
 pub fn taken(t: &[u8]) -> usize
     requires { ⌜ length (now t) ≡ tableBytes ⌝ }

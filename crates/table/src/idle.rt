@@ -10,7 +10,7 @@ use checks::given::GivenCheck;
 use checks::given::check_given;
 use checks::joined::JoinedCheck;
 use checks::joined::check_joined;
-use fields::table::Revision;
+use sizes::numbers::Revision;
 
 pub enum IdleCheck {
     Idle(Revision),

@@ -6,6 +6,5 @@ pub mod event; // event.rt: the checks that update and query share
 pub mod join; // join.rt: the checks of a join
 pub mod pair; // pair.rt: what the checks of fork and join find
 pub mod idle; // idle.rt: the checks of a revision that must not be busy
-pub mod sizes; // sizes.rt: the sizes that the lower half does not know
 pub mod sound; // sound.rt: the check that the buffer is a table
 pub mod visible; // visible.rt: the updates visible at a revision

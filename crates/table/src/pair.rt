@@ -1,7 +1,7 @@
 // What the checks of fork and join find: two revisions, or a refusal.
 ghost use mathlib.Core.Path.{_≡_};
 ghost use Rattle.table.specs.Found.{pairCode};
-use fields::table::Revision;
+use sizes::numbers::Revision;
 
 pub enum PairCheck {
     Allowed(Revision, Revision),

@@ -1,10 +1,9 @@
 // Code 1: the buffer has the length of a table, and is a table.
 ghost use mathlib.Core.Path.{_≡_};
 ghost use Rattle.table.specs.Checks.{lengthCheck, tableCheck};
-use crate::sizes::Whole;
 use checks::range::RangeCheck;
 use checks::range::check_range;
-use fields::table::Table;
+use sizes::table::Table;
 
 pub enum LengthCheck {
     Right,
@@ -19,7 +18,7 @@ pub enum TableCheck {
 pub fn check_length(t: &[u8]) -> LengthCheck
     ensures { λ r. ⌜ r ≡ lengthCheck (now (t .entry)) ⌝ }
 {
-    if t.len() == Whole::BYTES {
+    if t.len() == Table::BYTES {
         return LengthCheck::Right;
     }
     LengthCheck::Wrong

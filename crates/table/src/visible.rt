@@ -8,8 +8,8 @@ ghost use Rattle.cells.specs.Order.{order};
 ghost use Rattle.cells.specs.Range.{inRange};
 ghost use Rattle.table.specs.Halves.{cellsOf, low};
 ghost use Rattle.table.specs.Out.{tableBytes};
-use fields::table::Revision;
-use fields::table::Table;
+use sizes::numbers::Revision;
+use sizes::table::Table;
 
 // The order of r into the first places of `out`; how many entries it has.
 pub fn visible(t: &[u8], r: Revision, out: &mut [u16]) -> usize

@@ -43,16 +43,20 @@ pub pasted : (out s : List ℕ) (at : ℕ) → paste out at s (length s) ≡ pla
 unfolding placed
 pasted out s at = rw (take-all (length s) s (omega arith)) (append-assoc (take at out) s (drop (at + length s) out))
 
+-- s is put into `out` at `at`: where it ends, and the buffer then
+abbrev pub Put : List ℕ → ℕ → List ℕ → ℕ → List ℕ → Type 0
+Put out at s end now = (end ≡ at + length s) × (now ≡ placed out at s)
+
 -- for code that puts s, and then r where the first call stopped
 module _ (out s r : List ℕ) (at : ℕ) (fits : at + length (s ++ r) ≤ length out) where
   pub first-fits : at + length s ≤ length out
   first-fits = omega (arith, length-append s r)
 
-  module _ (mid : List ℕ) (a : ℕ) (h : (a ≡ at + length s) × (mid ≡ placed out at s)) where
+  module _ (mid : List ℕ) (a : ℕ) (h : Put out at s a mid) where
     pub next-fits : a + length r ≤ length mid
     next-fits = rw (h .0, h .1, placed-length out s at first-fits) (omega (arith, length-append s r))
 
-    pub both-put : (e : ℕ) (end : List ℕ) → (e ≡ a + length r) × (end ≡ placed mid a r) → (e ≡ at + length (s ++ r)) × (end ≡ placed out at (s ++ r))
+    pub both-put : (e : ℕ) (end : List ℕ) → Put mid a r e end → Put out at (s ++ r) e end
     both-put e end g =
         (omega (arith, g .0, h .0, length-append s r), g .1 ∙ ap (λ m. placed m a r) (h .1) ∙ ap (λ k. placed (placed out at s) k r) (h .0) ∙ placed-more out s at first-fits r)
 

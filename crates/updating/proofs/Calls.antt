@@ -9,8 +9,8 @@ use Rattle.updates.specs.declared.kind.KindCheck.the-variants as kinds
 use Rattle.cells.specs.Steps.{updateBytes, closeBytes}
 use Rattle.entries.specs.Stored.{entry}
 use Rattle.entries.specs.Entries.{wrote}
-use Rattle.fields.specs.declared.table.Client.{Client}
-use Rattle.fields.specs.declared.table.Revision.{Revision}
+use Rattle.sizes.specs.declared.numbers.Client.{Client}
+use Rattle.sizes.specs.declared.numbers.Revision.{Revision}
 use Rattle.checks.specs.Answers.{clientCheck}
 use Rattle.checks.specs.declared.client.ClientCheck.{ClientCheck}
 use Rattle.table.specs.Halves.{low, high, cellsOf, isTable}
@@ -18,9 +18,8 @@ use Rattle.updates.specs.Kinds.{isUnknown, kindIn}
 use Rattle.table.specs.Answers.{refused, taken}
 use Rattle.table.specs.Out.{Out}
 use Rattle.table.specs.Calls.{updateOut, yieldOut}
-use Rattle.table.specs.Found.{onClient, onKind, onEvent}
-use Rattle.table.specs.Checks.{placeCheck, turnCheck}
-use Rattle.table.proofs.Calls.{client-is, either, given-is, over, event-cond}
+use Rattle.table.specs.Found.{onClient, onKind}
+use Rattle.table.proofs.Calls.{client-is, either, given-is, over}
 use Rattle.updating.specs.Checks.{updateCheck}
 use Rattle.updating.specs.declared.update.UpdateCheck.{UpdateCheck}
 use Rattle.updating.specs.declared.update.UpdateCheck.the-variants as update
@@ -57,14 +56,15 @@ module _ (t : List ℕ) (h : isTable t ≡ true) where
 
   update-by : (c n k b v : ℕ) (z : UpdateCheck) → updateCheck (low t) c n k b ≡ z
       → onUpdate z (refused t) (λ x y kind. taken (updateBytes (low t) (x .0) (y .0) ++ wrote (high t) (cellsOf t .updates) (entry kind (x .0) b v)) (cellsOf t .updates)) ≡ updateOut t c n k b v
-  unfolding updateCheck placeCheck turnCheck updateOut onEvent onUpdate
-  update-by c n k b v z e = rw (← e) (simp (client-is, given-is, kind-is, event-cond, update-cond, either, h))
+  unfolding updateCheck updateOut onUpdate
+  update-by c n k b v z e = rw (← e) (simp (client-is, given-is, kind-is, update-cond, either, h))
 
   module _ (c n k b v : ℕ) (f : UpdateCheck) (e : f ≡ updateCheck (low t) c n k b) where
     pub update-refused : (code : ℕ) → f ≡ update.Refused code → refused t code ≡ updateOut t c n k b v
     unfolding onUpdate
     update-refused code g = update-by c n k b v (update.Refused code) (sym e ∙ g)
 
-    pub update-taken : (x : Client) (y : Revision) (kind : Kind) → f ≡ update.Allowed x y kind → {q : List ℕ} {u : ℕ} → q ≡ updateBytes (low t) (x .0) (y .0) ++ wrote (high t) (cellsOf t .updates) (entry kind (x .0) b v) → u ≡ cellsOf t .updates → taken q u ≡ updateOut t c n k b v
+    pub update-taken : (x : Client) (y : Revision) (kind : Kind) → f ≡ update.Allowed x y kind
+        → {q : List ℕ} {u : ℕ} → q ≡ updateBytes (low t) (x .0) (y .0) ++ wrote (high t) (cellsOf t .updates) (entry kind (x .0) b v) → u ≡ cellsOf t .updates → taken q u ≡ updateOut t c n k b v
     unfolding onUpdate
     update-taken x y kind g eq eu = rw (eq, eu) (update-by c n k b v (update.Allowed x y kind) (sym e ∙ g))

@@ -7,22 +7,26 @@ use mathlib.Core.List.{List}
 use Rattle.updates.specs.Kinds.{kindCheck, badBib}
 use Rattle.cells.specs.Sizes.{clients, revisions, updates}
 use Rattle.cells.specs.Decode.{cells}
-use Rattle.cells.specs.Checks.{logFull}
+use Rattle.cells.specs.Checks.{joined, openElsewhere, busyByOther, stale, logFull}
 use Rattle.entries.specs.Sizes.{bibRange}
-use Rattle.table.specs.Found.{onKind, onEvent}
-use Rattle.table.specs.Checks.{placeCheck, turnCheck}
+use Rattle.checks.specs.Answers.{clientCheck, givenCheck}
+use Rattle.table.specs.Found.{onClient, onGiven, onKind}
 use Rattle.updating.specs.declared.update.UpdateCheck.{UpdateCheck}
 use Rattle.updating.specs.declared.update.UpdateCheck.the-variants as update
 
 -- 2 to 9 of an update
 unfoldable pub updateCheck : List ℕ → ℕ → ℕ → ℕ → ℕ → UpdateCheck
 updateCheck d c n k bib =
-    onEvent (placeCheck d c n) update.Refused (λ x y.
+    onClient (clientCheck c) (update.Refused 2) (λ x.
+    onGiven (givenCheck d n) (update.Refused 3) (λ y.
+    cond (joined (cells d) (y .0)) (update.Refused 4) (
     cond (badBib bib) (update.Refused 5) (
     onKind (kindCheck k) (update.Refused 5) (λ kind.
-    onEvent (turnCheck d x y) update.Refused (λ x y.
+    cond (openElsewhere (cells d) (x .0) (y .0)) (update.Refused 6) (
+    cond (busyByOther (cells d) (x .0) (y .0)) (update.Refused 7) (
+    cond (stale (cells d) (x .0) (y .0)) (update.Refused 8) (
     cond (logFull (cells d)) (update.Refused 9) (
-    update.Allowed x y kind)))))
+    update.Allowed x y kind)))))))))
 
 -- what is found is in range
 abbrev pub updateIn : List ℕ → ℕ → UpdateCheck → Type 0

@@ -16,17 +16,26 @@ ghost use Rattle.table.specs.Out.{tableBytes};
 ghost use Rattle.table.specs.Answers.{left};
 ghost use Rattle.table.specs.Calls.{updateOut};
 ghost use Rattle.updating.specs.Checks.{updateCheck, updateCode, updateIn};
+use checks::busy::UseCheck;
+use checks::busy::check_use_by_other;
+use checks::client::ClientCheck;
+use checks::client::check_client;
+use checks::given::GivenCheck;
+use checks::given::check_given;
+use checks::joined::JoinedCheck;
+use checks::joined::check_joined;
 use checks::log::LogCheck;
 use checks::log::check_log;
-use fields::table::Client;
-use fields::table::Revision;
-use fields::table::Table;
+use checks::open::OpenCheck;
+use checks::open::check_open;
+use checks::stale::StaleCheck;
+use checks::stale::check_stale;
+use sizes::numbers::Client;
+use sizes::numbers::Revision;
+use sizes::table::Table;
 use table::answer::Answer;
-use table::bib;
 use table::bib::BibCheck;
-use table::event;
-use table::event::EventCheck;
-use table::sizes::Whole;
+use table::bib::check_bib;
 use table::sound;
 use table::sound::TableCheck;
 use updates::kind::Kind;
@@ -56,24 +65,34 @@ fn check_lower(d: &[u8], client: u8, revision: u8, kind: u8, bib: u16) -> Update
     requires { ⌜ length (now d) ≡ Lower.lowerBytes ⌝ }
     ensures { λ a. ⌜ (a ≡ updateCheck (now (d .entry)) client revision kind bib) × updateIn (now (d .entry)) bib a ⌝ }
 {
-    let found = event::check_place(d, client, revision);
-    let EventCheck::Allowed(c, r) = found else {
-        return UpdateCheck::Refused(found.code());
+    let ClientCheck::Known(c) = check_client(client) else {
+        return UpdateCheck::Refused(2);
     };
-    let BibCheck::Known = bib::check_bib(bib) else {
+    let GivenCheck::Given(r) = check_given(d, revision) else {
+        return UpdateCheck::Refused(3);
+    };
+    let JoinedCheck::Out = check_joined(d, r) else {
+        return UpdateCheck::Refused(4);
+    };
+    let BibCheck::Known = check_bib(bib) else {
         return UpdateCheck::Refused(5);
     };
     let KindCheck::Known(k) = check_kind(kind) else {
         return UpdateCheck::Refused(5);
     };
-    let next = event::check_turn(d, c, r);
-    let EventCheck::Allowed(x, y) = next else {
-        return UpdateCheck::Refused(next.code());
+    let OpenCheck::Clear = check_open(d, c, r) else {
+        return UpdateCheck::Refused(6);
+    };
+    let UseCheck::Free = check_use_by_other(d, c, r) else {
+        return UpdateCheck::Refused(7);
+    };
+    let StaleCheck::CaughtUp = check_stale(d, c, r) else {
+        return UpdateCheck::Refused(8);
     };
     let LogCheck::Room = check_log(d) else {
         return UpdateCheck::Refused(9);
     };
-    UpdateCheck::Allowed(x, y, k)
+    UpdateCheck::Allowed(c, r, k)
 }
 
 // The same of a whole table.
@@ -93,15 +112,15 @@ fn append(t: &mut [u8], c: Client, r: Revision) -> usize
 }
 
 // Entry n is stored.
-fn store(t: &mut [u8], n: usize, kind: Kind, client: u8, bib: u16, v: u32)
-    requires { ⌜ (length (now t) ≡ tableBytes) × (n < updates) × (client < clients) × (bib < bibRange) ⌝ }
-    ensures { λ _. ⌜ now (t .exit) ≡ low (now (t .entry)) ++ wrote (high (now (t .entry))) n (entry kind client bib v) ⌝ }
+fn store(t: &mut [u8], n: usize, kind: Kind, c: Client, bib: u16, v: u32)
+    requires { ⌜ (length (now t) ≡ tableBytes) × (n < updates) × (c .0 < clients) × (bib < bibRange) ⌝ }
+    ensures { λ _. ⌜ now (t .exit) ≡ low (now (t .entry)) ++ wrote (high (now (t .entry))) n (entry kind (c .0) bib v) ⌝ }
 {
     entries::write::write(
-        &mut t[Table::LOWER..Whole::BYTES],
+        &mut t[Table::LOWER..Table::BYTES],
         n as u16,
         kind,
-        client,
+        c,
         bib,
         v,
     );
@@ -113,7 +132,7 @@ pub fn put(t: &mut [u8], c: Client, r: Revision, kind: Kind, bib: u16, v: u32) -
     ensures { λ u. ⌜ (u ≡ cellsOf (now (t .entry)) .updates) × (now (t .exit) ≡ updateBytes (low (now (t .entry))) (c .0) (r .0) ++ wrote (high (now (t .entry))) (cellsOf (now (t .entry)) .updates) (entry kind (c .0) bib v)) ⌝ }
 {
     let u = append(t, c, r);
-    store(t, u, kind, c.0, bib, v);
+    store(t, u, kind, c, bib, v);
     u as u32
 }
 

@@ -102,7 +102,8 @@ module _ (d : Diagram) (layout : List ℕ) (terminal starts : ℕ → ℕ) (L : 
 
   pub linked-join : Linked (join (terminal a) (terminal b) ∷ d) (remove b layout) (changed terminal a (length d)) starts
   linked-join =
-      advance d layout terminal starts L a jv refl (remove b layout) (grow js a (js b .own)) (joinPool (may d terminal starts) a b) (both-older (length d) (terminal a) (terminal b) (L .bound a) (L .bound b)) (m .at, m .start-of, leads-path d (m .at) (terminal a) (m .leads))
+      advance d layout terminal starts L a jv refl (remove b layout) (grow js a (js b .own)) (joinPool (may d terminal starts) a b)
+      (both-older (length d) (terminal a) (terminal b) (L .bound a) (L .bound b)) (m .at, m .start-of, leads-path d (m .at) (terminal a) (m .leads))
       (rw rest (Memᴰ·append-right (P .above) (Memᴰ·append-right (P .between) (List·Memᴰ·head refl)))) (changed-same js a _) (λ x i h. changed-other js a _ x h)
       (rw rest (join-inv (P .above) b (P .between) a (P .below) js (may d terminal starts) whole (ordered-pair .1))) join-may held few
     where
@@ -113,7 +114,8 @@ module _ (d : Diagram) (layout : List ℕ) (terminal starts : ℕ → ℕ) (L : 
       few n k = either (List·Memᴰ·append-cases (ownEvents d (terminal a)) k) (λ j. omega (arith, L .small (terminal a) n j)) (λ j. omega (arith, L .small (terminal b) n j))
 
 -- a fork, from the diagram in which the fork vertex is: its number is f, and b is there
-module _ (d : Diagram) (layout : List ℕ) (terminal starts : ℕ → ℕ) (L : Linked d layout terminal starts) (b : ℕ) (b-in : b ∈ layout) (c : ℕ) (c-new : c ∈ layout → ⊥) (f : ℕ) (at-f : terminal b ≡ f) (last : suc f ≡ length d) (lone : (x : ℕ) → x ∈ layout → (x ≡ b → ⊥) → leads d f (terminal x) ≡ false) where
+module _ (d : Diagram) (layout : List ℕ) (terminal starts : ℕ → ℕ) (L : Linked d layout terminal starts) (b : ℕ) (b-in : b ∈ layout) (c : ℕ) (c-new : c ∈ layout → ⊥)
+    (f : ℕ) (at-f : terminal b ≡ f) (last : suc f ≡ length d) (lone : (x : ℕ) → x ∈ layout → (x ≡ b → ⊥) → leads d f (terminal x) ≡ false) where
   abbrev sv : Vertex
   sv = start f
 
@@ -165,11 +167,15 @@ module _ (d : Diagram) (layout : List ℕ) (terminal starts : ℕ → ℕ) (L : 
   fork-may : (x y : ℕ) → x ∈ insertBefore b c layout → y ∈ insertBefore b c layout → May (sv ∷ d) t2 starts2 x y → forkPool (may d terminal starts) b c x y ≡ true
   fork-may x y i k h = at-y (split (eqb y c)) (split (eqb x c))
     where
+      -- where x is an older revision
+      seen-old : (x ≡ c → ⊥) → (e : ℕ) → leads (sv ∷ d) e (t2 x) ≡ leads d e (terminal x)
+      seen-old n e = sees-other d sv terminal (L .bound) c e x n
+
       to-c : y ≡ c → (x ≡ c → ⊥) → (eqb x b ≡ true) ⊎ (eqb x b ≡ false) → forkPool (may d terminal starts) b c x y ≡ true
       to-c q n (inl e) = rw (q, eq-eqb c c refl) e
       to-c q n (inr e) =
           let r : f ≡ h .at = cc (on-self d sv terminal (L .bound) c forkStep none, h .start-of, q) in
-          let s : leads d f (terminal x) ≡ true = rw r (sym (sees-other d sv terminal (L .bound) c (h .at) x n) ∙ h .leads) in
+          let s : leads d f (terminal x) ≡ true = rw r (sym (seen-old n (h .at)) ∙ h .leads) in
           absurd (false≢true (sym (lone x (out-in x i n) (eqb-false x b e)) ∙ s))
 
       -- where y is an older revision
@@ -196,7 +202,13 @@ module _ (d : Diagram) (layout : List ℕ) (terminal starts : ℕ → ℕ) (L : 
       at-y (inr p) (inr q) =
           let n = eqb-false x c q in
           let o = eqb-false y c p in
-          rw (p, q) (true-may d terminal starts x y (record { outside = sym (sees-other d sv terminal (L .bound) c (starts y) x n) ∙ unseen o; at = h .at; start-of = from-old o; leads = sym (sees-other d sv terminal (L .bound) c (h .at) x n) ∙ h .leads }))
+          rw (p, q) (true-may d terminal starts x y (record { outside = sym (seen-old n (starts y)) ∙ unseen o; at = h .at; start-of = from-old o; leads = sym (seen-old n (h .at)) ∙ h .leads }))
+
+  start-inv : Inv (insertBefore b c layout) (contents (sv ∷ d) t2) (may (sv ∷ d) t2 starts2)
+  start-inv =
+      inv-same (insertBefore b c layout) (forkContents (contents d terminal) b c) (contents (sv ∷ d) t2) (forkPool (may d terminal starts) b c) (may (sv ∷ d) t2 starts2) fork-inv′
+      (λ x i. fork-content x)
+      (λ x y i k e. fork-may x y i k (may-true (sv ∷ d) t2 starts2 x y e))
 
   start-older : (p : ℕ) → List·Memᴰ p (f ∷ []) → p < length d
   start-older p i = omega (arith, List·Memᴰ·eq-of-singleton i)
@@ -225,7 +237,7 @@ module _ (d : Diagram) (layout : List ℕ) (terminal starts : ℕ → ℕ) (L : 
     joins-ok = (tt, L .joins-ok);
     bound = on-bound d sv terminal (L .bound) c;
     small = start-small;
-    inv = inv-same (insertBefore b c layout) (forkContents (contents d terminal) b c) (contents (sv ∷ d) t2) (forkPool (may d terminal starts) b c) (may (sv ∷ d) t2 starts2) fork-inv′ (λ x i. fork-content x) (λ x y i k e. fork-may x y i k (may-true (sv ∷ d) t2 starts2 x y e));
+    inv = start-inv;
     past = start-past;
   }
 

@@ -208,7 +208,9 @@ module _ (y : Day) (layout : List ℕ) (hold : ℕ → List ℕ) (S : Sound y la
       last′ t e h i = pick (side t h)
         where
           pick : (t ≡ t0) ⊎ ((t ≡ t0 → ⊥) × (t < y .transactions)) → (l : ℕ) × (y′ .lastEvent (y′ .transaction t .client) ≡ some l) × (leads (v ∷ d) e l ≡ true)
-          pick (inl q) = last-c (y′ .transaction t .client) e (ap (λ z. y′ .transaction z .client) q ∙ ap (λ w. w .client) w-new) (either (new-cases e (subst (λ z. e ∈ eventsOf y′ z) q i)) (λ j. up e (X .before-sees e j)) (λ j. rw j (leads-newest v d)))
+          pick (inl q) =
+              let own = ap (λ z. y′ .transaction z .client) q ∙ ap (λ w. w .client) w-new in
+              last-c (y′ .transaction t .client) e own (either (new-cases e (subst (λ z. e ∈ eventsOf y′ z) q i)) (λ j. up e (X .before-sees e j)) (λ j. rw j (leads-newest v d)))
           pick (inr p) = rw (w-old t (p .0)) (last-old t e (p .1) (rw (e-old t (p .0)) at i))
 
       later′ : (s t e f : ℕ) → s < t → t < y′ .transactions → y′ .transaction s .client ≡ y′ .transaction t .client → e ∈ eventsOf y′ s → f ∈ eventsOf y′ t → leads (v ∷ d) e f ≡ true
@@ -239,7 +241,11 @@ module _ (y : Day) (layout : List ℕ) (hold : ℕ → List ℕ) (S : Sound y la
       came-shut t n h i none q =
           let on = S .whole .own-revision r t (E .out) h i q in
           let f = S .unshut t h q in
-          absurd (cases (eqb (y .transaction t .client) c) (λ e. n (X .mine t (subst (λ z. y .openBy z ≡ some t) (eqb-true _ c e) f))) (λ e. false≢true (sym (rw f at (E .idle (y .transaction t .client) (S .runs _ t f .client-ok) (eqb-false _ c e))) ∙ eq-eqb (y .transaction t .revision) r on)))
+          let by = y .transaction t .client in
+          absurd
+          (cases (eqb by c)
+          (λ e. n (X .mine t (subst (λ z. y .openBy z ≡ some t) (eqb-true by c e) f)))
+          (λ e. false≢true (sym (rw f at (E .idle by (S .runs by t f .client-ok) (eqb-false by c e))) ∙ eq-eqb (y .transaction t .revision) r on)))
       came-shut t n h i (some z) q = record { at = z; is = rw (w-old t n) q; before = S .whole .closed-low t z h q; whole = λ e j. up e (S .whole .at-terminal r t (E .out) h i e (rw (e-old t n) at j)) }
 
       at-new : (t e : ℕ) → (t ≡ t0 → ⊥) → t < y .transactions → e ∈ eventsOf y t → leads (v ∷ d) e x0 ≡ true → SeenWhole (v ∷ d) (y′ .transaction t) x0

@@ -76,11 +76,11 @@ module _ (y : Day) (layout : List ℕ) (R : Real y layout) where
 
   pub real-fork : (r : ℕ) → CanFork y r → Real (forkAt y r) (insertBefore r (y .revisions) layout)
   real-fork r N = record {
-    linked = linked-start (fv ∷ d) layout (changed (y .terminal) r (length d)) (y .startOf) (linked-fork d layout (y .terminal) (y .startOf) (R .linked) r r-in) r r-in n n-new (length d) (changed-same (y .terminal) r (length d)) refl (lone d layout (y .terminal) (y .startOf) (R .linked) r);
+    linked = linked-start (fv ∷ d) layout terminals (y .startOf) forked r r-in n n-new (length d) (changed-same (y .terminal) r (length d)) refl (lone d layout (y .terminal) (y .startOf) (R .linked) r);
     out = λ s o. cases (eqb s n) (λ e. Memᴰ·cast (eqb-true s n e) (insert-new r n layout r-in)) (λ e. insert-old r n s layout (R .out s (forked-out y r s o e)));
     back = λ s i. either (insert-back r n s layout i) (λ e. rw e (omega arith, changed-same (y .joined) n false)) (λ j. let o = R .back s j in (omega (arith, o .0), changed-other (y .joined) n false s (λ e. omega (arith, o .0)) ∙ o .1));
-    forks = λ s h z. cases (eqb s n) (λ e. rw e (tabulate-newest forkStep none sv (fv ∷ d))) (λ e. rw e (tabulate-older forkStep none sv (fv ∷ d) (changed (y .terminal) r (length d) s) (on-bound d fv (y .terminal) terminal-low r s) ∙ forks-on fv r refl s (not-last s n h e) z));
-    main = cases (eqb 0 n) (λ e. let k = eqb-true 0 n e in absurd (omega (arith, N .out .0))) (λ e. rw e (tabulate-older forkStep none sv (fv ∷ d) (changed (y .terminal) r (length d) 0) (on-bound d fv (y .terminal) terminal-low r 0) ∙ fork-stays fv r refl 0 ∙ R .main));
+    forks = λ s h z. cases (eqb s n) (λ e. rw e (tabulate-newest forkStep none sv (fv ∷ d))) (λ e. rw e (start-on s ∙ forks-on fv r refl s (not-last s n h e) z));
+    main = cases (eqb 0 n) (λ e. let k = eqb-true 0 n e in absurd (omega (arith, N .out .0))) (λ e. rw e (start-on 0 ∙ fork-stays fv r refl 0 ∙ R .main));
     starts-low = λ s. cases (eqb s n) (λ e. rw e (omega arith)) (λ e. rw e (omega (arith, R .starts-low s)));
     forks-low = λ s. cases (eqb s n) (λ e. rw e (omega arith)) (λ e. rw e (omega (arith, R .forks-low s)));
   }
@@ -99,6 +99,16 @@ module _ (y : Day) (layout : List ℕ) (R : Real y layout) where
 
       n-new : n ∈ layout → ⊥
       n-new i = omega (arith, R .back n i .0)
+
+      -- with the fork vertex, and before the start vertex
+      terminals : ℕ → ℕ
+      terminals = changed (y .terminal) r (length d)
+
+      forked : Linked (fv ∷ d) layout terminals (y .startOf)
+      forked = linked-fork d layout (y .terminal) (y .startOf) (R .linked) r r-in
+
+      start-on : (s : ℕ) → forkVertex (sv ∷ fv ∷ d) (terminals s) ≡ forkVertex (fv ∷ d) (terminals s)
+      start-on s = tabulate-older forkStep none sv (fv ∷ d) (terminals s) (on-bound d fv (y .terminal) terminal-low r s)
 
   pub real-join : (a b : ℕ) → CanJoin y a b → Real (joinInto y a b) (remove b layout)
   real-join a b H = record {

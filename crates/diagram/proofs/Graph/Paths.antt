@@ -106,7 +106,10 @@ pub leads-up : (v : Vertex) (d : Diagram) (x p : ℕ) → List·Memᴰ p (source
 leads-up v d x p i e = leads-new v d x (length d) refl ∙ or-right (eqb x (length d)) _ (any-intro (λ q. leads d x q) p i e)
 
 pub leads-down : (v : Vertex) (d : Diagram) (x : ℕ) → x < length d → leads (v ∷ d) x (length d) ≡ true → (p : ℕ) × List·Memᴰ p (sources v) × (leads d x p ≡ true)
-leads-down v d x h e = either (or-cases (eqb x (length d)) (anyOf (λ q. leads d x q) (sources v)) (sym (leads-new v d x (length d) refl) ∙ e)) (λ q. let r = eqb-true x (length d) q in absurd (omega arith)) (λ q. any-elim (λ q. leads d x q) (sources v) q)
+leads-down v d x h e =
+    either (or-cases (eqb x (length d)) (anyOf (λ q. leads d x q) (sources v)) (sym (leads-new v d x (length d) refl) ∙ e))
+    (λ q. let r = eqb-true x (length d) q in absurd (omega arith))
+    (λ q. any-elim (λ q. leads d x q) (sources v) q)
 
 pub leads-newest : (v : Vertex) (d : Diagram) → leads (v ∷ d) (length d) (length d) ≡ true
 leads-newest v d = leads-new v d (length d) (length d) refl ∙ or-left _ _ (eq-eqb (length d) (length d) refl)

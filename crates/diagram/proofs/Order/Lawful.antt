@@ -149,7 +149,19 @@ module _ (ss : List Step) (A : Accepted ss) where
         each o h =
             cases (eqb o c)
             (λ e. rw e)
-            (λ e. rw e (idle (Event c r u) L r (λ T. T .no-s (length d) (newest refl (List·Memᴰ·head refl))) o (λ q w i. let p = List·Memᴰ·eq-of-singleton i in let z : o ≡ c = cc in eqb-false o c e z) (λ i. let p = List·Memᴰ·eq-of-singleton i in let z : _≡_ {A = ℕ} 0 1 = cc in omega arith)))
+            (λ e. rw e (idle (Event c r u) L r (λ T. T .no-s (length d) (newest refl (List·Memᴰ·head refl))) o (by-other e) no-yield))
+          where
+            by-other : eqb o c ≡ false → NoEvent o (Event c r u ∷ [])
+            by-other e q w i =
+                let p = List·Memᴰ·eq-of-singleton i in
+                let z : o ≡ c = cc in
+                eqb-false o c e z
+
+            no-yield : NoYield o (Event c r u ∷ [])
+            no-yield i =
+                let p = List·Memᴰ·eq-of-singleton i in
+                let z : _≡_ {A = ℕ} 0 1 = cc in
+                omega arith
 
     -- point 4: after a yield a path leads from the last event
     reached : (l : ℕ) → l < length d → (K : Latest fresh ss c l) → List·Memᴰ (Yield c) (K .rest) → leads d l (y .terminal r) ≡ true

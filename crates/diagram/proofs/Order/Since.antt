@@ -71,10 +71,11 @@ module _ (ss : List Step) (A : Accepted ss) (x : ℕ) (h : x < length (run ss .d
       back : (e : ℕ) × (number d e ≡ some k) × HasPath d e x → k ∈ view d x
       back (e, q, p) = rw (view-numbers (L .ordered) x h .1) (flat-in (λ e. entry (number d e)) e k (viewEvents d x) (visible (L .ordered) (L .joins-ok) e x h .1 (number-event d e k q, p)) (rw q (List·Memᴰ·head refl)))
 
+  events-once : List·Nodup (viewEvents d x)
+  events-once = Nodup·sublist ∣ held-order (fine-run ss A .layout) (contents d (run ss .terminal)) (may d (run ss .terminal) (run ss .startOf)) (viewEvents d x) (L .inv) (L .past x h) ∣₁ (L .inv .once)
+
   seen-once : List·Nodup (view d x)
-  seen-once =
-      rw (view-numbers (L .ordered) x h .1)
-      (numbers-nodup d (run ss .updates) (viewEvents d x) (numbered-run ss A) (Nodup·sublist ∣ held-order (fine-run ss A .layout) (contents d (run ss .terminal)) (may d (run ss .terminal) (run ss .startOf)) (viewEvents d x) (L .inv) (L .past x h) ∣₁ (L .inv .once)))
+  seen-once = rw (view-numbers (L .ordered) x h .1) (numbers-nodup d (run ss .updates) (viewEvents d x) (numbered-run ss A) events-once)
 
   -- what a revision shows is what its start showed, and then its own
   started : view d x ≡ view d (startVertex d x) ++ own d x
@@ -161,7 +162,10 @@ pub fork-shows : (ss : List Step) → Accepted ss → (r : ℕ) → accepted (ru
 unfolding after
 fork-shows ss A r e =
     since-step ss A (Fork r) e r (run ss .revisions) []
-    (ap (view _) (changed-same (changed (run ss .terminal) r (length d)) (run ss .revisions) _) ∙ tabulate-newest viewStep [] (start (length d)) (fork (run ss .terminal r) ∷ d) ∙ tabulate-newest viewStep [] (fork (run ss .terminal r)) d ∙ sym (append-nil _))
+    (ap (view _) (changed-same (changed (run ss .terminal) r (length d)) (run ss .revisions) _) ∙ tabulate-newest viewStep [] (start (length d)) (fv ∷ d) ∙ tabulate-newest viewStep [] fv d ∙ sym (append-nil _))
   where
     d : Diagram
     d = run ss .diagram
+
+    fv : Vertex
+    fv = fork (run ss .terminal r)

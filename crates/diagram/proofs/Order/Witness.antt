@@ -25,7 +25,15 @@ use Rattle.lists.proofs.Changed.{changed-same}
 use Rattle.lists.specs.Lists.{_∈_}
 
 entered-step : (x c r t : ℕ) (y : Day) (s : Step) → accepted y s ≡ true → Fine y × EnteredIn y x c r t → Fine (after y s) × EnteredIn (after y s) x c r t
-entered-step x c r t y s a (F, E) = (fine-step y s a F, record { known = omega (arith, E .known, more-transactions y F s); has = keeps-event y F s t (E .known) x (E .has); own = keeps-client y F s a t (E .known) ∙ E .own; on = keeps-revision y F s a t (E .known) ∙ E .on })
+entered-step x c r t y s a (F, E) = (fine-step y s a F, entered)
+  where
+    entered : EnteredIn (after y s) x c r t
+    entered = record {
+      known = omega (arith, E .known, more-transactions y F s);
+      has = keeps-event y F s t (E .known) x (E .has);
+      own = keeps-client y F s a t (E .known) ∙ E .own;
+      on = keeps-revision y F s a t (E .known) ∙ E .on;
+    }
 
 -- an event stays in its transaction
 entered-on : (ss : List Step) (y : Day) → AcceptedFrom y ss → Fine y → (x c r t : ℕ) → EnteredIn y x c r t → EnteredIn (runFrom y ss) x c r t

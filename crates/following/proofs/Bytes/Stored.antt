@@ -107,5 +107,5 @@ module _ (y : Day) (m : Machine) (d : List ℕ) (K : Kept y m (cells d)) (size-i
       let j = can-join y a b e in
       let na = numberOf y a in
       let nb = numberOf y b in
-      stored (joinParts p na nb) _ (join-sized sized na nb)
+      stored (joinParts p na nb) _ (join-sized sized na nb (low y m (cells d) K a (j .out-a)))
       (join-follows p sized na nb (low y m (cells d) K a (j .out-a)) (low y m (cells d) K b (j .out-b)) (K .bounded .first-low nb) (K .bounded .last-low na)) u

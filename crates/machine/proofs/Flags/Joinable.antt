@@ -177,8 +177,11 @@ module _ (y : Day) (F : Fine y) where
           cases (eqb x a)
           (λ e.
           subst (λ w. startSeen yh z w ≡ startSeen y z w) (sym (eqb-true x a e))
-          (join-start-joiner y F a b z ∙ same-truth _ _ (λ t. either (or-cases (startSeen y z a) (startSeen y z b) t) (λ k. k) (λ k. K .through a b z (H .out-a) (H .out-b) (joined-out y a b z oz .0) ab k (joined-out y a b z oz .1))) (λ t. or-left _ _ t)))
+          (join-start-joiner y F a b z ∙ same-truth _ _ (λ t. either (or-cases (startSeen y z a) (startSeen y z b) t) (λ k. k) by-joinee) (λ t. or-left _ _ t)))
           (λ e. join-start y F a b z x (eqb-false x a e))
+        where
+          by-joinee : startSeen y z b ≡ true → startSeen y z a ≡ true
+          by-joinee k = K .through a b z (H .out-a) (H .out-b) (joined-out y a b z oz .0) ab k (joined-out y a b z oz .1)
 
       -- J after a join: of another joiner as it was
       pub J-join-other : (x z : ℕ) → (x ≡ a → ⊥) → J yh x z ≡ J y x z

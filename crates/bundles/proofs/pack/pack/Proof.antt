@@ -27,7 +27,8 @@ use contract.Monad.{Fun, fact}
 use contract.Running.{givenOf, tables, tablesOf}
 use types.Kit.{Given, Item, ‵, raw, _⊛_, some, later, ⋆, runs, anyQ, atRet, Sq, _$_, _∵_, !, qed, by, move, drop, use1, split, join, pick, rewrite, fsplit, fjoin, suffices, frame, await, done}
 use types.Part.{whole, sub, look-in}
-use types.Run.{look, look-raw, store, init, forget, stop, hop, fld, from, load, lit, of-opd, bin, and-then, no-more, assigns, assigns-last, land, stays, leaves-loop, first, blocks, returns, enter, alloc1, alloc0, params1, pass1, pass0, free1, free0, exec, Below, again, loops}
+use types.Run.{look, look-raw, store, init, forget, stop, hop, fld, from, load, lit, of-opd, bin, and-then, no-more}
+use types.Run.{assigns, assigns-last, land, stays, leaves-loop, first, blocks, returns, enter, alloc1, alloc0, params1, pass1, pass0, free1, free0, exec, Below, again, loops}
 use sound.WpLaws.{FmC, fmOf, WpFn-mono}
 use denote.RattleType.{owns}
 use denote.Laws.{Is, shows}
@@ -263,7 +264,8 @@ module _ {M : Type 1} (𝓤 : URA M) (H : Heap 𝓤) (A : Atoms 𝓤) (W : Given
           nothing ! $ owned ! E.the-row (Is E.the-row) (LL.makes E.the-type E′.the-plain 𝓤 H A) (e t) (ve t ∷ []) g $ fjoin ! $
           owned ! usize (Is usize) (uint-makes 𝓤 H A W w64) (i t) (vint w64 (i t) ∷ []) (refl, i-fits) $ fjoin ! $ move ! (3 ∷ 0 ∷ []) $ fjoin ! $
           use1 W (raw (With 𝓤 H A mem run .pre (to-with t))) (goes-with t (small .1)) $
-          calls-at ! fm (With 𝓤 H A mem run) known (to-with t) (and-then ! (load ! (from ! (stop !)) (look ! 15 refl)) (and-then ! (load ! (from ! (stop !)) (look ! 13 refl)) (and-then ! (load ! (from ! (stop !)) (look ! 3 refl)) (no-more !)))) (λ u′.
+          calls-at ! fm (With 𝓤 H A mem run) known (to-with t)
+          (and-then ! (load ! (from ! (stop !)) (look ! 15 refl)) (and-then ! (load ! (from ! (stop !)) (look ! 13 refl)) (and-then ! (load ! (from ! (stop !)) (look ! 3 refl)) (no-more !)))) (λ u′.
           use1 W (later (some (λ (r : Packed). (‵ ftrue ⊛ ‵ (P.the-row .own r (u′ ∷ []))) ⊛ raw (ensured 𝓤 H A with′.ended (with′.clauses 𝓤 H A mem run) tt (after ys (i t), (i t, (e t, tt))) tt r)))) (id⊢ 𝓤 _) $ await ! tt $ pick ! (λ r.
           split ! $ move ! (1 ∷ []) $ use1 W (raw (fact 𝓤 (r ≡ withEntry (after ys (i t)) (i t) (e t)))) (with-said 𝓤 H A mem run (after ys (i t)) (i t) (e t) r) $ heard ! (r ≡ withEntry (after ys (i t)) (i t) (e t)) (λ w. split ! $ drop ! $
           peeks ! P.the-row (Is P.the-row) (shows 𝓤 H A P.the-row) r (u′ ∷ []) (λ is.

@@ -1,7 +1,7 @@
 -- `bundles::record::decode` meets its contract: two bytes have 16 bits, and four have 32. Assumes nothing.
 use native.Mathlib.Omega.{arith}
 use lib.ListN.{drop}
-use Rattle.dayfile.proofs.Widths.{part-below}
+use Rattle.buffers.proofs.Widths.{part-below}
 use borrow.Author.Needs.{needs}
 use Rattle.bundles.proofs.record.decode.Statement.{statement}
 use Rattle.bundles.proofs.record.decode.Tie as tie

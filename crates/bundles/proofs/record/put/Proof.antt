@@ -8,7 +8,10 @@ use Rattle.bundles.proofs.record.put.Tie as tie
 
 returns : tie.Need-returns
 unfolding recordOf
-returns c = let s = c .before .before .before .before .before .args in lent-replaced (s .b .now) _ _ (12 * s .i) 12 (c .before .before .write .ensures)
+returns c =
+    let at-write = c .before .before in
+    let s = at-write .before .before .before .args in
+    lent-replaced (s .b .now) _ _ (12 * s .i) 12 (at-write .write .ensures)
 
 pub put-spec : {M : Type 1} → statement M
 put-spec =

@@ -1,4 +1,4 @@
--- `sending::bundle::bundle` meets its contract: 1, then 14, then the entries. Assumes nothing.
+-- `bundling::bundle::bundle` meets its contract: 1, then 14, then the entries. Assumes nothing.
 use mathlib.Core.Path.{_∙_, sym}
 use borrow.Author.Needs.{needs}
 use Rattle.bundles.proofs.First.{counted}

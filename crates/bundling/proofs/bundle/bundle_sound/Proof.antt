@@ -1,4 +1,4 @@
--- `sending::bundle::bundle_sound` meets its contract: the first update's checks, then the rest. Assumes nothing.
+-- `bundling::bundle::bundle_sound` meets its contract: the first update's checks, then the rest. Assumes nothing.
 use mathlib.Core.Path.{_∙_, ap}
 use borrow.Author.Needs.{needs}
 use Rattle.bundles.specs.Records.{entriesFrom}
@@ -22,7 +22,9 @@ send-requires c κs =
     let start = at-check .before .before .before .before in
     let s = start .args in
     let g = at-found .found .given in
-    (bundle-going (s .t .now) (start .pre .0) (s .client) (s .revision) (s .b .now) (s .n) (start .pre .4) (at-check .check-first .result) (at-check .check-first .ensures) (g .0 .0) (g .0 .1 .0) (g .0 .1 .1 .0) (g .1), start .pre .1, start .pre .3, start .pre .5)
+    let first = at-check .check-first in
+    let going = bundle-going (s .t .now) (start .pre .0) (s .client) (s .revision) (s .b .now) (s .n) (start .pre .4) (first .result) (first .ensures) in
+    (going (g .0 .0) (g .0 .1 .0) (g .0 .1 .1 .0) (g .1), start .pre .1, start .pre .3, start .pre .5)
 
 returns-2 : tie.Need-returns-2
 returns-2 c =
@@ -32,8 +34,9 @@ returns-2 c =
     let start = at-check .before .before .before .before in
     let s = start .args in
     let g = at-found .found .given in
-    at-send .send .ensures
-    ∙ bundle-sent (s .t .now) (start .pre .0) (s .client) (s .revision) (s .b .now) (s .n) (start .pre .4) (at-check .check-first .result) (at-check .check-first .ensures) (g .0 .0) (g .0 .1 .0) (g .0 .1 .1 .0) (g .1) (entriesFrom (s .b .now) 0 (s .n))
+    let first = at-check .check-first in
+    let sent = bundle-sent (s .t .now) (start .pre .0) (s .client) (s .revision) (s .b .now) (s .n) (start .pre .4) (first .result) (first .ensures) in
+    at-send .send .ensures ∙ sent (g .0 .0) (g .0 .1 .0) (g .0 .1 .1 .0) (g .1) (entriesFrom (s .b .now) 0 (s .n))
 
 pub bundle-sound-spec : {M : Type 1} → statement M
 bundle-sound-spec = tie.close (tie.spec

@@ -1,4 +1,4 @@
--- `sending::bundle::check_entry` meets its contract: the bib, then the kind. Assumes nothing.
+-- `bundling::bundle::check_entry` meets its contract: the bib, then the kind. Assumes nothing.
 use mathlib.Core.Path.{sym, _∙_}
 use borrow.Author.Needs.{needs}
 use Rattle.table.proofs.Checks.{bib-known, bib-unknown}

@@ -1,4 +1,4 @@
--- `sending::bundle::check_first` meets its contract: the first entry is read, then checked. Assumes nothing.
+-- `bundling::bundle::check_first` meets its contract: the first entry is read, then checked. Assumes nothing.
 use mathlib.Core.Path.{_∙_, ap}
 use borrow.Author.Needs.{needs}
 use Rattle.updating.specs.Checks.{updateCheck}

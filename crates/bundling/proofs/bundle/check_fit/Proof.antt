@@ -1,4 +1,4 @@
--- `sending::bundle::check_fit` meets its contract: 1, 5 and 9 in their order. Assumes nothing.
+-- `bundling::bundle::check_fit` meets its contract: 1, 5 and 9 in their order. Assumes nothing.
 use mathlib.Core.Path.{sym, _∙_}
 use borrow.Author.Needs.{needs}
 use Rattle.table.specs.Found.{onKind}

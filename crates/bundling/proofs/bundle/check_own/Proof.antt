@@ -1,4 +1,4 @@
--- `sending::bundle::check_own` meets its contract: the test decides. Assumes nothing.
+-- `bundling::bundle::check_own` meets its contract: the test decides. Assumes nothing.
 use borrow.Author.Tests.{lt-ltb, le-ltb}
 use Rattle.bundling.specs.Bundles.{ownCheck}
 use Rattle.bundling.proofs.bundle.check_own.Statement.{statement}

@@ -1,4 +1,4 @@
--- `sending::bundle::check_sent` meets its contract: no entry before `i` is refused. Assumes nothing.
+-- `bundling::bundle::check_sent` meets its contract: no entry before `i` is refused. Assumes nothing.
 use Prim.Native.Nat.{_+_, _-_, _≤_}
 use mathlib.Core.Path.{_≡_, sym, _∙_, ap}
 use native.Mathlib.Omega.{arith}

@@ -1,4 +1,4 @@
--- `sending::bundle::enter` meets its contract: the kind is known, and the update is put in. Assumes nothing.
+-- `bundling::bundle::enter` meets its contract: the kind is known, and the update is put in. Assumes nothing.
 use mathlib.Core.Path.{sym, _∙_}
 use native.Mathlib.Omega.{arith}
 use borrow.Author.Needs.{needs}
@@ -14,7 +14,8 @@ returns c = rw (sym (c .before .before .check-kind .ensures) ∙ c .enum-told .g
 
 put-requires : tie.Need-put-requires
 put-requires c κs =
-    let start = c .before .before .before .before .before .before in
+    let known = c .before .before in
+    let start = known .before .before .before .before in
     let s = start .args in
     let g = start .pre .0 in
     let b = start .pre .2 in

@@ -1,4 +1,4 @@
--- `sending::bundle::enter_all` meets its contract: the entries before `i` are in, and the others fit. Assumes nothing.
+-- `bundling::bundle::enter_all` meets its contract: the entries before `i` are in, and the others fit. Assumes nothing.
 use Prim.Native.Nat.{_+_, _-_, _≤_}
 use mathlib.Core.Path.{_≡_, sym, _∙_, ap, subst}
 use native.Mathlib.Omega.{arith}

@@ -1,4 +1,4 @@
--- `sending::bundle::send` meets its contract: all checks, then the updates and the yield. Assumes nothing.
+-- `bundling::bundle::send` meets its contract: all checks, then the updates and the yield. Assumes nothing.
 use Prim.Native.Nat.{_≤_}
 use mathlib.Core.Path.{sym, subst, _∙_, ap}
 use mathlib.Core.List.{_++_}
@@ -52,7 +52,9 @@ enter-all-requires c κs =
 close-requires : tie.Need-close-requires
 close-requires c κs =
     let at-enter = c .before .before .before in
-    let start = at-enter .before .before .before .before .before .before .before .before .before .before .before in
+    let at-check = at-enter .before .before .before .before in
+    let at-taken = at-check .before .before .before in
+    let start = at-taken .before .before .before .before in
     let s = start .args in
     (at-enter .enter-all .kept .0 ∙ start .pre .1, client-in (s .t .now) (s .c .0) (s .r .0) (start .pre .0))
 

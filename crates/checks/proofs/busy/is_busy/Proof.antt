@@ -2,6 +2,7 @@
 use Prim.Native.Nat.{_-_, _≤_, ℕ}
 use mathlib.Core.Bool.{Bool, false}
 use mathlib.Core.Path.{_∙_, _≡_, ap, refl, sym}
+use mathlib.Core.List.{List}
 use native.Mathlib.Omega.{arith}
 use lib.Dec.{eqb}
 use borrow.Author.Needs.{needs}
@@ -11,11 +12,15 @@ use Rattle.cells.specs.Decode.{cells}
 use Rattle.checks.proofs.busy.is_busy.Statement.{statement}
 use Rattle.checks.proofs.busy.is_busy.Tie as tie
 
+-- client y has r open
+abbrev on : List ℕ → ℕ → ℕ → Bool
+on d r y = eqb (cells d .opened y) r
+
 abbrev Inv-loop : tie.InvT-loop
-Inv-loop d at x₀ x = (x ≤ 16) × (anyBelow x (λ y. eqb (cells d .opened y) at) ≡ false)
+Inv-loop d r x₀ x = (x ≤ 16) × (anyBelow x (on d (r .0)) ≡ false)
 
 abbrev μ-loop : tie.MeasureT-loop
-μ-loop d at x₀ x = 16 - x
+μ-loop d r x₀ x = 16 - x
 
 loop-holds : tie.Need-loop-holds Inv-loop μ-loop
 unfolding anyBelow
@@ -25,37 +30,30 @@ returns : tie.Need-returns Inv-loop μ-loop
 returns c =
     let at-on = c .before in
     let at-loop = at-on .before .before in
-    let at-wide = at-loop .before in
-    let start = at-wide .before .before in
-    let s = start .args in
+    let s = at-loop .before .before .args in
     let l = at-loop .loop in
-    let f : ℕ → Bool = λ y. eqb (cells (s .d .now) .opened y) (at-wide .wide .result) in
-    sym (any-at 16 f (l .x) (omega arith) (sym (at-on .is-on .ensures) ∙ c .if1 .taken)) ∙ ap (λ a. anyBelow 16 (λ y. eqb (cells (s .d .now) .opened y) a)) (at-wide .wide .ensures .0)
+    sym (any-at 16 (on (s .d .now) (s .r .0)) (l .x) (omega arith) (sym (at-on .is-on .ensures) ∙ c .if1 .taken))
 
 loop-again : tie.Need-loop-again Inv-loop μ-loop
 loop-again c =
     let at-on = c .before in
     let at-loop = at-on .before .before in
-    let at-wide = at-loop .before in
-    let start = at-wide .before .before in
+    let s = at-loop .before .before .args in
     let l = at-loop .loop in
-    (omega arith, any-more (l .x) (λ y. eqb (cells (start .args .d .now) .opened y) (at-wide .wide .result)) (l .inv .1) (sym (at-on .is-on .ensures) ∙ c .if1 .left))
+    (omega arith, any-more (l .x) (on (s .d .now) (s .r .0)) (l .inv .1) (sym (at-on .is-on .ensures) ∙ c .if1 .left))
 
 returns-2 : tie.Need-returns-2 Inv-loop μ-loop
 returns-2 c =
     let at-loop = c .before in
-    let at-wide = at-loop .before in
-    let start = at-wide .before .before in
-    let s = start .args in
+    let s = at-loop .before .before .args in
     let l = at-loop .loop in
-    let e : l .x ≡ 16 = omega arith in
-    sym (ap (λ n. anyBelow n (λ y. eqb (cells (s .d .now) .opened y) (at-wide .wide .result))) (sym e) ∙ l .inv .1) ∙ ap (λ a. anyBelow 16 (λ y. eqb (cells (s .d .now) .opened y) a)) (at-wide .wide .ensures .0)
+    let e : 16 ≡ l .x = omega arith in
+    sym (ap (λ n. anyBelow n (on (s .d .now) (s .r .0))) e ∙ l .inv .1)
 
 pub is-busy-spec : {M : Type 1} → statement M
 is-busy-spec = tie.close (tie.spec
     Inv-loop
     μ-loop
-    (λ c κs. search needs)
     loop-holds
     (λ c κs. search needs)
     returns

@@ -15,11 +15,19 @@ returns-2 c = rw (ne-eqb _ _ (c .before .before .before .if1 .left), eq-eqb _ _ 
 
 returns-3 : tie.Need-returns-3
 unfolding joinableCheck
-returns-3 c = rw (ne-eqb _ _ (c .before .before .before .before .before .if1 .left), ne-eqb _ _ (c .before .before .if2 .left), ← (c .before .seen .ensures), c .if3 .taken)
+returns-3 c =
+    let at-seen = c .before in
+    let at-if2 = at-seen .before in
+    let at-if1 = at-if2 .before .before .before in
+    rw (ne-eqb _ _ (at-if1 .if1 .left), ne-eqb _ _ (at-if2 .if2 .left), ← (at-seen .seen .ensures), c .if3 .taken)
 
 returns-4 : tie.Need-returns-4
 unfolding joinableCheck
-returns-4 c = rw (ne-eqb _ _ (c .before .before .before .before .before .if1 .left), ne-eqb _ _ (c .before .before .if2 .left), ← (c .before .seen .ensures), c .if3 .left)
+returns-4 c =
+    let at-seen = c .before in
+    let at-if2 = at-seen .before in
+    let at-if1 = at-if2 .before .before .before in
+    rw (ne-eqb _ _ (at-if1 .if1 .left), ne-eqb _ _ (at-if2 .if2 .left), ← (at-seen .seen .ensures), c .if3 .left)
 
 pub check-joinable-spec : {M : Type 1} → statement M
 check-joinable-spec = tie.close (tie.spec

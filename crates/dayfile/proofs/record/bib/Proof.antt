@@ -1,8 +1,8 @@
--- `records::record::bib` meets its contract: two bytes have 16 bits. Assumes nothing.
+-- `dayfile::record::bib` meets its contract: two bytes have 16 bits. Assumes nothing.
 use native.Mathlib.Omega.{arith}
 use lib.ListN.{drop}
 use borrow.Author.Needs.{needs}
-use Rattle.dayfile.proofs.Widths.{part-below}
+use Rattle.buffers.proofs.Widths.{part-below}
 use Rattle.dayfile.proofs.record.bib.Statement.{statement}
 use Rattle.dayfile.proofs.record.bib.Tie as tie
 

@@ -1,4 +1,4 @@
--- `records::record::decode` meets its contract: the step byte decides the tests of `stepOf`. Assumes nothing.
+-- `dayfile::record::decode` meets its contract: the step byte decides the tests of `stepOf`. Assumes nothing.
 use lib.ListN.{getD}
 use borrow.Author.Tests.{ne-eqb}
 use Rattle.dayfile.specs.Record.{stepOf}

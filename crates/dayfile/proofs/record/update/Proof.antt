@@ -1,7 +1,7 @@
--- `records::record::update` meets its contract: four bytes have 32 bits. Assumes nothing.
+-- `dayfile::record::update` meets its contract: four bytes have 32 bits. Assumes nothing.
 use native.Mathlib.Omega.{arith}
 use lib.ListN.{drop}
-use Rattle.dayfile.proofs.Widths.{part-below}
+use Rattle.buffers.proofs.Widths.{part-below}
 use borrow.Author.Needs.{needs}
 use Rattle.dayfile.proofs.record.update.Statement.{statement}
 use Rattle.dayfile.proofs.record.update.Tie as tie

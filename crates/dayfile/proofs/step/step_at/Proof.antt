@@ -1,4 +1,4 @@
--- `records::step::step_at` meets its contract: the record is lent and decoded, or there is none. Assumes nothing.
+-- `dayfile::step::step_at` meets its contract: the record is lent and decoded, or there is none. Assumes nothing.
 use Prim.Native.Nat.{_+_, _*_}
 use mathlib.Core.Path.{_∙_, ap}
 use native.Mathlib.Nat.{add-sub-cancel-left}
@@ -7,7 +7,7 @@ use lib.ListN.{length, take, drop}
 use Rattle.dayfile.specs.File.{offset}
 use borrow.Author.Tests.{le-leb, lt-leb}
 use Rattle.dayfile.specs.Record.{stepAt, stepOf}
-use Rattle.dayfile.proofs.Widths.{part-below}
+use Rattle.buffers.proofs.Widths.{part-below}
 use borrow.Author.Needs.{needs}
 use Rattle.dayfile.proofs.step.step_at.Statement.{statement}
 use Rattle.dayfile.proofs.step.step_at.Tie as tie

@@ -7,9 +7,13 @@ use Rattle.entries.proofs.load.load.Tie as tie
 returns : tie.Need-returns
 unfolding decoded
 returns c =
-    let w = c .before .before .before .before in
-    let u = w .before .before .before .before in
-    simp (u .before .before .before .kind-after .ensures, u .before .wide .ensures .0, u .wide2 .ensures .0, w .before .before .wide3 .ensures .0, w .wide4 .ensures .0, c .before .before .wide5 .ensures .0, c .wide6 .ensures .0)
+    let at-wide5 = c .before .before in
+    let at-wide4 = at-wide5 .before .before in
+    let at-wide3 = at-wide4 .before .before in
+    let at-wide2 = at-wide3 .before .before in
+    let at-wide = at-wide2 .before in
+    let kind = at-wide .before .before .kind-after .ensures in
+    simp (kind, at-wide .wide .ensures .0, at-wide2 .wide2 .ensures .0, at-wide3 .wide3 .ensures .0, at-wide4 .wide4 .ensures .0, at-wide5 .wide5 .ensures .0, c .wide6 .ensures .0)
 
 pub load-spec : {M : Type 1} → statement M
 load-spec =

@@ -13,7 +13,9 @@ unfolding entryAt
 returns c = c .load .ensures ∙ rw (lent-size (6 * c .before .before .before .before .args .n) 6)
 
 returns-2 : tie.Need-returns-2
-returns-2 c = sym (entry-past (c .before .before .args .t .now) (c .before .before .args .n) (c .before .before .pre) (c .if1 .left))
+returns-2 c =
+    let start = c .before .before in
+    sym (entry-past (start .args .t .now) (start .args .n) (start .pre) (c .if1 .left))
 
 pub read-spec : {M : Type 1} → statement M
 read-spec =

@@ -23,8 +23,9 @@ loop-holds c = (search needs, refl)
 
 loop-again : tie.Need-loop-again Inv-loop μ-loop
 loop-again c =
-    let s = c .before .before .before .before .before .before .args in
-    let l = c .before .before .before .loop in
+    let at-loop = c .before .before .before in
+    let s = at-loop .before .before .before .args in
+    let l = at-loop .loop in
     (omega arith, c .after .ensures ∙ ap (applied _) (l .inv .1) ∙ sym (applied-more (entryAt (s .t .now)) (s .bib) (s .order .now) (l .i) (s .start) (omega arith)))
 
 returns : tie.Need-returns Inv-loop μ-loop

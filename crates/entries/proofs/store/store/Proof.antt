@@ -9,7 +9,9 @@ use Rattle.entries.proofs.store.store.Tie as tie
 
 returns : tie.Need-returns
 unfolding stored
-returns c = rw (c .two-bits .ensures .0) (six-set (c .before .before .args .p .now) _ _ _ _ _ _ (c .before .before .pre .0))
+returns c =
+    let start = c .before .before .before in
+    rw (c .two-bits .ensures .0) (six-set (start .args .p .now) _ _ _ _ _ _ (start .pre .0))
 
 pub store-spec : {M : Type 1} → statement M
 store-spec =

@@ -8,7 +8,10 @@ use Rattle.entries.proofs.write.write.Tie as tie
 
 returns : tie.Need-returns
 unfolding wrote
-returns c = let s = c .before .before .before .before .before .args in lent-replaced (s .t .now) _ _ (6 * s .n) 6 (c .before .before .store .ensures)
+returns c =
+    let at-store = c .before .before in
+    let s = at-store .before .before .before .args in
+    lent-replaced (s .t .now) _ _ (6 * s .n) 6 (at-store .store .ensures)
 
 pub write-spec : {M : Type 1} → statement M
 write-spec =

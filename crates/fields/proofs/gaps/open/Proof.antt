@@ -22,9 +22,12 @@ loop-again c =
     let s = c .before .before .before .args in
     let l = c .before .before .loop in
     let t = s .t .now in
-    let e : l .j - 1 + 1 ≡ l .j = omega arith in
-    let now : l .t ≡ moved 63 (l .j - 1 + 1) t = l .inv .3 ∙ ap (λ j. moved 63 j t) (sym e) in
-    (omega arith, omega arith, search needs, ap (λ z. set z (l .j) (getD (l .t) (l .j - 1) 0)) now ∙ ap (λ j. set (moved 63 (l .j - 1 + 1) t) j (getD (l .t) (l .j - 1) 0)) (sym e) ∙ moved-more 63 (l .j - 1) t _ (omega arith) (omega arith) (ap (λ z. getD z (l .j - 1) 0) now))
+    let from = l .j - 1 in
+    let entry = getD (l .t) from 0 in
+    let e : from + 1 ≡ l .j = omega arith in
+    let now : l .t ≡ moved 63 (from + 1) t = l .inv .3 ∙ ap (λ j. moved 63 j t) (sym e) in
+    let more = moved-more 63 from t entry (omega arith) (omega arith) (ap (λ z. getD z from 0) now) in
+    (omega arith, omega arith, search needs, ap (λ z. set z (l .j) entry) now ∙ ap (λ j. set (moved 63 (from + 1) t) j entry) (sym e) ∙ more)
 
 returns : tie.Need-returns Inv-loop μ-loop
 returns c =

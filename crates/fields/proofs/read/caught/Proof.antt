@@ -11,7 +11,11 @@ use Rattle.fields.proofs.read.caught.Tie as tie
 
 returns : tie.Need-returns
 unfolding cells offset size
-returns c = c .flag .ensures ∙ flag-read (c .before .before .before .before .before .args .d .now) caughtPart clients refl (c .before .before .before .wide .ensures .0) (c .before .before .wide2 .ensures .0) (omega arith) (omega arith)
+returns c =
+    let at-wide2 = c .before .before in
+    let at-wide = at-wide2 .before in
+    let d = at-wide .before .before .args .d .now in
+    c .flag .ensures ∙ flag-read d caughtPart clients refl (at-wide .wide .ensures .0) (at-wide2 .wide2 .ensures .0) (omega arith) (omega arith)
 
 pub caught-spec : {M : Type 1} → statement M
 caught-spec = tie.close (tie.spec

@@ -8,7 +8,10 @@ use Rattle.fields.proofs.row.put.Tie as tie
 
 returns : tie.Need-returns
 unfolding putRow
-returns c = let s = c .before .before .before .before .before .args in lent-replaced (s .t .now) _ _ (512 * s .x) 512 (c .before .before .store .ensures)
+returns c =
+    let at-store = c .before .before in
+    let s = at-store .before .before .before .args in
+    lent-replaced (s .t .now) _ _ (512 * s .x) 512 (at-store .store .ensures)
 
 pub put-spec : {M : Type 1} → statement M
 put-spec = tie.close (tie.spec

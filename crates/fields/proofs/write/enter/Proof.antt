@@ -11,7 +11,10 @@ use Rattle.fields.proofs.write.enter.Tie as tie
 
 returns : tie.Need-returns
 unfolding offset size
-returns c = let s = c .before .before .before .before .before .args in part-lent (s .d .now) layoutPart (λ t. take revisions (insertBefore (s .parent .0) (s .child .0) t)) (omega arith) (omega arith) (c .before .before .put-in .ensures)
+returns c =
+    let at-put = c .before .before in
+    let s = at-put .before .before .before .args in
+    part-lent (s .d .now) layoutPart (λ t. take revisions (insertBefore (s .parent .0) (s .child .0) t)) (omega arith) (omega arith) (at-put .put-in .ensures)
 
 pub enter-spec : {M : Type 1} → statement M
 enter-spec = tie.close (tie.spec

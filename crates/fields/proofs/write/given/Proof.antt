@@ -9,7 +9,10 @@ use Rattle.fields.proofs.write.given.Tie as tie
 
 returns : tie.Need-returns
 unfolding offset size
-returns c = let s = c .before .before .before .before .before .args in byte-lent (s .d .now) countersPart (s .v) (omega arith) (omega arith) refl (c .before .before .put-byte .ensures)
+returns c =
+    let at-put = c .before .before in
+    let s = at-put .before .before .before .args in
+    byte-lent (s .d .now) countersPart (s .v) (omega arith) (omega arith) refl (at-put .put-byte .ensures)
 
 pub given-spec : {M : Type 1} → statement M
 given-spec = tie.close (tie.spec

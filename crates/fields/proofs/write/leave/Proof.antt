@@ -12,7 +12,10 @@ use Rattle.fields.proofs.write.leave.Tie as tie
 
 returns : tie.Need-returns
 unfolding offset size
-returns c = let s = c .before .before .before .before .before .args in part-lent (s .d .now) layoutPart (λ t. take revisions (remove (s .b .0) t ++ (0 ∷ []))) (omega arith) (omega arith) (c .before .before .take-out .ensures)
+returns c =
+    let at-take = c .before .before in
+    let s = at-take .before .before .before .args in
+    part-lent (s .d .now) layoutPart (λ t. take revisions (remove (s .b .0) t ++ (0 ∷ []))) (omega arith) (omega arith) (at-take .take-out .ensures)
 
 pub leave-spec : {M : Type 1} → statement M
 leave-spec = tie.close (tie.spec

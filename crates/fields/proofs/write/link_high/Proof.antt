@@ -9,7 +9,10 @@ use Rattle.fields.proofs.write.link_high.Tie as tie
 
 returns : tie.Need-returns
 unfolding offset size
-returns c = let s = c .before .before .before .before .before .args in part-lent (s .d .now) highPart (λ t. putHalf t (s .u) (s .v)) (omega arith) (omega arith) (c .before .before .put-half .ensures)
+returns c =
+    let at-put = c .before .before in
+    let s = at-put .before .before .before .args in
+    part-lent (s .d .now) highPart (λ t. putHalf t (s .u) (s .v)) (omega arith) (omega arith) (at-put .put-half .ensures)
 
 pub link-high-spec : {M : Type 1} → statement M
 link-high-spec = tie.close (tie.spec

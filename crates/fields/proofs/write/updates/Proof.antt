@@ -9,7 +9,10 @@ use Rattle.fields.proofs.write.updates.Tie as tie
 
 returns : tie.Need-returns
 unfolding offset size
-returns c = let s = c .before .before .before .before .before .args in word-lent (s .d .now) countersPart (s .v) (omega arith) (omega arith) refl (c .before .before .put-word .ensures)
+returns c =
+    let at-put = c .before .before in
+    let s = at-put .before .before .before .args in
+    word-lent (s .d .now) countersPart (s .v) (omega arith) (omega arith) refl (at-put .put-word .ensures)
 
 pub updates-spec : {M : Type 1} → statement M
 updates-spec = tie.close (tie.spec

@@ -1,23 +1,22 @@
 -- `flags::change::fork_caught` meets its contract: the rows up to `x` are stored. Assumes nothing.
 use Prim.Native.Nat.{_-_, _≤_}
+use mathlib.Core.Bool.{cond}
 use mathlib.Core.Path.{_∙_, _≡_}
-use mathlib.Core.List.{[]}
 use native.Mathlib.Omega.{arith}
-use lib.ListN.{getD, length, take}
+use lib.ListN.{length, take}
 use borrow.Author.Needs.{needs}
-use Rattle.cells.specs.CellSteps.{forkCaught}
-use Rattle.cells.specs.Flags.{flagOf, rowBytes, rows}
+use Rattle.cells.specs.Flags.{flagAt, flagOf, rowBytes, rows}
 use Rattle.cells.specs.Tables.{tab}
 use Rattle.cells.proofs.Tables.{tab-done, tab-more, tab-none}
-use Rattle.flags.proofs.Laws.{column-row}
+use Rattle.flags.proofs.Laws.{column-rows}
 use Rattle.flags.proofs.change.fork_caught.Statement.{statement}
 use Rattle.flags.proofs.change.fork_caught.Tie as tie
 
 abbrev Inv-loop : tie.InvT-loop
-Inv-loop parent child caught column z₀ x₀ z x = (x ≤ 16) × (length z ≡ 16) × (take x z ≡ tab (λ i. rowBytes 8 (forkCaught (flagOf caught) parent child i)) x)
+Inv-loop parent caught column z₀ x₀ z x = (x ≤ 16) × (length z ≡ 16) × (take x z ≡ tab (λ i. rowBytes 8 (λ y. cond (flagAt column y) (flagOf caught i (parent .0)) (flagOf caught i y))) x)
 
 abbrev μ-loop : tie.MeasureT-loop
-μ-loop parent child caught column z₀ x₀ z x = 16 - x
+μ-loop parent caught column z₀ x₀ z x = 16 - x
 
 loop-holds : tie.Need-loop-holds Inv-loop μ-loop
 loop-holds c = (search needs, search needs, tab-none _)
@@ -27,16 +26,16 @@ loop-again c =
     let at-flag = c .before in
     let at-loop = at-flag .before .before .before in
     let l = at-loop .loop in
-    let only = at-loop .before .only in
-    let s = at-loop .before .before .args in
-    (omega arith, search needs, tab-more _ (l .z) (l .x) _ (omega arith) (l .inv .2) (rw (at-flag .flag .ensures) at (c .with .ensures) ∙ column-row (getD (s .t1) (l .x) []) (only .result) _ _ (only .ensures)))
+    (omega arith, search needs, tab-more _ (l .z) (l .x) _ (omega arith) (l .inv .2) (rw (at-flag .flag .ensures) at (c .with .ensures)))
 
 returns : tie.Need-returns Inv-loop μ-loop
 unfolding rows
 returns c =
     let l = c .before .loop in
     let e : l .x ≡ 16 = omega arith in
-    tab-done _ (l .z) 16 (l .inv .1) (rw e at (l .inv .2))
+    let only = c .before .before .only in
+    let s = c .before .before .before .args in
+    tab-done _ (l .z) 16 (l .inv .1) (rw e at (l .inv .2)) ∙ column-rows 16 (s .t1) (only .result) (s .child .0) (λ i. flagOf (s .t1) i (s .parent .0)) (only .ensures)
 
 pub fork-caught-spec : {M : Type 1} → statement M
 fork-caught-spec = tie.close (tie.spec

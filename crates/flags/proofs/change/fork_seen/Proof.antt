@@ -8,13 +8,17 @@ use Rattle.flags.proofs.change.fork_seen.Tie as tie
 
 returns : tie.Need-returns
 returns c =
-    let s = c .before .before .args in
-    c .fork-column .ensures ∙ fork-rows (s .seen) (s .parent) (s .child) (search needs) (omega arith)
+    let at-wide2 = c .before in
+    let at-wide = at-wide2 .before .before in
+    let s = at-wide .before .args in
+    rw (at-wide .wide .ensures .0, at-wide2 .wide2 .ensures .0) at (c .fork-column .ensures) ∙ fork-rows (s .seen) (s .parent .0) (s .child .0) (search needs) (omega arith)
 
 pub fork-seen-spec : {M : Type 1} → statement M
 fork-seen-spec = tie.close (tie.spec
+    (λ c κs. search needs)
     (λ c. search needs)
     (λ c. search needs)
+    (λ c κs. search needs)
     (λ c. search needs)
     (λ c. search needs)
     (λ c κs. search needs)

@@ -14,7 +14,7 @@ use Rattle.flags.proofs.change.join_caught.Statement.{statement}
 use Rattle.flags.proofs.change.join_caught.Tie as tie
 
 abbrev Inv-loop : tie.InvT-loop
-Inv-loop a b caught column z₀ x₀ z x = (x ≤ 16) × (length z ≡ 16) × (take x z ≡ tab (λ i. rowBytes 8 (joinCaught (flagOf caught) a b i)) x)
+Inv-loop a b caught column z₀ x₀ z x = (x ≤ 16) × (length z ≡ 16) × (take x z ≡ tab (λ i. rowBytes 8 (joinCaught (flagOf caught) (a .0) (b .0) i)) x)
 
 abbrev μ-loop : tie.MeasureT-loop
 μ-loop a b caught column z₀ x₀ z x = 16 - x
@@ -31,7 +31,8 @@ loop-again c =
     let l = at-loop .loop in
     let only = at-loop .before .only in
     let s = at-loop .before .before .args in
-    (omega arith, search needs, tab-more _ (l .z) (l .x) _ (omega arith) (l .inv .2) (rw (at-or .or .ensures, at-flag .flag .ensures, at-flag2 .flag2 .ensures) at (c .with .ensures) ∙ column-row (getD (s .t1) (l .x) []) (only .result) _ _ (only .ensures)))
+    let row = rw (at-or .or .ensures, at-flag .flag .ensures, at-flag2 .flag2 .ensures) at (c .with .ensures) ∙ column-row (getD (s .t1) (l .x) []) (only .result) _ _ (only .ensures) in
+    (omega arith, search needs, tab-more _ (l .z) (l .x) _ (omega arith) (l .inv .2) row)
 
 returns : tie.Need-returns Inv-loop μ-loop
 unfolding rows

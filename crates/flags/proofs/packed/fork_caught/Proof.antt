@@ -11,8 +11,11 @@ returns c =
     let at-store16 = c .before .before in
     let at-fork-caught = at-store16 .before .before in
     let at-load16 = at-fork-caught .before in
-    let start = at-load16 .before .before .before in
-    at-store16 .store16 .ensures ∙ fork-caught-stored (start .args .t .now) (at-load16 .load16 .result) (at-fork-caught .fork-caught .result) (start .args .parent) (start .args .child) (omega arith) (omega arith) (at-load16 .load16 .ensures) (at-fork-caught .fork-caught .ensures)
+    let s = at-load16 .before .before .before .args in
+    let loaded = at-load16 .load16 in
+    let changed = at-fork-caught .fork-caught in
+    at-store16 .store16 .ensures
+    ∙ fork-caught-stored (s .t .now) (loaded .result) (changed .result) (s .parent .0) (s .child .0) (omega arith) (omega arith) (loaded .ensures) (changed .ensures)
 
 pub fork-caught-spec : {M : Type 1} → statement M
 fork-caught-spec = tie.close (tie.spec

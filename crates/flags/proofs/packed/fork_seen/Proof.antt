@@ -11,8 +11,11 @@ returns c =
     let at-store64 = c .before .before in
     let at-fork-seen = at-store64 .before .before in
     let at-load64 = at-fork-seen .before in
-    let start = at-load64 .before .before .before in
-    at-store64 .store64 .ensures ∙ fork-seen-stored (start .args .t .now) (at-load64 .load64 .result) (at-fork-seen .fork-seen .result) (start .args .parent) (start .args .child) (omega arith) (omega arith) (at-load64 .load64 .ensures) (at-fork-seen .fork-seen .ensures)
+    let s = at-load64 .before .before .before .args in
+    let loaded = at-load64 .load64 in
+    let changed = at-fork-seen .fork-seen in
+    at-store64 .store64 .ensures
+    ∙ fork-seen-stored (s .t .now) (loaded .result) (changed .result) (s .parent .0) (s .child .0) (omega arith) (omega arith) (loaded .ensures) (changed .ensures)
 
 pub fork-seen-spec : {M : Type 1} → statement M
 fork-seen-spec = tie.close (tie.spec

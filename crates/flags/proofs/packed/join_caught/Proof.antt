@@ -11,8 +11,11 @@ returns c =
     let at-store16 = c .before .before in
     let at-join-caught = at-store16 .before .before in
     let at-load16 = at-join-caught .before in
-    let start = at-load16 .before .before .before in
-    at-store16 .store16 .ensures ∙ join-caught-stored (start .args .t .now) (at-load16 .load16 .result) (at-join-caught .join-caught .result) (start .args .a) (start .args .b) (omega arith) (omega arith) (at-load16 .load16 .ensures) (at-join-caught .join-caught .ensures)
+    let s = at-load16 .before .before .before .args in
+    let loaded = at-load16 .load16 in
+    let changed = at-join-caught .join-caught in
+    at-store16 .store16 .ensures
+    ∙ join-caught-stored (s .t .now) (loaded .result) (changed .result) (s .a .0) (s .b .0) (omega arith) (omega arith) (loaded .ensures) (changed .ensures)
 
 pub join-caught-spec : {M : Type 1} → statement M
 join-caught-spec = tie.close (tie.spec

@@ -1,47 +1,82 @@
--- `branching::fork::check_fork` meets its contract: what the first checks find, then the last. Assumes nothing.
+-- `forking::fork::check_fork` meets its contract: the first check that applies decides. Assumes nothing.
 use Prim.{tt}
-use mathlib.Core.Path.{sym, _∙_, ap}
+use mathlib.Core.Path.{sym, _∙_}
 use borrow.Author.Needs.{needs}
-use Rattle.table.specs.Found.{idleCode, onNext, onIdle}
-use Rattle.table.specs.declared.pair.PairCheck.the-variants as pair
+use Rattle.table.specs.Found.{onGiven, onNext}
+use Rattle.table.proofs.Checks.{joined-told, use-told, was-given}
 use Rattle.forking.specs.Checks.{forkCheck}
-use Rattle.table.proofs.Checks.{idle-in}
 use Rattle.forking.proofs.Checks.{next}
 use Rattle.forking.proofs.fork.check_fork.Statement.{statement}
 use Rattle.forking.proofs.fork.check_fork.Tie as tie
 
 returns : tie.Need-returns
-unfolding forkCheck onIdle
+unfolding forkCheck onGiven onNext
 returns c =
-    let h = c .before .enum-told .given .1 in
-    (rw (sym (c .before .before .before .check-idle .ensures) ∙ h) (ap pair.Refused (c .code .ensures ∙ ap idleCode h)), tt)
+    (rw (sym (c .before .before .check-given .ensures) ∙ c .enum-told .given .1), tt)
+
+check-joined-requires : tie.Need-check-joined-requires
+check-joined-requires c κs =
+    let at-given = c in
+    let given = sym (at-given .before .before .before .check-given .ensures) ∙ at-given .before .p .given .1 in
+    (search needs, was-given _ _ _ given)
 
 returns-2 : tie.Need-returns-2
-unfolding forkCheck onIdle onNext
+unfolding forkCheck onGiven onNext
 returns-2 c =
-    let k = c .before .before .before in
-    let e = sym (k .before .before .before .check-idle .ensures) ∙ k .before .found .given .1 in
-    (rw (e, sym (c .before .before .check-next .ensures) ∙ c .enum-told2 .given .1), tt)
+    let at-given = c .before .before .before in
+    let given = sym (at-given .before .before .before .check-given .ensures) ∙ at-given .before .p .given .1 in
+    (rw (given, joined-told _ _ .holds (sym (c .before .before .check-joined .ensures) ∙ c .enum-told3 .given .1)), tt)
 
 returns-3 : tie.Need-returns-3
-unfolding forkCheck onIdle onNext
+unfolding forkCheck onGiven onNext
 returns-3 c =
-    let k = c .before .before .before .before in
-    let e = sym (k .before .before .before .check-idle .ensures) ∙ k .before .found .given .1 in
-    let f = sym (c .before .before .before .check-next .ensures) ∙ c .before .c .given .1 in
-    let start = k .before .before .before .before .before in
-    let n = next _ (start .pre .1) _ f in
-    (rw (e, f), (idle-in _ _ _ e, n .0, n .1))
+    let at-out = c .before .before .before in
+    let at-given = at-out .before .before .before in
+    let given = sym (at-given .before .before .before .check-given .ensures) ∙ at-given .before .p .given .1 in
+    let out = joined-told _ _ .fails (sym (at-out .before .before .check-joined .ensures) ∙ at-out .enum-told2 .given .1) in
+    (rw (given, out, use-told _ _ .holds (sym (c .before .before .check-use .ensures) ∙ c .enum-told5 .given .1)), tt)
+
+returns-4 : tie.Need-returns-4
+unfolding forkCheck onGiven onNext
+returns-4 c =
+    let at-free = c .before .before .before in
+    let at-out = at-free .before .before .before in
+    let at-given = at-out .before .before .before in
+    let given = sym (at-given .before .before .before .check-given .ensures) ∙ at-given .before .p .given .1 in
+    let out = joined-told _ _ .fails (sym (at-out .before .before .check-joined .ensures) ∙ at-out .enum-told2 .given .1) in
+    let free = use-told _ _ .fails (sym (at-free .before .before .check-use .ensures) ∙ at-free .enum-told4 .given .1) in
+    (rw (given, out, free, sym (c .before .before .check-next .ensures) ∙ c .enum-told6 .given .1), tt)
+
+returns-5 : tie.Need-returns-5
+unfolding forkCheck onGiven onNext
+returns-5 c =
+    let at-left = c in
+    let at-free = at-left .before .before .before .before in
+    let at-out = at-free .before .before .before in
+    let at-given = at-out .before .before .before in
+    let given = sym (at-given .before .before .before .check-given .ensures) ∙ at-given .before .p .given .1 in
+    let out = joined-told _ _ .fails (sym (at-out .before .before .check-joined .ensures) ∙ at-out .enum-told2 .given .1) in
+    let free = use-told _ _ .fails (sym (at-free .before .before .check-use .ensures) ∙ at-free .enum-told4 .given .1) in
+    let left = sym (at-left .before .before .before .check-next .ensures) ∙ at-left .before .c .given .1 in
+    let start = at-given .before .before .before .before .before in
+    (rw (given, out, free, left), (was-given _ _ _ given, next _ (start .pre .1) _ left .0, next _ (start .pre .1) _ left .1))
 
 pub check-fork-spec : {M : Type 1} → statement M
 check-fork-spec = tie.close (tie.spec
     (λ c κs. search needs)
     (λ c. search needs)
     (λ c. search needs)
-    (λ c κs. search needs)
     returns
-    (λ c κs. search needs)
+    check-joined-requires
     (λ c. search needs)
     (λ c. search needs)
     returns-2
-    returns-3)
+    (λ c κs. search needs)
+    (λ c. search needs)
+    (λ c. search needs)
+    returns-3
+    (λ c κs. search needs)
+    (λ c. search needs)
+    (λ c. search needs)
+    returns-4
+    returns-5)

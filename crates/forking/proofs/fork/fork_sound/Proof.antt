@@ -1,4 +1,4 @@
--- `branching::fork::fork_sound` meets its contract: the checks, then the work. Assumes nothing.
+-- `forking::fork::fork_sound` meets its contract: the checks, then the work. Assumes nothing.
 use mathlib.Core.Path.{refl, sym, _∙_, ap}
 use borrow.Author.Needs.{needs}
 use Rattle.table.specs.Halves.{low}

@@ -1,4 +1,4 @@
--- `branching::fork::start` meets its contract: the lower half is lent and comes back written. Assumes nothing.
+-- `forking::fork::start` meets its contract: the lower half is lent and comes back written. Assumes nothing.
 use borrow.Author.Needs.{needs}
 use Rattle.cells.specs.Steps.{forkBytes}
 use Rattle.table.specs.Halves.{low}

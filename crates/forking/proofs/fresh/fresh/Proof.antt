@@ -1,4 +1,4 @@
--- `branching::fresh::fresh` meets its contract: the check, then the work. Assumes nothing.
+-- `forking::fresh::fresh` meets its contract: the check, then the work. Assumes nothing.
 use mathlib.Core.Path.{_∙_, ap, sym}
 use borrow.Author.Needs.{needs}
 use Rattle.table.specs.Answers.{taken}

@@ -1,4 +1,4 @@
--- `branching::fresh::start` meets its contract: each half is lent and comes back written. Assumes nothing.
+-- `forking::fresh::start` meets its contract: each half is lent and comes back written. Assumes nothing.
 use mathlib.Core.Path.{_∙_, ap}
 use mathlib.Core.List.{_++_}
 use native.Mathlib.Omega.{arith}

@@ -1,4 +1,4 @@
--- `branching::join::join_lower` meets its contract: the lower half is lent and comes back written. Assumes nothing.
+-- `forking::join::join_lower` meets its contract: the lower half is lent and comes back written. Assumes nothing.
 use mathlib.Core.Path.{_≡_}
 use native.Mathlib.Omega.{arith}
 use borrow.Author.Needs.{needs}

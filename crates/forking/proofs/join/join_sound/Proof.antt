@@ -1,4 +1,4 @@
--- `branching::join::join_sound` meets its contract: the checks, then the work. Assumes nothing.
+-- `forking::join::join_sound` meets its contract: the checks, then the work. Assumes nothing.
 use mathlib.Core.Path.{sym, _∙_, ap}
 use borrow.Author.Needs.{needs}
 use Rattle.table.specs.Halves.{low}
@@ -42,7 +42,7 @@ join-sound-spec = tie.close (tie.spec
     (λ c. search needs)
     (λ c. search needs)
     (λ c. search needs)
-    (λ c κs. low-length (c .before .before .before .args .t .now) (c .before .before .before .pre .1))
+    (λ c κs. let start = c .before .before .before in low-length (start .args .t .now) (start .pre .1))
     (λ c. search needs)
     (λ c. search needs)
     (λ c κs. search needs)

@@ -172,8 +172,11 @@ module _ {M : Type 1} (𝓤 : URA M) (H : Heap 𝓤) (A : Atoms 𝓤) (W : Given
           rewrite ! 6 (λ (m : ℕ). ‵ (fat fullShare list l₁₀ 0 (sliceVal (l₆, 0) m))) (sym few) refl $
           move ! (0 ∷ 3 ∷ []) $ join ! $ move ! (0 ∷ 3 ∷ 4 ∷ []) $ use3 W (raw (Onto 𝓤 H A mem run .pre (to-onto l₆ ν γ))) (goes-onto l₆ ν γ) $
           -- [what `bundle_of` asks; what the array is owed; the entries behind; the locals]
-          calls-at ! fm (Onto 𝓤 H A mem run) known-onto (to-onto l₆ ν γ) (and-then ! (load ! (from ! (stop !)) (look ! 7 refl)) (and-then ! (load ! (from ! (stop !)) (look ! 18 refl)) (and-then ! (load ! (from ! (stop !)) (look ! 16 refl)) (and-then ! (load ! (from ! (stop !)) (look ! 3 refl)) (no-more !))))) (λ w.
-          use1 W (later (some (λ (t : Answer). ((‵ (flft κ q) ⊛ (‵ (flft (ν ∷ []) fullShare) ⊛ ‵ ftrue)) ⊛ ‵ (R.the-row .own t (w ∷ []))) ⊛ raw (ensured 𝓤 H A onto.ended (onto.clauses 𝓤 H A mem run) (κ, (ν ∷ [], tt)) (x, (c, (r, (y l₆ ν γ, tt)))) tt t)))) (id⊢ 𝓤 _) $ await ! tt $ pick ! (λ t.
+          calls-at ! fm (Onto 𝓤 H A mem run) known-onto (to-onto l₆ ν γ)
+          (and-then ! (load ! (from ! (stop !)) (look ! 7 refl)) (and-then ! (load ! (from ! (stop !)) (look ! 18 refl)) (and-then ! (load ! (from ! (stop !)) (look ! 16 refl)) (and-then ! (load ! (from ! (stop !)) (look ! 3 refl)) (no-more !)))))
+          (λ w.
+          use1 W (later (some (λ (t : Answer). ((‵ (flft κ q) ⊛ (‵ (flft (ν ∷ []) fullShare) ⊛ ‵ ftrue)) ⊛ ‵ (R.the-row .own t (w ∷ [])))
+          ⊛ raw (ensured 𝓤 H A onto.ended (onto.clauses 𝓤 H A mem run) (κ, (ν ∷ [], tt)) (x, (c, (r, (y l₆ ν γ, tt)))) tt t)))) (id⊢ 𝓤 _) $ await ! tt $ pick ! (λ t.
           -- what `bundle_of` ensures, at some last bytes
           split ! $ move ! (1 ∷ []) $ use1 W (some (λ (zs : List ℕ × (Unit {0} × (Unit {0} × (Unit {0} × Unit {0})))). ‵ (lasts onto.ended (κ, (ν ∷ [], tt)) (x, (c, (r, (y l₆ ν γ, tt)))) zs) ⊛ raw (fact 𝓤 (Said t (zs .0))))) (id⊢ 𝓤 _) $ pick ! (λ zs.
           split ! $ move ! (1 ∷ []) $ heard ! (Said t (zs .0)) (λ e. fsplit ! $ fsplit ! $ move ! (1 ∷ []) $ feqL ! (λ l.
@@ -199,7 +202,8 @@ module _ {M : Type 1} (𝓤 : URA M) (H : Heap 𝓤) (A : Atoms 𝓤) (W : Given
         -- [the locals; the token; what the parameters own]
         assigns ! (of-opd ! (load ! (from ! (stop !)) (look ! 12 refl))) (from ! (stop !)) (init ! 8 refl typed) $
         assigns ! (addr ! (from ! (fld ! refl (hop ! (look-in ! 18 (sub ! 0 refl (whole !))) (stop !))))) (from ! (stop !)) (init ! 6 refl (tt, tt)) $
-        assigns ! (agg ! (and-then ! (load ! (from ! (stop !)) (look ! 6 refl)) (and-then ! (load ! (from ! (fld ! refl (stop !))) (look-in ! 18 (sub ! 1 refl (whole !)))) (no-more !)))) (from ! (stop !)) (init ! 4 refl (tt, (tt, (record { fits = is-t .0 .1 .0 }, tt)))) $
+        assigns ! (agg ! (and-then ! (load ! (from ! (stop !)) (look ! 6 refl)) (and-then ! (load ! (from ! (fld ! refl (stop !))) (look-in ! 18 (sub ! 1 refl (whole !)))) (no-more !))))
+        (from ! (stop !)) (init ! 4 refl (tt, (tt, (record { fits = is-t .0 .1 .0 }, tt)))) $
         assigns ! (addr ! (from ! (stop !))) (from ! (stop !)) (init ! 2 refl (tt, tt)) $
         assigns ! (agg ! (and-then ! (load ! (from ! (stop !)) (look ! 2 refl)) (and-then ! (load ! (from ! (stop !)) (look ! 10 refl)) (no-more !)))) (from ! (stop !)) (init ! 0 refl (tt, (tt, (record { fits = n-fits }, tt)))) $
         move ! (23 ∷ []) $ fsplit ! $ move ! (1 ∷ []) $ fsplit ! $ drop ! $ fsplit ! $ drop ! $ fsplit ! $ move ! (1 ∷ []) $ fsplit ! $ drop ! $ drop ! $
@@ -207,7 +211,8 @@ module _ {M : Type 1} (𝓤 : URA M) (H : Heap 𝓤) (A : Atoms 𝓤) (W : Given
         move ! (24 ∷ []) $ split ! $ move ! (1 ∷ []) $ drop ! $
         -- the entries are lent, for a lifetime ν of the call
         lft-new ! tt (λ ν. move ! (12 ∷ 2 ∷ []) $
-        use2 W (later (some (λ (γ : GName). ‵ (Lent l₆ ν γ) ⊛ (‵ (Owed 𝓤 H A W (ν ∷ []) l₆ es n long) ⊛ ‵ (Rest 𝓤 H A W (ν ∷ []) l₆ es n long))))) (lends 𝓤 H A W (ν ∷ []) l₆ es n long (named 1) ve) $ await ! tt $ pick ! (λ γ. split ! $ move ! (1 ∷ []) $ split ! $
+        use2 W (later (some (λ (γ : GName). ‵ (Lent l₆ ν γ) ⊛ (‵ (Owed 𝓤 H A W (ν ∷ []) l₆ es n long) ⊛ ‵ (Rest 𝓤 H A W (ν ∷ []) l₆ es n long))))) (lends 𝓤 H A W (ν ∷ []) l₆ es n long (named 1) ve) $
+        await ! tt $ pick ! (λ γ. split ! $ move ! (1 ∷ []) $ split ! $
         move ! (2 ∷ []) $ called l₀ l₁ l₂ l₃ l₄ l₅ l₆ l₇ l₈ l₉ l₁₀ ν γ)))))))))))))
 
 module _ {M : Type 1} (𝓤 : URA M) (H : Heap 𝓤) (A : Atoms 𝓤) (W : Given 𝓤 H A) (mem : Memory → SProp 𝓤) (run : Routine → Fun 𝓤) where
@@ -227,8 +232,11 @@ lent-meets : {M : Type 1} (𝓤 : URA M) (H : Heap 𝓤) (A : Atoms 𝓤) (W : G
     → Triple 𝓤 (𝓣 .C #lending·lent·bundle-of) (Onto 𝓤 H A mem run)
     → Meets 𝓤 H A lent.signature (WpFn 𝓤 H (𝓣 .C) (𝓣 .Λ) code.function) (lent.spec 𝓤 H A mem run)
 lent-meets 𝓤 H A W mem run 𝓣 known-onto =
+    let byte-goes = goes-none 𝓤 H A W 1 (λ _. u8) yes (λ κs x f. refl) in
+    let array-goes = goes-none 𝓤 H A W 1 (λ _. Array E.the-row 64) yes (λ κs x f. refl) in
+    let number-goes = goes-none 𝓤 H A W 1 (λ _. usize) yes (λ κs x f. refl) in
     walk-meets 𝓤 H A lent.ended stayed W
-    (goes-gave-slice 𝓤 H A W 1 0 tt (plain (λ _. u8)), (goes-none 𝓤 H A W 1 (λ _. u8) yes (λ κs x f. refl), (goes-none 𝓤 H A W 1 (λ _. u8) yes (λ κs x f. refl), (goes-none 𝓤 H A W 1 (λ _. Array E.the-row 64) yes (λ κs x f. refl), (goes-none 𝓤 H A W 1 (λ _. usize) yes (λ κs x f. refl), tt)))))
+    (goes-gave-slice 𝓤 H A W 1 0 tt (plain (λ _. u8)), (byte-goes, (byte-goes, (array-goes, (number-goes, tt)))))
     (lent.clauses 𝓤 H A mem run) (WpFn 𝓤 H (𝓣 .C) (𝓣 .Λ) code.function) (WpFn-mono 𝓤 H (W .laws) 𝓣 code.function) (lent-walks 𝓤 H A W mem run (𝓣 .C) (𝓣 .Λ) (fmOf 𝓤 H (W .laws) 𝓣) known-onto)
 
 pub bundle-first-spec : {M : Type 1} → stated.statement M

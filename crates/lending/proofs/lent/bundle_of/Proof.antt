@@ -116,6 +116,10 @@ module _ {M : Type 1} (𝓤 : URA M) (H : Heap 𝓤) (A : Atoms 𝓤) (W : Given
   pack-said : (p : Packed) → ent 𝓤 (ensured 𝓤 H A pack.ended (pack.clauses 𝓤 H A mem run) (κ′, tt) (y, tt) tt p) (fact 𝓤 (p ≡ packedOf (y .now)))
   pack-said p = exE 𝓤 _ (λ ws. snd∗ 𝓤 (sem 𝓤 H A (lasts pack.ended (κ′, tt) (y, tt) ws)) (fact 𝓤 (p ≡ packedOf (y .now))))
 
+  -- what `bundle_packed` says of its result and the last bytes
+  abbrev Said : Packed → Answer → List ℕ → Type 0
+  Said p t zs = left t zs ≡ bundleOut (x .now) c r (recordsIn p)
+
   -- the call of `bundle_packed`, at the packed list p with the machine value u
   abbrev to-onto : Packed → Val → Onto 𝓤 H A mem run .Ghost
   to-onto p u = (((κ, tt), (q, tt), tt, (x, (c, (r, (p, tt)))), (vt ∷ [], (vint w8 c ∷ [], (vint w8 r ∷ [], (u ∷ [], tt))))), tt)
@@ -161,20 +165,24 @@ module _ {M : Type 1} (𝓤 : URA M) (H : Heap 𝓤) (A : Atoms 𝓤) (W : Given
           → Sq W (‵ (P.the-row .own p (u ∷ [])) ∷ ‵ (flft κ q) ∷ ‵ Table ∷ ‵ (flft κ′ q′) ∷ ‵ Lent ∷ Locals (‵ (fat fullShare P′.mir l₅ 0 u))) (runs C Λ En steps.t-2 (atRet En Post))
       called fits p u packed =
           assigns ! (addr ! (from ! (fld ! refl (hop ! (look-in ! 17 (sub ! 0 refl (whole !))) (stop !))))) (from ! (stop !)) (init ! 7 refl (tt, tt)) $
-          assigns ! (agg ! (and-then ! (load ! (from ! (stop !)) (look ! 7 refl)) (and-then ! (load ! (from ! (fld ! refl (stop !))) (look-in ! 17 (sub ! 1 refl (whole !)))) (no-more !)))) (from ! (stop !)) (init ! 5 refl (tt, (tt, (record { fits = fits }, tt)))) $
+          assigns ! (agg ! (and-then ! (load ! (from ! (stop !)) (look ! 7 refl)) (and-then ! (load ! (from ! (fld ! refl (stop !))) (look-in ! 17 (sub ! 1 refl (whole !)))) (no-more !))))
+          (from ! (stop !)) (init ! 5 refl (tt, (tt, (record { fits = fits }, tt)))) $
           use3 W (raw (Onto 𝓤 H A mem run .pre (to-onto p u))) (goes-onto p u) $
           -- [what `bundle_packed` asks; the token of the list; what the list owns; the locals]
-          calls-at ! fm (Onto 𝓤 H A mem run) known-onto (to-onto p u) (and-then ! (load ! (from ! (stop !)) (look ! 3 refl)) (and-then ! (load ! (from ! (stop !)) (look ! 13 refl)) (and-then ! (load ! (from ! (stop !)) (look ! 11 refl)) (and-then ! (load ! (from ! (stop !)) (look ! 7 refl)) (no-more !))))) (λ w.
+          calls-at ! fm (Onto 𝓤 H A mem run) known-onto (to-onto p u)
+          (and-then ! (load ! (from ! (stop !)) (look ! 3 refl)) (and-then ! (load ! (from ! (stop !)) (look ! 13 refl)) (and-then ! (load ! (from ! (stop !)) (look ! 11 refl)) (and-then ! (load ! (from ! (stop !)) (look ! 7 refl)) (no-more !)))))
+          (λ w.
           use1 W (later (some (λ (t : Answer). ((‵ (flft κ q) ⊛ ‵ ftrue) ⊛ ‵ (R.the-row .own t (w ∷ []))) ⊛ raw (ensured 𝓤 H A onto.ended (onto.clauses 𝓤 H A mem run) (κ, tt) (x, (c, (r, (p, tt)))) tt t)))) (id⊢ 𝓤 _) $ await ! tt $ pick ! (λ t.
           -- what `bundle_packed` ensures, at some last bytes
-          split ! $ move ! (1 ∷ []) $ use1 W (some (λ (zs : List ℕ × (Unit {0} × (Unit {0} × (Unit {0} × Unit {0})))). ‵ (lasts onto.ended (κ, tt) (x, (c, (r, (p, tt)))) zs) ⊛ raw (fact 𝓤 (left t (zs .0) ≡ bundleOut (x .now) c r (recordsIn p))))) (id⊢ 𝓤 _) $ pick ! (λ zs.
-          split ! $ move ! (1 ∷ []) $ heard ! (left t (zs .0) ≡ bundleOut (x .now) c r (recordsIn p)) (λ e. fsplit ! $ fsplit ! $ move ! (1 ∷ []) $ feqL ! (λ l.
+          split ! $ move ! (1 ∷ []) $ use1 W (some (λ (zs : List ℕ × (Unit {0} × (Unit {0} × (Unit {0} × Unit {0})))). ‵ (lasts onto.ended (κ, tt) (x, (c, (r, (p, tt)))) zs) ⊛ raw (fact 𝓤 (Said p t (zs .0))))) (id⊢ 𝓤 _) $ pick ! (λ zs.
+          split ! $ move ! (1 ∷ []) $ heard ! (Said p t (zs .0)) (λ e. fsplit ! $ fsplit ! $ move ! (1 ∷ []) $ feqL ! (λ l.
           -- [the last bytes; …; the token and the result; the token of the list; what the list owns; the locals]
           move ! (2 ∷ []) $ split ! $ split ! $ move ! (1 ∷ []) $ drop ! $ move ! (3 ∷ []) $ drop ! $ move ! (1 ∷ 2 ∷ 0 ∷ []) $
           peeks ! R.the-row (Is R.the-row) (shows 𝓤 H A R.the-row) t (w ∷ []) (λ is.
           land ! (from ! (stop !)) (init ! 19 refl (LL.lawful R.the-type R′.the-laws 𝓤 H A W .typed t _ is .0)) $
           returns ! (look ! 19 refl) $ forget ! 5 refl $ forget ! 7 refl $ forget ! 9 refl $ forget ! 11 refl $ forget ! 13 refl $ forget ! 15 refl $ forget ! 17 refl $ forget ! 19 refl $
-          move ! (19 ∷ 20 ∷ []) $ free1 ! $ move ! (17 ∷ 18 ∷ []) $ free1 ! $ move ! (15 ∷ 16 ∷ []) $ free1 ! $ move ! (13 ∷ 14 ∷ []) $ free1 ! $ move ! (11 ∷ 12 ∷ []) $ free1 ! $ move ! (9 ∷ 10 ∷ []) $ free1 ! $ move ! (7 ∷ 8 ∷ []) $ free1 ! $ move ! (5 ∷ 6 ∷ []) $ free1 ! $ free0 ! $
+          move ! (19 ∷ 20 ∷ []) $ free1 ! $ move ! (17 ∷ 18 ∷ []) $ free1 ! $ move ! (15 ∷ 16 ∷ []) $ free1 ! $ move ! (13 ∷ 14 ∷ []) $ free1 ! $
+          move ! (11 ∷ 12 ∷ []) $ free1 ! $ move ! (9 ∷ 10 ∷ []) $ free1 ! $ move ! (7 ∷ 8 ∷ []) $ free1 ! $ move ! (5 ∷ 6 ∷ []) $ free1 ! $ free0 ! $
           by ! (exits t w (zs .0) (e ∙ (ap (λ z. bundleOut (x .now) c r (recordsIn z)) packed ∙ packed-is (x .now) c r (y .now))) l)))))))
 
       -- the call of `pack`

@@ -1,4 +1,4 @@
--- `showing::fill::fill` meets its contract: code 1, then the other checks on the lower half. Assumes nothing.
+-- `listing::fill::fill` meets its contract: code 1, then the other checks on the lower half. Assumes nothing.
 use mathlib.Core.Path.{_∙_, sym}
 use borrow.Author.Needs.{needs}
 use Rattle.table.specs.Halves.{low}

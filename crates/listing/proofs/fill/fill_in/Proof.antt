@@ -1,4 +1,4 @@
--- `showing::fill::fill_in` meets its contract: the first check that applies decides. Assumes nothing.
+-- `listing::fill::fill_in` meets its contract: the first check that applies decides. Assumes nothing.
 use mathlib.Core.Path.{sym, _∙_}
 use borrow.Author.Needs.{needs}
 use Rattle.table.proofs.Checks.{was-given, joined-told}
@@ -18,8 +18,9 @@ returns-2 : tie.Need-returns-2
 returns-2 c =
     let at-joined = c .before in
     let g = at-joined .before .before .before in
-    c .refused2 .ensures
-    ∙ fill-joined _ _ _ (sym (g .before .before .before .check-given .ensures) ∙ g .before .r .given .1) (joined-told _ _ .holds (sym (at-joined .before .before .check-joined .ensures) ∙ at-joined .enum-told3 .given .1))
+    let given = sym (g .before .before .before .check-given .ensures) ∙ g .before .r .given .1 in
+    let joined = sym (at-joined .before .before .check-joined .ensures) ∙ at-joined .enum-told3 .given .1 in
+    c .refused2 .ensures ∙ fill-joined _ _ _ given (joined-told _ _ .holds joined)
 
 tell-requires : tie.Need-tell-requires
 tell-requires c κs =
@@ -30,8 +31,9 @@ returns-3 : tie.Need-returns-3
 returns-3 c =
     let at-out = c .before in
     let g = at-out .before .before .before in
-    c .tell .ensures
-    ∙ fill-told _ _ _ (sym (g .before .before .before .check-given .ensures) ∙ g .before .r .given .1) (joined-told _ _ .fails (sym (at-out .before .before .check-joined .ensures) ∙ at-out .enum-told2 .given .1))
+    let given = sym (g .before .before .before .check-given .ensures) ∙ g .before .r .given .1 in
+    let not-joined = sym (at-out .before .before .check-joined .ensures) ∙ at-out .enum-told2 .given .1 in
+    c .tell .ensures ∙ fill-told _ _ _ given (joined-told _ _ .fails not-joined)
 
 pub fill-in-spec : {M : Type 1} → statement M
 fill-in-spec = tie.close (tie.spec

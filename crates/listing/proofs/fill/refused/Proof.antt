@@ -1,4 +1,4 @@
--- `showing::fill::refused` meets its contract: it is made so. Assumes nothing.
+-- `listing::fill::refused` meets its contract: it is made so. Assumes nothing.
 use mathlib.Core.Path.{refl}
 use Rattle.listing.proofs.fill.refused.Statement.{statement}
 use Rattle.listing.proofs.fill.refused.Tie as tie

@@ -1,4 +1,4 @@
--- `showing::fill::tell` meets its contract: two cells are read. Assumes nothing.
+-- `listing::fill::tell` meets its contract: two cells are read. Assumes nothing.
 use Prim.Native.Nat.{ℕ}
 use mathlib.Core.Path.{_≡_}
 use borrow.Author.Needs.{needs}

@@ -1,4 +1,4 @@
--- `showing::list::check_sheet` meets its contract: the test decides. Assumes nothing.
+-- `listing::list::check_sheet` meets its contract: the test decides. Assumes nothing.
 use borrow.Author.Needs.{needs}
 use borrow.Author.Tests.{lt-ltb, le-ltb}
 use Rattle.listing.specs.Checks.{sheetCheck}

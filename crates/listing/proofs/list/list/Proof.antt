@@ -1,4 +1,4 @@
--- `showing::list::list` meets its contract: code 1, then the other checks and the work. Assumes nothing.
+-- `listing::list::list` meets its contract: code 1, then the other checks and the work. Assumes nothing.
 use mathlib.Core.Path.{_∙_, sym}
 use borrow.Author.Needs.{needs}
 use Rattle.table.proofs.Buffer.{is-table, no-table}

@@ -1,4 +1,4 @@
--- `showing::list::list_sound` meets its contract: the checks, then the end. Assumes nothing.
+-- `listing::list::list_sound` meets its contract: the checks, then the end. Assumes nothing.
 use mathlib.Core.Path.{sym, _∙_, ap}
 use borrow.Author.Needs.{needs}
 use Rattle.table.specs.Halves.{low}

@@ -1,4 +1,4 @@
--- `showing::list::put` meets its contract: the check of the sheet, then the lines. Assumes nothing.
+-- `listing::list::put` meets its contract: the check of the sheet, then the lines. Assumes nothing.
 use mathlib.Core.Path.{sym, _∙_}
 use borrow.Author.Needs.{needs}
 use Rattle.table.specs.Halves.{high}

@@ -1,4 +1,4 @@
--- `showing::list::show` meets its contract: the order of r, then its lines. Assumes nothing.
+-- `listing::list::show` meets its contract: the order of r, then its lines. Assumes nothing.
 use borrow.Author.Needs.{needs}
 use Rattle.listing.proofs.Listed.{shown}
 use Rattle.listing.proofs.list.show.Statement.{statement}

@@ -37,10 +37,16 @@ gather-requires t c κs =
     (omega arith, (search needs, b .gather-some .ensures .0, omega arith))
 
 same-length : (t : ℕ) → gather-lts.Need-same-length (rest-reads.Asked, rest-reads.Learnt, gather-some-reads.Asked, gather-some-reads.Learnt, gather-below t, gather.Post) (gather-at t) gather.Post
-same-length t c = c .before .before .gather .kept .1 .1 .1 .0 ∙ c .before .before .before .before .before .before .gather-some .kept .1 .1 .1 .1 .0
+same-length t c =
+    let at-gather = c .before .before in
+    let at-some = at-gather .before .before .before .before in
+    at-gather .gather .kept .1 .1 .1 .0 ∙ at-some .gather-some .kept .1 .1 .1 .1 .0
 
 returns-2 : (t : ℕ) → gather-lts.Need-returns-2 (rest-reads.Asked, rest-reads.Learnt, gather-some-reads.Asked, gather-some-reads.Learnt, gather-below t, gather.Post) (gather-at t) gather.Post
-returns-2 t c = c .before .before .gather .ensures ∙ c .before .before .before .before .before .before .gather-some .ensures .1
+returns-2 t c =
+    let at-gather = c .before .before in
+    let at-some = at-gather .before .before .before .before in
+    at-gather .gather .ensures ∙ at-some .gather-some .ensures .1
 
 pub +gather-spec : {M : Type 1} → statement M
 +gather-spec = close μ-gather λ t. gather-lts.spec (rest-reads.Asked, rest-reads.Learnt, gather-some-reads.Asked, gather-some-reads.Learnt, gather-below t, gather.Post)

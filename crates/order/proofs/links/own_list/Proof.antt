@@ -28,7 +28,11 @@ returns c =
     let s = start .args in
     let k = cells (s .d .now) in
     let r = ranges (s .d .now) (start .pre .1) in
-    (at-count .count .ensures .0, rw (at-count .count .ensures .0) (r .count (s .r .0) (omega arith)), at-gather .gather .ensures ∙ ap (λ at. chain (k .link) at (at-count .count .result) ++ drop (at-count .count .result) (s .out .now)) (at-last .last .ensures .0) ∙ ap (λ n. chain (k .link) (k .last (s .r .0)) n ++ drop (at-count .count .result) (s .out .now)) (at-count .count .ensures .0))
+    let n = at-count .count .result in
+    let count-is = at-count .count .ensures .0 in
+    let behind = drop n (s .out .now) in
+    let gathered = at-gather .gather .ensures ∙ ap (λ at. chain (k .link) at n ++ behind) (at-last .last .ensures .0) ∙ ap (λ m. chain (k .link) (k .last (s .r .0)) m ++ behind) count-is in
+    (count-is, rw count-is (r .count (s .r .0) (omega arith)), gathered)
 
 pub own-list-spec : {M : Type 1} → statement M
 own-list-spec = tie.close (tie.spec

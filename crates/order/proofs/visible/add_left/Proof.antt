@@ -19,7 +19,9 @@ use Rattle.order.proofs.visible.add_left.Statement.{statement}
 use Rattle.order.proofs.visible.add_left.Tie as tie
 
 abbrev Inv-loop : tie.InvT-loop
-Inv-loop d r j room₀ out₀ i₀ m₀ room out i m = (i ≤ cells d .out) × ((i ≡ cells d .out) ⊎ (j + 1 ≤ i)) × (m ≤ updates) × (length room ≡ updates) × (length out ≡ updates) × Added out₀ 0 (flatBack (inherited (cells d) (r .0)) (drop i (outs (cells d)))) out m
+Inv-loop d r j room₀ out₀ i₀ m₀ room out i m =
+    (i ≤ cells d .out) × ((i ≡ cells d .out) ⊎ (j + 1 ≤ i)) × (m ≤ updates)
+    × (length room ≡ updates) × (length out ≡ updates) × Added out₀ 0 (flatBack (inherited (cells d) (r .0)) (drop i (outs (cells d)))) out m
 
 abbrev μ-loop : tie.MeasureT-loop
 μ-loop d r j room₀ out₀ i₀ m₀ room out i m = i
@@ -35,7 +37,8 @@ loop-holds c =
 
 at-place-requires : tie.Need-at-place-requires Inv-loop μ-loop
 at-place-requires c κs =
-    let start = c .before .before .before .before .before .before in
+    let at-loop = c .before in
+    let start = at-loop .before .before .before .before .before in
     let r = ranges (start .args .d .now) (start .pre .1) .most-out in (start .pre .0, start .pre .1, omega arith)
 
 add-some-requires : tie.Need-add-some-requires Inv-loop μ-loop
@@ -58,11 +61,14 @@ loop-again c =
     let l = at-loop .loop in
     let o = ranges (s .d .now) (start .pre .1) .most-out in
     let n = outs-length (s .d .now) (start .pre .0) o in
-    let e : picks (at-base-in .base-in .result) (flagged k (s .r .0)) (own k (at-at-place .at-place .result .0)) ≡ inherited k (s .r .0) (at-at-place .at-place .result .0) = ap (λ b. picks b (flagged k (s .r .0)) (own k (at-at-place .at-place .result .0))) (at-base-in .base-in .ensures) in
+    let here = at-at-place .at-place .result .0 in
+    let e : picks (at-base-in .base-in .result) (flagged k (s .r .0)) (own k here) ≡ inherited k (s .r .0) here = ap (λ b. picks b (flagged k (s .r .0)) (own k here)) (at-base-in .base-in .ensures) in
     let a = added-as e (at-add-some .add-some .ensures) in
     let w = added-bounds (l .out) (l .inv .4) (l .m) _ _ _ (l .inv .2) a in
     let x = at-at-place .at-place .ensures .0 ∙ sym (outs-at k (l .i - 1) (omega arith)) in
-    (omega arith, inr (omega arith), w .1, at-add-some .add-some .kept .1 .1 .1 .1 .0 ∙ l .inv .3, w .2, added-as (block-more (inherited k (s .r .0)) (outs k) (l .i) (at-at-place .at-place .result .0) (omega arith) (omega arith) x) (added-then (s .out .now) (start .pre .5) 0 _ (l .out) (l .m) _ _ _ (omega arith) (l .inv .5) a))
+    let more = block-more (inherited k (s .r .0)) (outs k) (l .i) here (omega arith) (omega arith) x in
+    let both = added-then (s .out .now) (start .pre .5) 0 _ (l .out) (l .m) _ _ _ (omega arith) (l .inv .5) a in
+    (omega arith, inr (omega arith), w .1, at-add-some .add-some .kept .1 .1 .1 .1 .0 ∙ l .inv .3, w .2, added-as more both)
 
 returns : tie.Need-returns Inv-loop μ-loop
 returns c =

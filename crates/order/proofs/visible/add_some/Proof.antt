@@ -11,9 +11,10 @@ use Rattle.order.proofs.visible.add_some.Tie as tie
 
 slice-reshare-prefix-sift : tie.Need-slice-reshare-prefix-sift
 slice-reshare-prefix-sift c =
-    let own = c .before .before .own-list in
+    let at-own-list = c .before .before in
+    let own = at-own-list .own-list in
     let few = own .ensures .1 in
-    let same = own .kept .1 .1 .0 ∙ c .before .before .before .before .before .before .before .pre .4 in
+    let same = own .kept .1 .1 .0 ∙ at-own-list .before .before .before .before .before .pre .4 in
     omega arith
 
 slice-aggregate-sift : tie.Need-slice-aggregate-sift

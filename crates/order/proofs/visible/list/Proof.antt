@@ -19,7 +19,8 @@ add-left-requires c κs =
 
 add-some-requires : tie.Need-add-some-requires
 add-some-requires c κs =
-    let at-add-left = c .before .before .before .before .before .before in
+    let at-count = c .before .before in
+    let at-add-left = at-count .before .before .before .before in
     let at-room = at-add-left .before .before .before in
     let start = at-room .before .before .before .before in
     let s = start .args in

@@ -1,4 +1,4 @@
--- `reading::query::check_query` meets its contract: the lower half is lent to the checks. Assumes nothing.
+-- `querying::query::check_query` meets its contract: the lower half is lent to the checks. Assumes nothing.
 use borrow.Author.Needs.{needs}
 use Rattle.table.specs.Halves.{low}
 use Rattle.querying.proofs.query.check_query.Statement.{statement}

@@ -1,4 +1,4 @@
--- `reading::query::query_sound` meets its contract: the checks, then the work. Assumes nothing.
+-- `querying::query::query_sound` meets its contract: the checks, then the work. Assumes nothing.
 use mathlib.Core.Path.{_∙_, ap}
 use borrow.Author.Needs.{needs}
 use Rattle.table.specs.Found.{eventCode}
@@ -38,7 +38,9 @@ returns-2 c =
     let at-check = at-found .before .before in
     let start = at-check .before .before .before in
     let s = start .args in
-    query-answered (s .t .now) (start .pre .0) (s .client) (s .revision) (s .bib) (at-check .check-query .result) (at-check .check-query .ensures .0) (at-found .found .given .0 .0) (at-found .found .given .0 .1 .0) (at-found .found .given .1) (c .tell .ensures) (at-record .record .ensures) (at-value .standing-at .ensures)
+    let g = at-found .found .given in
+    query-answered (s .t .now) (start .pre .0) (s .client) (s .revision) (s .bib) (at-check .check-query .result) (at-check .check-query .ensures .0)
+    (g .0 .0) (g .0 .1 .0) (g .1) (c .tell .ensures) (at-record .record .ensures) (at-value .standing-at .ensures)
 
 pub query-sound-spec : {M : Type 1} → statement M
 query-sound-spec = tie.close (tie.spec

@@ -1,4 +1,4 @@
--- `reading::query::record` meets its contract: the lower half is lent and comes back written. Assumes nothing.
+-- `querying::query::record` meets its contract: the lower half is lent and comes back written. Assumes nothing.
 use borrow.Author.Needs.{needs}
 use Rattle.cells.specs.Steps.{queryBytes}
 use Rattle.table.proofs.Halves.{low-lent}

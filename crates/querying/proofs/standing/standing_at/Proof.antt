@@ -1,4 +1,4 @@
--- `reading::standing::standing_at` meets its contract: the order of r, then the standing along it. Assumes nothing.
+-- `querying::standing::standing_at` meets its contract: the order of r, then the standing along it. Assumes nothing.
 use borrow.Author.Needs.{needs}
 use Rattle.table.specs.Halves.{high}
 use Rattle.table.proofs.Halves.{high-length}

@@ -1,4 +1,4 @@
--- `reading::standing::tell` meets its contract: struck, or else by the value. Assumes nothing.
+-- `querying::standing::tell` meets its contract: struck, or else by the value. Assumes nothing.
 use borrow.Author.Needs.{needs}
 use borrow.Author.Tests.{ne-eqb}
 use Rattle.updates.specs.Effect.{stateOf, valueIn}

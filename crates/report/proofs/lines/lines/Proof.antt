@@ -6,7 +6,7 @@ use native.Mathlib.Omega.{arith}
 use lib.ListN.{length, length-append}
 use borrow.Author.Needs.{needs}
 use Rattle.text.specs.Placed.{placed}
-use Rattle.text.proofs.Places.{placed-none, both-put}
+use Rattle.text.proofs.Places.{Put, placed-none, both-put}
 use Rattle.report.proofs.Grown.{table-none, lines-none, table-more, lines-more}
 use Rattle.dayfile.specs.Record.{stepAt}
 use Rattle.table.specs.Answers.{leftRead}
@@ -33,34 +33,53 @@ loop-holds c =
 
 line-requires : tie.Need-line-requires Inv-loop μ-loop
 line-requires c κs =
-    let turn = c .before .before .before .before .before .before .loop-test .taken in
-    let l = c .before .before .before .before .before .before .before .loop in
-    let s = c .before .before .before .before .before .before .before .before .before .before .before in
-    (omega (arith, s .pre .0, turn), omega (arith, s .pre .1, l .inv .1, l .inv .3, turn))
+    let at-run = c .before .before .before in
+    let at-test = at-run .before .before .before in
+    let at-loop = at-test .before in
+    let start = at-loop .before .before .before .before in
+    let turn = at-test .loop-test .taken in
+    let inv = at-loop .loop .inv in
+    (omega (arith, start .pre .0, turn), omega (arith, start .pre .1, inv .1, inv .3, turn))
 
 loop-again : tie.Need-loop-again Inv-loop μ-loop
 loop-again c =
-    let q = c .before .before in
-    let l = c .before .before .before .before .before .before .before .before .before .before .loop in
-    let s = c .before .before .before .before .before .before .before .before .before .before .before .before .before .before in
-    let t = s .args .t .now in
-    let f = s .args .f .now in
-    let p = c .before .before .before .before .before .before in
-    let turn = c .before .before .before .before .before .before .before .before .before .loop-test .taken in
-    let made : leftRead (p .run .result) (p .run .last .0) ≡ outAt t f (l .i) = p .run .ensures ∙ ap (stepOut (l .t)) (p .before .step-at .ensures) ∙ ap (λ b. stepOut b (stepAt f (l .i))) (l .inv .4) in
-    let line = lineOf (l .i) (p .run .result .code) (p .run .result .state) (p .run .result .value) in
-    let grown = lines-more t f (l .i) (p .run .result) (p .run .last .0) made in
-    let fits : s .args .at + length (linesOf t f (l .i) ++ line) ≤ length (s .args .out .now) = omega (arith, length-append (linesOf t f (l .i)) line, q .line .ensures .0, q .line .ensures .1, l .inv .1, l .inv .5, s .pre .1, turn) in
-    let both = both-put (s .args .out .now) (linesOf t f (l .i)) line (s .args .at) fits (l .out) (l .end) (l .inv .5, l .inv .6) (q .line .result) (q .line .last .0) (q .line .ensures .1, q .line .ensures .2) in
-    let both′ = subst (λ x. (q .line .result ≡ s .args .at + length x) × (q .line .last .0 ≡ placed (s .args .out .now) (s .args .at) x)) grown both in
-    (omega (arith, turn), omega (arith, q .line .ensures .0, l .inv .1), omega (arith, p .run .kept .0, l .inv .2), omega (arith, q .line .kept .0, l .inv .3), table-more t f (l .i) (p .run .result) (p .run .last .0) made, both′ .0, both′ .1)
+    let at-line = c .before .before in
+    let at-run = at-line .before .before .before .before in
+    let at-test = at-run .before .before .before in
+    let at-loop = at-test .before in
+    let start = at-loop .before .before .before .before in
+    let t = start .args .t .now in
+    let f = start .args .f .now in
+    let out = start .args .out .now in
+    let at = start .args .at in
+    let l = at-loop .loop in
+    let ran = at-run .run in
+    let put = at-line .line in
+    let turn = at-test .loop-test .taken in
+    let made : leftRead (ran .result) (ran .last .0) ≡ outAt t f (l .i) =
+    ran .ensures ∙ ap (stepOut (l .t)) (at-run .before .step-at .ensures) ∙ ap (λ b. stepOut b (stepAt f (l .i))) (l .inv .4) in
+    let done = linesOf t f (l .i) in
+    let line = lineOf (l .i) (ran .result .code) (ran .result .state) (ran .result .value) in
+    let grown = lines-more t f (l .i) (ran .result) (ran .last .0) made in
+    let fits : at + length (done ++ line) ≤ length out = omega (arith, length-append done line, put .ensures .0, put .ensures .1, l .inv .1, l .inv .5, start .pre .1, turn) in
+    let both = both-put out done line at fits (l .out) (l .end) (l .inv .5, l .inv .6) (put .result) (put .last .0) (put .ensures .1, put .ensures .2) in
+    let both′ = subst (λ x. Put out at x (put .result) (put .last .0)) grown both in (
+      omega (arith, turn),
+      omega (arith, put .ensures .0, l .inv .1),
+      omega (arith, ran .kept .0, l .inv .2),
+      omega (arith, put .kept .0, l .inv .3),
+      table-more t f (l .i) (ran .result) (ran .last .0) made,
+      both′ .0,
+      both′ .1,
+    )
 
 returns : tie.Need-returns Inv-loop μ-loop
 returns c =
     let s = c .before .before .before .before .before .args in
     let l = c .before .loop in
     let e : l .i ≡ s .n = omega arith in
-    subst (λ n. (l .end ≤ s .at + 20 * n) × (l .end ≡ s .at + length (linesOf (s .t .now) (s .f .now) n)) × (l .out ≡ placed (s .out .now) (s .at) (linesOf (s .t .now) (s .f .now) n))) e (l .inv .1, l .inv .5, l .inv .6)
+    let text = linesOf (s .t .now) (s .f .now) in
+    subst (λ n. (l .end ≤ s .at + 20 * n) × (l .end ≡ s .at + length (text n)) × (l .out ≡ placed (s .out .now) (s .at) (text n))) e (l .inv .1, l .inv .5, l .inv .6)
 
 pub lines-spec : {M : Type 1} → statement M
 lines-spec =

@@ -7,7 +7,10 @@ use Rattle.report.proofs.lines.value_text.Tie as tie
 
 put-requires : tie.Need-put-requires
 unfolding valueText
-put-requires c κs = let h = rw (c .before .before .enum-told .given .1) at (c .before .before .before .before .before .pre) in omega arith
+put-requires c κs =
+    let told = c .before .before in
+    let h = rw (told .enum-told .given .1) at (told .before .before .before .pre) in
+    omega arith
 
 number-requires : tie.Need-number-requires
 unfolding valueText

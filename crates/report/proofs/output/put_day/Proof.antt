@@ -5,10 +5,10 @@ use mathlib.Core.List.{List, _++_}
 use native.Mathlib.Omega.{arith}
 use lib.ListN.{length, length-append}
 use borrow.Author.Needs.{needs}
-use Rattle.text.specs.Placed.{ascii, placed}
+use Rattle.text.specs.Placed.{ascii}
 use Rattle.text.specs.Decimal.{ended}
 use Rattle.text.proofs.Digits.{ended-length}
-use Rattle.text.proofs.Places.{both-put}
+use Rattle.text.proofs.Places.{Put, both-put}
 use Rattle.table.specs.Out.{Out}
 use Rattle.report.specs.Printed.{day, freshTable, lineFeed, lines}
 use Rattle.report.proofs.Fresh.{fresh-table}
@@ -20,6 +20,9 @@ module _ (s : tie.Start) where
   abbrev steps : List ℕ
   steps = ended (s .args .n) lineFeed
 
+  abbrev head : List ℕ
+  head = ascii "steps " ++ steps
+
   short : length steps ≤ 5
   short = ended-length (s .args .n) 4 lineFeed (omega arith) (omega arith) (omega arith)
 
@@ -28,22 +31,33 @@ fresh-is c =
     let b = c .before .before in
     ap (λ (o : Out). o .lent) (c .fresh .ensures) ∙ fresh-table (b .large-buffer .result) (sym (b .large-buffer .ensures))
 
+-- the function's start, from where the first word is put
+abbrev start : tie.After-put → tie.Start
+start c =
+    let at-fresh = c .before .before .before .before in
+    at-fresh .before .before .before .before .before
+
+-- and from where the number is put
+abbrev began : tie.After-number → tie.Start
+began c = start (c .before .before .before .before)
+
 number-requires : tie.Need-number-requires
 number-requires c κs =
     let p = c .before .before .before in
-    omega (arith, p .put .ensures .0, p .put .kept .0, short (p .before .before .before .before .before .before .before .before .before), p .before .before .before .before .before .before .before .before .before .pre .1)
+    omega (arith, p .put .ensures .0, p .put .kept .0, short (start p), start p .pre .1)
 
-two-put : (c : tie.After-number) → (c .number .result ≡ 0 + length (ascii "steps " ++ steps (c .before .before .before .before .before .before .before .before .before .before .before .before .before))) × (c .number .last .0 ≡ placed (c .before .before .before .before .before .before .before .before .before .before .before .before .before .args .out .now) 0 (ascii "steps " ++ steps (c .before .before .before .before .before .before .before .before .before .before .before .before .before)))
+two-put : (c : tie.After-number) → Put (began c .args .out .now) 0 (head (began c)) (c .number .result) (c .number .last .0)
 two-put c =
     let p = c .before .before .before .before in
-    let s = p .before .before .before .before .before .before .before .before .before in
-    both-put (s .args .out .now) (ascii "steps ") (steps s) 0 (omega (arith, length-append (ascii "steps ") (steps s), short s, s .pre .1)) (p .put .last .0) (p .put .result) (p .put .ensures) (c .number .result) (c .number .last .0) (c .number .ensures)
+    let s = began c in
+    let fits : 0 + length (head s) ≤ length (s .args .out .now) = omega (arith, length-append (ascii "steps ") (steps s), short s, s .pre .1) in
+    both-put (s .args .out .now) (ascii "steps ") (steps s) 0 fits (p .put .last .0) (p .put .result) (p .put .ensures) (c .number .result) (c .number .last .0) (c .number .ensures)
 
 lines-requires : tie.Need-lines-requires
 lines-requires c κs =
     let q = c .before .before .before .before in
     let p = q .before .before .before .before in
-    let s = p .before .before .before .before .before .before .before .before .before in
+    let s = began q in
     (s .pre .0, omega (arith, q .number .ensures .0, p .put .ensures .0, q .number .kept .0, p .put .kept .0, short s, s .pre .0, s .pre .1))
 
 returns : tie.Need-returns
@@ -52,16 +66,17 @@ returns c =
     let r = c .before .before .before in
     let q = r .before .before .before .before .before in
     let p = q .before .before .before .before in
-    let s = p .before .before .before .before .before .before .before .before .before in
+    let s = began q in
     let f = s .args .f .now in
     let n = s .args .n in
     let out = s .args .out .now in
-    let head = ascii "steps " ++ steps s in
+    let body = lines freshTable f n in
     let end = r .lines .last .1 .1 .1 .0 in
-    let put : (r .lines .result ≡ q .number .result + length (lines freshTable f n)) × (end ≡ placed (q .number .last .0) (q .number .result) (lines freshTable f n)) =
-    subst (λ t. (r .lines .result ≡ q .number .result + length (lines t f n)) × (end ≡ placed (q .number .last .0) (q .number .result) (lines t f n))) (fresh-is (p .before .before .before .before)) (r .lines .ensures .1, r .lines .ensures .2) in
-    let fits : 0 + length (head ++ lines freshTable f n) ≤ length out = omega (arith, length-append head (lines freshTable f n), two-put q .0, put .0, r .lines .ensures .0, length-append (ascii "steps ") (steps s), short s, s .pre .0, s .pre .1) in
-    let all = both-put out head (lines freshTable f n) 0 fits (q .number .last .0) (q .number .result) (two-put q) (r .lines .result) end put in
+    let put : Put (q .number .last .0) (q .number .result) body (r .lines .result) end =
+    subst (λ t. Put (q .number .last .0) (q .number .result) (lines t f n) (r .lines .result) end) (fresh-is (p .before .before .before .before)) (r .lines .ensures .1, r .lines .ensures .2) in
+    let fits : 0 + length (head s ++ body) ≤ length out =
+    omega (arith, length-append (head s) body, two-put q .0, put .0, r .lines .ensures .0, length-append (ascii "steps ") (steps s), short s, s .pre .0, s .pre .1) in
+    let all = both-put out (head s) body 0 fits (q .number .last .0) (q .number .result) (two-put q) (r .lines .result) end put in
     (omega (arith, all .0), all .1)
 
 pub put-day-spec : {M : Type 1} → statement M

@@ -16,19 +16,31 @@ plain : (r : Reading) (a : Answer) (lent : List ℕ) (o : Out) → r ≡ record 
 plain r a lent o e f = ap (λ x. leftRead x lent) e ∙ f
 
 returns : tie.Need-returns
-returns c = let q = c .before .before .before in rw (q .before .before .before .step .given .1) (plain _ _ _ _ (c .without-state .ensures) (q .update .ensures))
+returns c =
+    let at-update = c .before .before .before in
+    let told = at-update .before .before .before .step .given .1 in
+    rw told (plain _ _ _ _ (c .without-state .ensures) (at-update .update .ensures))
 
 returns-2 : tie.Need-returns-2
 returns-2 c = let q = c .before .before in rw (q .before .before .before .step2 .given .1) (q .query .ensures)
 
 returns-3 : tie.Need-returns-3
-returns-3 c = let q = c .before .before .before in rw (q .before .before .before .step3 .given .1) (plain _ _ _ _ (c .without-state2 .ensures) (q .yields .ensures))
+returns-3 c =
+    let at-yields = c .before .before .before in
+    let told = at-yields .before .before .before .step3 .given .1 in
+    rw told (plain _ _ _ _ (c .without-state2 .ensures) (at-yields .yields .ensures))
 
 returns-4 : tie.Need-returns-4
-returns-4 c = let q = c .before .before .before in rw (q .before .before .before .step4 .given .1) (plain _ _ _ _ (c .without-state3 .ensures) (q .fork .ensures))
+returns-4 c =
+    let at-fork = c .before .before .before in
+    let told = at-fork .before .before .before .step4 .given .1 in
+    rw told (plain _ _ _ _ (c .without-state3 .ensures) (at-fork .fork .ensures))
 
 returns-5 : tie.Need-returns-5
-returns-5 c = let q = c .before .before .before in rw (q .before .before .before .step5 .given .1) (plain _ _ _ _ (c .without-state4 .ensures) (q .join .ensures))
+returns-5 c =
+    let at-join = c .before .before .before in
+    let told = at-join .before .before .before .step5 .given .1 in
+    rw told (plain _ _ _ _ (c .without-state4 .ensures) (at-join .join .ensures))
 
 returns-6 : tie.Need-returns-6
 returns-6 c = rw (c .enum-told .given .1)

@@ -8,24 +8,14 @@ use Rattle.revisions.proofs.fresh.fresh.Tie as tie
 
 returns : tie.Need-returns
 returns c =
-    let at-sign = c .before .before in
-    let at-given = at-sign .before .before .before .before in
-    let at-out = at-given .before .before .before .before in
-    let at-opened = at-out .before .before .before .before in
-    let at-queue = at-opened .before .before .before .before in
-    let at-state = at-queue .before .before .before .before in
-    let at-main = at-state .before in
-    let at-caught = at-main .before .before .before .before in
+    let at-counts = c .before .before in
+    let at-revisions = at-counts .before .before .before .before in
+    let at-caught = at-revisions .before .before .before .before in
     let at-clear = at-caught .before .before .before .before in
-    fresh-done _ _ _ _ _ _ _ _ (at-clear .clear .ensures ∙ zeros _ (at-clear .before .before .before .pre)) (at-caught .caught .ensures) (rw (at-main .main .ensures) at (at-state .state .ensures)) (at-queue .queue .ensures) (at-opened .opened .ensures) (at-out .out .ensures) (at-given .given .ensures) (at-sign .sign .ensures)
+    fresh-done _ _ _ _ (at-clear .clear .ensures ∙ zeros _ (at-clear .before .before .before .pre)) (at-caught .caught .ensures) (at-revisions .put-revisions .ensures) (at-counts .put-counts .ensures)
 
 pub fresh-spec : {M : Type 1} → statement M
 fresh-spec = tie.close (tie.spec
-    (λ c κs. search needs)
-    (λ c κs. search needs)
-    (λ c κs. search needs)
-    (λ c κs. search needs)
-    (λ c κs. search needs)
     (λ c κs. search needs)
     (λ c κs. search needs)
     (λ c κs. search needs)

@@ -16,7 +16,8 @@ returns c =
     let at-main = at-count .before in
     let start = at-main .before .before .before in
     let s = start .args in
-    by-count-done (s .d .now) (start .pre .0) _ _ _ (s .child .0) (at-count .count .result) (at-count .count .ensures .0 ∙ ap (cells (s .d .now) .count) (at-main .main .ensures)) (at-used .used .ensures) (at-base .base .ensures) (at-count2 .count2 .ensures)
+    let count-is = at-count .count .ensures .0 ∙ ap (cells (s .d .now) .count) (at-main .main .ensures) in
+    by-count-done (s .d .now) (start .pre .0) _ _ _ (s .child .0) (at-count .count .result) count-is (at-used .used .ensures) (at-base .base .ensures) (at-count2 .count2 .ensures)
 
 pub by-count-spec : {M : Type 1} → statement M
 by-count-spec = tie.close (tie.spec

@@ -26,7 +26,8 @@ returns c =
     let d = s .d .now in
     let f : ℕ → Bool = flagAt (at-forked-row .forked-row .result) in
     let e = putRowOf-same (split d rowsPart) (s .child .0) f (forkRow (cells d) (s .parent .0)) (row-flags 512 (forkRow (cells d) (s .parent .0)) (at-forked-row .forked-row .result) (at-forked-row .forked-row .ensures)) in
-    by-row-done d (start .pre .0) _ _ _ _ (s .parent .0) (s .child .0) (at-base .base .result) f (omega arith) (omega arith) (at-base .base .ensures .0) e (at-row .row .ensures) (at-used .used .ensures) (at-base2 .base2 .ensures) (at-count .count .ensures)
+    by-row-done d (start .pre .0) _ _ _ _ (s .parent .0) (s .child .0) (at-base .base .result) f (omega arith) (omega arith)
+    (at-base .base .ensures .0) e (at-row .row .ensures) (at-used .used .ensures) (at-base2 .base2 .ensures) (at-count .count .ensures)
 
 pub by-row-spec : {M : Type 1} → statement M
 by-row-spec = tie.close (tie.spec

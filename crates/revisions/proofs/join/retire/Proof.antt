@@ -1,4 +1,5 @@
 -- `revisions::join::retire` meets its contract: the writes in a row. Assumes nothing.
+use native.Mathlib.Omega.{arith}
 use borrow.Author.Needs.{needs}
 use Rattle.cells.specs.Decode.{cells}
 use Rattle.revisions.proofs.Writes.{retire-done}
@@ -16,7 +17,9 @@ returns c =
     let at-join-seen = at-join-caught .before .before .before .before in
     let start = at-join-seen .before .before .before in
     let s = start .args in
-    retire-done (s .d .now) (start .pre .0) _ _ _ _ _ _ (s .a .0) (s .b .0) (s .place) (s .out) (at-join-seen .join-seen .ensures) (at-join-caught .join-caught .ensures) (at-state .state .ensures) (at-leave .leave .ensures) (at-queued .queued .ensures) (at-out .out .ensures)
+    retire-done (s .d .now) (start .pre .0) _ _ _ _ _ _ (s .a .0) (s .b .0) (s .place) (s .out) (omega arith)
+    (at-join-seen .join-seen .ensures) (at-join-caught .join-caught .ensures) (at-state .state .ensures)
+    (at-leave .leave .ensures) (at-queued .queued .ensures) (at-out .out .ensures)
 
 pub retire-spec : {M : Type 1} → statement M
 retire-spec = tie.close (tie.spec

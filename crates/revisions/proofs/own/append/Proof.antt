@@ -17,8 +17,12 @@ link-requires c κs =
 
 count-requires-2 : tie.Need-count-requires-2
 count-requires-2 c κs =
-    let at-count = c .before .before .before .before .before .before .before .before .before .before .before .before .before .before .before in
-    let start = at-count .before .before .before .before .before .before .before in
+    let at-first = c .before .before .before in
+    let at-last2 = at-first .before .before .before .before in
+    let at-link = at-last2 .before .before .before .before in
+    let at-count = at-link .before .before .before .before in
+    let at-updates = at-count .before .before .before .before in
+    let start = at-updates .before .before .before in
     let s = start .args in
     let n = ranges (s .d .now) (start .pre .1) .count (s .r .0) (start .pre .2) in
     let e = at-count .count .ensures .0 in
@@ -38,7 +42,12 @@ returns c =
     let at-updates = at-last .before .before in
     let start = at-updates .before .before .before in
     let s = start .args in
-    (at-updates .updates .ensures .0, append-done (s .d .now) (start .pre .0) _ _ _ _ _ (s .r .0) (at-updates .updates .result) (at-last .last .result) (at-count .count .result) (at-first-or .first-or .result) (at-updates .updates .ensures .0) (at-last .last .ensures .0) (at-count .count .ensures .0) (at-first-or .first-or .ensures .0) (at-link .link .ensures) (at-last2 .last2 .ensures) (at-first .first .ensures) (at-count2 .count2 .ensures) (at-updates2 .updates2 .ensures))
+    let written =
+    append-done (s .d .now) (start .pre .0) _ _ _ _ _ (s .r .0)
+    (at-updates .updates .result) (at-last .last .result) (at-count .count .result) (at-first-or .first-or .result)
+    (at-updates .updates .ensures .0) (at-last .last .ensures .0) (at-count .count .ensures .0) (at-first-or .first-or .ensures .0)
+    (at-link .link .ensures) (at-last2 .last2 .ensures) (at-first .first .ensures) (at-count2 .count2 .ensures) (at-updates2 .updates2 .ensures) in
+    (at-updates .updates .ensures .0, written)
 
 pub append-spec : {M : Type 1} → statement M
 append-spec = tie.close (tie.spec

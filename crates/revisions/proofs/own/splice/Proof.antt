@@ -17,7 +17,8 @@ link-requires : tie.Need-link-requires
 link-requires c κs =
     let at-last = c .before .before .before .before .before in
     let at-first = at-last .before .before in
-    let start = at-first .before .before .before .before .before .before in
+    let at-count = at-first .before .before .before in
+    let start = at-count .before .before .before in
     let s = start .args in
     let r = ranges (s .d .now) (start .pre .1) in
     (start .pre .0, rw (at-first .first .ensures .0) (r .first (s .b .0) (start .pre .3)), rw (at-last .last .ensures .0) (r .last (s .a .0) (start .pre .2)))
@@ -36,7 +37,10 @@ returns-2 c =
     let at-count = at-if1 .before in
     let start = at-count .before .before .before in
     let s = start .args in
-    splice-done (s .d .now) (start .pre .0) _ _ _ (s .a .0) (s .b .0) (at-count .count .result) (at-first .first .result) (at-last .last .result) (at-last2 .last2 .result) (at-first-or .first-or .result) (at-count .count .ensures .0) (at-if1 .if1 .left) (at-first .first .ensures .0) (at-last .last .ensures .0) (at-last2 .last2 .ensures .0) (at-first-or .first-or .ensures .0) (at-link .link .ensures) (at-last3 .last3 .ensures) (at-first2 .first2 .ensures)
+    splice-done (s .d .now) (start .pre .0) _ _ _ (s .a .0) (s .b .0)
+    (at-count .count .result) (at-first .first .result) (at-last .last .result) (at-last2 .last2 .result) (at-first-or .first-or .result)
+    (at-count .count .ensures .0) (at-if1 .if1 .left) (at-first .first .ensures .0) (at-last .last .ensures .0) (at-last2 .last2 .ensures .0) (at-first-or .first-or .ensures .0)
+    (at-link .link .ensures) (at-last3 .last3 .ensures) (at-first2 .first2 .ensures)
 
 pub splice-spec : {M : Type 1} → statement M
 splice-spec = tie.close (tie.spec

@@ -1,4 +1,4 @@
--- `listing::lines::lines` meets its contract: one line more at each turn. Assumes nothing.
+-- `sheets::lines::lines` meets its contract: one line more at each turn. Assumes nothing.
 use Prim.Native.Nat.{_-_, _≤_}
 use mathlib.Core.Path.{_≡_, _∙_, ap}
 use native.Mathlib.Omega.{arith}
@@ -24,9 +24,11 @@ put-requires c κs = let l = c .before .before .before .loop in (search needs, o
 
 loop-again : tie.Need-loop-again Inv-loop μ-loop
 loop-again c =
-    let l = c .before .before .before .before .before .before .loop in
-    let s = c .before .before .before .before .before .before .before .before .before .before .args in
-    (omega arith, c .before .before .put .ensures ∙ one-more (entryAt (s .t .now)) (s .order .now) (l .s) (s .s .now) (l .i) (omega arith) (l .inv .1), search needs)
+    let at-put = c .before .before in
+    let at-loop = at-put .before .before .before .before in
+    let l = at-loop .loop in
+    let s = at-loop .before .before .before .before .args in
+    (omega arith, at-put .put .ensures ∙ one-more (entryAt (s .t .now)) (s .order .now) (l .s) (s .s .now) (l .i) (omega arith) (l .inv .1), search needs)
 
 returns : tie.Need-returns Inv-loop μ-loop
 returns c =

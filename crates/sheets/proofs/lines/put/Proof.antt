@@ -1,4 +1,4 @@
--- `listing::lines::put` meets its contract: the line's twelve bytes are lent and come back written. Assumes nothing.
+-- `sheets::lines::put` meets its contract: the line's twelve bytes are lent and come back written. Assumes nothing.
 use Prim.Native.Nat.{_*_}
 use mathlib.Core.Path.{_∙_}
 use borrow.Author.Needs.{needs}

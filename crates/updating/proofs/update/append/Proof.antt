@@ -1,4 +1,4 @@
--- `entering::update::append` meets its contract: the lower half is lent and comes back written. Assumes nothing.
+-- `updating::update::append` meets its contract: the lower half is lent and comes back written. Assumes nothing.
 use Rattle.cells.specs.Steps.{updateBytes}
 use Rattle.table.specs.Halves.{low}
 use Rattle.table.proofs.Halves.{low-lent}

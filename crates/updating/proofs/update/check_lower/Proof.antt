@@ -1,107 +1,232 @@
--- `entering::update::check_lower` meets its contract: what the first checks find, then the others. Assumes nothing.
+-- `updating::update::check_lower` meets its contract: the first check that applies decides. Assumes nothing.
 use Prim.{tt}
-use mathlib.Core.Path.{sym, _∙_, ap}
+use mathlib.Core.Path.{sym, _∙_}
 use borrow.Author.Needs.{needs}
-use Rattle.table.specs.Found.{eventCode, onEvent, onKind}
+use Rattle.table.specs.Found.{onClient, onGiven, onKind}
 use Rattle.updating.specs.Checks.{updateCheck}
-use Rattle.updating.specs.declared.update.UpdateCheck.the-variants as update
-use Rattle.table.proofs.Checks.{bib-known, bib-unknown}
-use Rattle.updating.proofs.Checks.{bib-in, log-told, log-in}
+use Rattle.table.proofs.Checks.{bib-known, bib-unknown, joined-told, known, open-told, other-use-told, stale-told, was-given}
+use Rattle.updating.proofs.Checks.{bib-in, log-in, log-told}
 use Rattle.updating.proofs.update.check_lower.Statement.{statement}
 use Rattle.updating.proofs.update.check_lower.Tie as tie
 
 returns : tie.Need-returns
-unfolding updateCheck onEvent
+unfolding updateCheck onClient onGiven onKind
 returns c =
-    let h = c .before .enum-told .given .1 in
-    let e = sym (c .before .before .before .check-place .ensures .0) ∙ h in
-    (rw e (ap update.Refused (c .code .ensures ∙ ap eventCode h)), tt)
+    (rw (sym (c .before .before .check-client .ensures) ∙ c .enum-told .given .1), tt)
 
 returns-2 : tie.Need-returns-2
-unfolding updateCheck onEvent
+unfolding updateCheck onClient onGiven onKind
 returns-2 c =
-    let p = c .before .before .before in
-    let e = sym (p .before .before .before .check-place .ensures .0) ∙ p .before .found .given .1 in
-    (rw (e, bib-unknown _ (sym (c .before .before .check-bib .ensures) ∙ c .enum-told3 .given .1)), tt)
+    let at-client = c .before .before .before in
+    let client = sym (at-client .before .before .before .check-client .ensures) ∙ at-client .before .c .given .1 in
+    (rw (client, sym (c .before .before .check-given .ensures) ∙ c .enum-told2 .given .1), tt)
+
+check-joined-requires : tie.Need-check-joined-requires
+check-joined-requires c κs =
+    let at-given = c in
+    let given = sym (at-given .before .before .before .check-given .ensures) ∙ at-given .before .r .given .1 in
+    (search needs, was-given _ _ _ given)
 
 returns-3 : tie.Need-returns-3
-unfolding updateCheck onEvent onKind
+unfolding updateCheck onClient onGiven onKind
 returns-3 c =
-    let b = c .before .before .before in
-    let p = b .before .before .before in
-    let e = sym (p .before .before .before .check-place .ensures .0) ∙ p .before .found .given .1 in
-    let f = bib-known _ (sym (b .before .before .check-bib .ensures) ∙ b .enum-told2 .given .1) in
-    (rw (e, f, sym (c .before .before .check-kind .ensures) ∙ c .enum-told4 .given .1), tt)
-
-check-turn-requires : tie.Need-check-turn-requires
-check-turn-requires c κs =
-    let p = c .before .before .before .before .before .before .before in
-    let i = rw (p .before .found .given .1) at (p .before .before .before .check-place .ensures .1) in
-    (search needs, i .0, i .1)
+    let at-given = c .before .before .before in
+    let at-client = at-given .before .before .before .before in
+    let client = sym (at-client .before .before .before .check-client .ensures) ∙ at-client .before .c .given .1 in
+    let given = sym (at-given .before .before .before .check-given .ensures) ∙ at-given .before .r .given .1 in
+    (rw (client, given, joined-told _ _ .holds (sym (c .before .before .check-joined .ensures) ∙ c .enum-told4 .given .1)), tt)
 
 returns-4 : tie.Need-returns-4
-unfolding updateCheck onEvent onKind
+unfolding updateCheck onClient onGiven onKind
 returns-4 c =
-    let t = c .before .before .before in
-    let k = t .before in
-    let b = k .before .before .before .before in
-    let p = b .before .before .before in
-    let e = sym (p .before .before .before .check-place .ensures .0) ∙ p .before .found .given .1 in
-    let f = bib-known _ (sym (b .before .before .check-bib .ensures) ∙ b .enum-told2 .given .1) in
-    let g = sym (k .before .before .before .check-kind .ensures) ∙ k .before .k .given .1 in
-    let h = c .before .enum-told5 .given .1 in
-    (rw (e, f, g, sym (t .check-turn .ensures .0) ∙ h) (ap update.Refused (c .code2 .ensures ∙ ap eventCode h)), tt)
+    let at-out = c .before .before .before in
+    let at-given = at-out .before .before .before in
+    let at-client = at-given .before .before .before .before in
+    let client = sym (at-client .before .before .before .check-client .ensures) ∙ at-client .before .c .given .1 in
+    let given = sym (at-given .before .before .before .check-given .ensures) ∙ at-given .before .r .given .1 in
+    let out = joined-told _ _ .fails (sym (at-out .before .before .check-joined .ensures) ∙ at-out .enum-told3 .given .1) in
+    (rw (client, given, out, bib-unknown _ (sym (c .before .before .check-bib .ensures) ∙ c .enum-told6 .given .1)), tt)
 
 returns-5 : tie.Need-returns-5
-unfolding updateCheck onEvent onKind
+unfolding updateCheck onClient onGiven onKind
 returns-5 c =
-    let t = c .before .before .before in
-    let k = t .before .before .before .before in
-    let b = k .before .before .before .before in
-    let p = b .before .before .before in
-    let e = sym (p .before .before .before .check-place .ensures .0) ∙ p .before .found .given .1 in
-    let f = bib-known _ (sym (b .before .before .check-bib .ensures) ∙ b .enum-told2 .given .1) in
-    let g = sym (k .before .before .before .check-kind .ensures) ∙ k .before .k .given .1 in
-    let h = sym (t .before .before .before .check-turn .ensures .0) ∙ t .before .next .given .1 in
-    (rw (e, f, g, h, log-told _ .holds (sym (c .before .before .check-log .ensures) ∙ c .enum-told7 .given .1)), tt)
+    let at-bib = c .before .before .before in
+    let at-out = at-bib .before .before .before in
+    let at-given = at-out .before .before .before in
+    let at-client = at-given .before .before .before .before in
+    let client = sym (at-client .before .before .before .check-client .ensures) ∙ at-client .before .c .given .1 in
+    let given = sym (at-given .before .before .before .check-given .ensures) ∙ at-given .before .r .given .1 in
+    let out = joined-told _ _ .fails (sym (at-out .before .before .check-joined .ensures) ∙ at-out .enum-told3 .given .1) in
+    let bib = bib-known _ (sym (at-bib .before .before .check-bib .ensures) ∙ at-bib .enum-told5 .given .1) in
+    (rw (client, given, out, bib, sym (c .before .before .check-kind .ensures) ∙ c .enum-told7 .given .1), tt)
+
+check-open-requires : tie.Need-check-open-requires
+check-open-requires c κs =
+    let at-kind = c in
+    let at-bib = at-kind .before .before .before .before in
+    let at-out = at-bib .before .before .before in
+    let at-given = at-out .before .before .before in
+    let at-client = at-given .before .before .before .before in
+    let client = sym (at-client .before .before .before .check-client .ensures) ∙ at-client .before .c .given .1 in
+    (search needs, known _ _ client)
 
 returns-6 : tie.Need-returns-6
-unfolding updateCheck onEvent onKind
+unfolding updateCheck onClient onGiven onKind
 returns-6 c =
-    let t = c .before .before .before in
-    let k = t .before .before .before .before in
-    let b = k .before .before .before .before in
-    let p = b .before .before .before in
-    let e = sym (p .before .before .before .check-place .ensures .0) ∙ p .before .found .given .1 in
-    let f = bib-known _ (sym (b .before .before .check-bib .ensures) ∙ b .enum-told2 .given .1) in
-    let g = sym (k .before .before .before .check-kind .ensures) ∙ k .before .k .given .1 in
-    let h = sym (t .before .before .before .check-turn .ensures .0) ∙ t .before .next .given .1 in
-    let l = log-told _ .fails (sym (c .before .before .check-log .ensures) ∙ c .enum-told6 .given .1) in
-    let i = rw (t .before .next .given .1) at (t .before .before .before .check-turn .ensures .1) in
-    (rw (e, f, g, h, l), (i .0, i .1, log-in _ l, bib-in _ f))
+    let at-kind = c .before .before .before in
+    let at-bib = at-kind .before .before .before .before in
+    let at-out = at-bib .before .before .before in
+    let at-given = at-out .before .before .before in
+    let at-client = at-given .before .before .before .before in
+    let client = sym (at-client .before .before .before .check-client .ensures) ∙ at-client .before .c .given .1 in
+    let given = sym (at-given .before .before .before .check-given .ensures) ∙ at-given .before .r .given .1 in
+    let out = joined-told _ _ .fails (sym (at-out .before .before .check-joined .ensures) ∙ at-out .enum-told3 .given .1) in
+    let bib = bib-known _ (sym (at-bib .before .before .check-bib .ensures) ∙ at-bib .enum-told5 .given .1) in
+    let kind = sym (at-kind .before .before .before .check-kind .ensures) ∙ at-kind .before .k .given .1 in
+    (rw (client, given, out, bib, kind, open-told _ _ _ .holds (sym (c .before .before .check-open .ensures) ∙ c .enum-told9 .given .1)), tt)
+
+returns-7 : tie.Need-returns-7
+unfolding updateCheck onClient onGiven onKind
+returns-7 c =
+    let at-clear = c .before .before .before in
+    let at-kind = at-clear .before .before .before in
+    let at-bib = at-kind .before .before .before .before in
+    let at-out = at-bib .before .before .before in
+    let at-given = at-out .before .before .before in
+    let at-client = at-given .before .before .before .before in
+    let client = sym (at-client .before .before .before .check-client .ensures) ∙ at-client .before .c .given .1 in
+    let given = sym (at-given .before .before .before .check-given .ensures) ∙ at-given .before .r .given .1 in
+    let out = joined-told _ _ .fails (sym (at-out .before .before .check-joined .ensures) ∙ at-out .enum-told3 .given .1) in
+    let bib = bib-known _ (sym (at-bib .before .before .check-bib .ensures) ∙ at-bib .enum-told5 .given .1) in
+    let kind = sym (at-kind .before .before .before .check-kind .ensures) ∙ at-kind .before .k .given .1 in
+    let clear = open-told _ _ _ .fails (sym (at-clear .before .before .check-open .ensures) ∙ at-clear .enum-told8 .given .1) in
+    (rw (client, given, out, bib, kind, clear, other-use-told _ _ _ .holds (sym (c .before .before .check-use-by-other .ensures) ∙ c .enum-told11 .given .1)), tt)
+
+check-stale-requires : tie.Need-check-stale-requires
+check-stale-requires c κs =
+    let at-free = c in
+    let at-clear = at-free .before .before .before in
+    let at-kind = at-clear .before .before .before in
+    let at-bib = at-kind .before .before .before .before in
+    let at-out = at-bib .before .before .before in
+    let at-given = at-out .before .before .before in
+    let at-client = at-given .before .before .before .before in
+    let client = sym (at-client .before .before .before .check-client .ensures) ∙ at-client .before .c .given .1 in
+    let given = sym (at-given .before .before .before .check-given .ensures) ∙ at-given .before .r .given .1 in
+    (search needs, known _ _ client, was-given _ _ _ given)
+
+returns-8 : tie.Need-returns-8
+unfolding updateCheck onClient onGiven onKind
+returns-8 c =
+    let at-free = c .before .before .before in
+    let at-clear = at-free .before .before .before in
+    let at-kind = at-clear .before .before .before in
+    let at-bib = at-kind .before .before .before .before in
+    let at-out = at-bib .before .before .before in
+    let at-given = at-out .before .before .before in
+    let at-client = at-given .before .before .before .before in
+    let client = sym (at-client .before .before .before .check-client .ensures) ∙ at-client .before .c .given .1 in
+    let given = sym (at-given .before .before .before .check-given .ensures) ∙ at-given .before .r .given .1 in
+    let out = joined-told _ _ .fails (sym (at-out .before .before .check-joined .ensures) ∙ at-out .enum-told3 .given .1) in
+    let bib = bib-known _ (sym (at-bib .before .before .check-bib .ensures) ∙ at-bib .enum-told5 .given .1) in
+    let kind = sym (at-kind .before .before .before .check-kind .ensures) ∙ at-kind .before .k .given .1 in
+    let clear = open-told _ _ _ .fails (sym (at-clear .before .before .check-open .ensures) ∙ at-clear .enum-told8 .given .1) in
+    let free = other-use-told _ _ _ .fails (sym (at-free .before .before .check-use-by-other .ensures) ∙ at-free .enum-told10 .given .1) in
+    (rw (client, given, out, bib, kind, clear, free, stale-told _ _ _ .holds (sym (c .before .before .check-stale .ensures) ∙ c .enum-told13 .given .1)), tt)
+
+check-log-requires : tie.Need-check-log-requires
+check-log-requires c κs =
+    let at-caught-up = c in
+    let at-free = at-caught-up .before .before .before in
+    let at-clear = at-free .before .before .before in
+    let at-kind = at-clear .before .before .before in
+    let at-bib = at-kind .before .before .before .before in
+    let at-out = at-bib .before .before .before in
+    let at-given = at-out .before .before .before in
+    let at-client = at-given .before .before .before .before in
+    let start = at-client .before .before .before .before .before in
+    start .pre
+
+returns-9 : tie.Need-returns-9
+unfolding updateCheck onClient onGiven onKind
+returns-9 c =
+    let at-caught-up = c .before .before .before in
+    let at-free = at-caught-up .before .before .before in
+    let at-clear = at-free .before .before .before in
+    let at-kind = at-clear .before .before .before in
+    let at-bib = at-kind .before .before .before .before in
+    let at-out = at-bib .before .before .before in
+    let at-given = at-out .before .before .before in
+    let at-client = at-given .before .before .before .before in
+    let client = sym (at-client .before .before .before .check-client .ensures) ∙ at-client .before .c .given .1 in
+    let given = sym (at-given .before .before .before .check-given .ensures) ∙ at-given .before .r .given .1 in
+    let out = joined-told _ _ .fails (sym (at-out .before .before .check-joined .ensures) ∙ at-out .enum-told3 .given .1) in
+    let bib = bib-known _ (sym (at-bib .before .before .check-bib .ensures) ∙ at-bib .enum-told5 .given .1) in
+    let kind = sym (at-kind .before .before .before .check-kind .ensures) ∙ at-kind .before .k .given .1 in
+    let clear = open-told _ _ _ .fails (sym (at-clear .before .before .check-open .ensures) ∙ at-clear .enum-told8 .given .1) in
+    let free = other-use-told _ _ _ .fails (sym (at-free .before .before .check-use-by-other .ensures) ∙ at-free .enum-told10 .given .1) in
+    let caught-up = stale-told _ _ _ .fails (sym (at-caught-up .before .before .check-stale .ensures) ∙ at-caught-up .enum-told12 .given .1) in
+    (rw (client, given, out, bib, kind, clear, free, caught-up, log-told _ .holds (sym (c .before .before .check-log .ensures) ∙ c .enum-told15 .given .1)), tt)
+
+returns-10 : tie.Need-returns-10
+unfolding updateCheck onClient onGiven onKind
+returns-10 c =
+    let at-room = c in
+    let at-caught-up = at-room .before .before .before in
+    let at-free = at-caught-up .before .before .before in
+    let at-clear = at-free .before .before .before in
+    let at-kind = at-clear .before .before .before in
+    let at-bib = at-kind .before .before .before .before in
+    let at-out = at-bib .before .before .before in
+    let at-given = at-out .before .before .before in
+    let at-client = at-given .before .before .before .before in
+    let client = sym (at-client .before .before .before .check-client .ensures) ∙ at-client .before .c .given .1 in
+    let given = sym (at-given .before .before .before .check-given .ensures) ∙ at-given .before .r .given .1 in
+    let out = joined-told _ _ .fails (sym (at-out .before .before .check-joined .ensures) ∙ at-out .enum-told3 .given .1) in
+    let bib = bib-known _ (sym (at-bib .before .before .check-bib .ensures) ∙ at-bib .enum-told5 .given .1) in
+    let kind = sym (at-kind .before .before .before .check-kind .ensures) ∙ at-kind .before .k .given .1 in
+    let clear = open-told _ _ _ .fails (sym (at-clear .before .before .check-open .ensures) ∙ at-clear .enum-told8 .given .1) in
+    let free = other-use-told _ _ _ .fails (sym (at-free .before .before .check-use-by-other .ensures) ∙ at-free .enum-told10 .given .1) in
+    let caught-up = stale-told _ _ _ .fails (sym (at-caught-up .before .before .check-stale .ensures) ∙ at-caught-up .enum-told12 .given .1) in
+    let room = log-told _ .fails (sym (at-room .before .before .check-log .ensures) ∙ at-room .enum-told14 .given .1) in
+    (rw (client, given, out, bib, kind, clear, free, caught-up, room), (known _ _ client, was-given _ _ _ given, log-in _ room, bib-in _ bib))
 
 pub check-lower-spec : {M : Type 1} → statement M
 check-lower-spec = tie.close (tie.spec
     (λ c κs. search needs)
     (λ c. search needs)
     (λ c. search needs)
-    (λ c κs. search needs)
     returns
     (λ c κs. search needs)
     (λ c. search needs)
     (λ c. search needs)
     returns-2
-    (λ c κs. search needs)
+    check-joined-requires
     (λ c. search needs)
     (λ c. search needs)
     returns-3
-    check-turn-requires
-    (λ c. search needs)
-    (λ c. search needs)
     (λ c κs. search needs)
+    (λ c. search needs)
+    (λ c. search needs)
     returns-4
     (λ c κs. search needs)
     (λ c. search needs)
     (λ c. search needs)
     returns-5
-    returns-6)
+    check-open-requires
+    (λ c. search needs)
+    (λ c. search needs)
+    returns-6
+    (λ c κs. search needs)
+    (λ c. search needs)
+    (λ c. search needs)
+    returns-7
+    check-stale-requires
+    (λ c. search needs)
+    (λ c. search needs)
+    returns-8
+    check-log-requires
+    (λ c. search needs)
+    (λ c. search needs)
+    returns-9
+    returns-10)

@@ -1,4 +1,4 @@
--- `entering::update::check_update` meets its contract: the lower half is lent to the checks. Assumes nothing.
+-- `updating::update::check_update` meets its contract: the lower half is lent to the checks. Assumes nothing.
 use borrow.Author.Needs.{needs}
 use Rattle.table.specs.Halves.{low}
 use Rattle.updating.proofs.update.check_update.Statement.{statement}

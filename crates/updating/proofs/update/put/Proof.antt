@@ -1,4 +1,4 @@
--- `entering::update::put` meets its contract: the two halves, one after the other. Assumes nothing.
+-- `updating::update::put` meets its contract: the two halves, one after the other. Assumes nothing.
 use Prim.Native.Nat.{_<_}
 use mathlib.Core.Path.{_∙_}
 use Rattle.cells.specs.Steps.{updateBytes}
@@ -16,7 +16,8 @@ store-requires c κs =
 
 cast-result : tie.Need-cast-result
 cast-result c =
-    let at-append = c .before .before .before .before .before .before in
+    let at-store = c .before .before in
+    let at-append = at-store .before .before .before .before in
     let start = at-append .before .before .before in
     let u : at-append .append .result < 4096 = below _ _ (at-append .append .ensures .0) (start .pre .4) in
     search needs
@@ -24,9 +25,12 @@ cast-result c =
 returns : tie.Need-returns
 returns c =
     let at-store = c .before .before in
-    let at-append = c .before .before .before .before .before .before in
+    let at-append = at-store .before .before .before .before in
     let start = at-append .before .before .before in
-    (at-append .append .ensures .0, put-done (start .args .t .now) (at-append .append .last .0) _ (updateBytes (low (start .args .t .now)) (start .args .c .0) (start .args .r .0)) _ _ _ (start .pre .0) (at-append .append .kept .0 ∙ start .pre .0) (at-append .append .ensures .0) (at-append .append .ensures .1) (at-store .store .ensures))
+    let t = start .args .t .now in
+    let lower = updateBytes (low t) (start .args .c .0) (start .args .r .0) in
+    let a = at-append .append in
+    (a .ensures .0, put-done t (a .last .0) _ lower _ _ _ (start .pre .0) (a .kept .0 ∙ start .pre .0) (a .ensures .0) (a .ensures .1) (at-store .store .ensures))
 
 pub put-spec : {M : Type 1} → statement M
 put-spec = tie.close (tie.spec

@@ -1,4 +1,4 @@
--- `entering::update::store` meets its contract: the high half is lent and comes back. Assumes nothing.
+-- `updating::update::store` meets its contract: the high half is lent and comes back. Assumes nothing.
 use Rattle.table.specs.Halves.{low, high}
 use Rattle.updating.proofs.Stored.{store-done}
 use borrow.Author.Needs.{needs}

@@ -1,4 +1,4 @@
--- `entering::update::update` meets its contract: code 1, then the other checks and the work. Assumes nothing.
+-- `updating::update::update` meets its contract: code 1, then the other checks and the work. Assumes nothing.
 use mathlib.Core.Path.{_∙_, sym}
 use borrow.Author.Needs.{needs}
 use Rattle.table.proofs.Buffer.{is-table, no-table}

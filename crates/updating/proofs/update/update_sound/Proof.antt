@@ -1,4 +1,4 @@
--- `entering::update::update_sound` meets its contract: the checks, then the work. Assumes nothing.
+-- `updating::update::update_sound` meets its contract: the checks, then the work. Assumes nothing.
 use mathlib.Core.Path.{_∙_, ap}
 use borrow.Author.Needs.{needs}
 use Rattle.updating.specs.Checks.{updateCode}
@@ -30,7 +30,8 @@ returns-2 c =
     let start = at-check .before .before .before in
     let s = start .args in
     let g = at-found .found .given in
-    update-taken (s .t .now) (start .pre .0) (s .client) (s .revision) (s .kind) (s .bib) (s .v) (at-check .check-update .result) (at-check .check-update .ensures .0) (g .0 .0) (g .0 .1 .0) (g .0 .1 .1 .0) (g .1) (at-put .put .ensures .1) (at-put .put .ensures .0)
+    update-taken (s .t .now) (start .pre .0) (s .client) (s .revision) (s .kind) (s .bib) (s .v) (at-check .check-update .result) (at-check .check-update .ensures .0)
+    (g .0 .0) (g .0 .1 .0) (g .0 .1 .1 .0) (g .1) (at-put .put .ensures .1) (at-put .put .ensures .0)
 
 pub update-sound-spec : {M : Type 1} → statement M
 update-sound-spec = tie.close (tie.spec

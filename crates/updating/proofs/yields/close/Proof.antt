@@ -1,4 +1,4 @@
--- `entering::yields::close` meets its contract: the lower half is lent and comes back written. Assumes nothing.
+-- `updating::yields::close` meets its contract: the lower half is lent and comes back written. Assumes nothing.
 use borrow.Author.Needs.{needs}
 use Rattle.cells.specs.Steps.{closeBytes}
 use Rattle.table.proofs.Halves.{low-lent}

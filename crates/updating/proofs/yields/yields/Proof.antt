@@ -1,4 +1,4 @@
--- `entering::yields::yields` meets its contract: the checks in their order, then the work. Assumes nothing.
+-- `updating::yields::yields` meets its contract: the checks in their order, then the work. Assumes nothing.
 use mathlib.Core.Path.{_∙_, ap, sym}
 use borrow.Author.Needs.{needs}
 use Rattle.table.specs.Answers.{taken}

@@ -1,0 +1,2 @@
+-- What lent bytes say: numbers of several bytes.
+pub mod Numbers

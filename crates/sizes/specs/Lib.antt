@@ -1,0 +1,2 @@
+-- The range check of a revision number.
+pub mod Numbers
