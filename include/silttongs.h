@@ -134,8 +134,7 @@ uint64_t silttongs_fill(const uint8_t *table, size_t length, uint8_t box);
 
 /* Enters 1 to 64 updates on a box and closes the tablet's transaction there, which they open if need
  * be: as silttongs_update one by one and then silttongs_yield, but all or none. Codes 1, then 14, then
- * that of the earliest update that would be refused, 2 to 9; on a table that no day made also 1, where
- * one of them would leave it no table. Value: the first update's number.
+ * that of the earliest update that would be refused, 2 to 9. Value: the first update's number.
  *
  * A record has 12 bytes, laid out as an entry of a listing; its tablet and number are not looked at. */
 uint64_t silttongs_bundle(uint8_t *table, size_t length, uint8_t tablet, uint8_t box,

@@ -1,12 +1,11 @@
--- 1, 5 and 9 of an entry from the counts alone: an update that fits is taken, and one that does not is refused so.
-use Prim.Native.Nat.{ℕ, _<_, _≤_}
+-- 5 and 9 of an entry from the count taken alone: an update that fits is taken, and one that does not is refused so.
+use Prim.Native.Nat.{ℕ, _<_}
 use mathlib.Core.Bool.{Bool, true, false, cond, not, _||_}
 use mathlib.Core.Path.{_≡_, refl, sym, _∙_, ap}
 use mathlib.Core.List.{List, [], _∷_, _++_}
 use native.Mathlib.Omega.{arith}
 use lib.Dec.{ltb}
-use borrow.Author.Tests.{le-ltb, lt-ltb, ltb-false, ltb-true}
-use Rattle.lists.proofs.Cases.{cases}
+use borrow.Author.Tests.{lt-ltb, ltb-true}
 use Rattle.lists.proofs.Told.{Told, told}
 use Rattle.updates.specs.Kinds.{badBib, badKind, isUnknown, kindCheck, kindIn, kindOf}
 use Rattle.updates.specs.declared.kind.Kind.{Kind}
@@ -25,10 +24,10 @@ use Rattle.table.specs.Answers.{refused, taken}
 use Rattle.table.specs.Out.{Out}
 use Rattle.table.specs.Calls.{updateOut}
 use Rattle.table.specs.Found.{onKind}
-use Rattle.bundling.specs.Bundles.{Going, entered, entryCheck, fitCheck, onFit, ownCheck, roomCheck}
+use Rattle.bundling.specs.Bundles.{Going, entered, entryCheck, fitCheck, onFit, roomCheck}
 use Rattle.bundling.specs.declared.bundle.FitCheck.{FitCheck}
 use Rattle.bundling.specs.declared.bundle.FitCheck.the-variants.{Fits, Refused}
-use Rattle.bundling.proofs.Going.{few-own, halves}
+use Rattle.bundling.proofs.Going.{halves}
 
 -- a check passed or not
 pub fits-not : {A : Type 0} (code : ℕ) → Refused code ≡ Fits → A
@@ -37,17 +36,6 @@ fits-not code e = absurd (let z : _≡_ {A = ℕ} 0 1 = cc in omega arith)
 pub on-fits : (f rest : FitCheck) → onFit f rest ≡ Fits → (f ≡ Fits) × (rest ≡ Fits)
 on-fits Fits rest e = (refl, e)
 on-fits (Refused code) rest e = fits-not code e
-
-pub own-fits : (own : ℕ) → own ≤ updates → ownCheck own ≡ Fits
-unfolding ownCheck
-own-fits own h = rw (le-ltb updates own h)
-
-pub own-over : (own : ℕ) → updates < own → ownCheck own ≡ Refused 1
-unfolding ownCheck
-own-over own h = rw (lt-ltb updates own h)
-
-pub own-few : (own : ℕ) → ownCheck own ≡ Fits → own ≤ updates
-own-few own e = cases (ltb updates own) (λ h. fits-not 1 (sym (own-over own (ltb-true updates own h)) ∙ e)) (λ h. ltb-false updates own h)
 
 pub room-told : (taken : ℕ) → Told (ltb taken updates) log.Room log.Full (roomCheck taken)
 unfolding roomCheck
@@ -90,18 +78,18 @@ module _ (c n : ℕ) where
     pub bib-in : badBib (e .bib) ≡ false
     pub room : cellsOf t .updates < updates
 
-  pub fit : (t : List ℕ) (e : Entry) → fitCheck (e .kind) (e .bib) (cellsOf t .updates) (cellsOf t .count n) ≡ Fits → Fit t e
+  pub fit : (t : List ℕ) (e : Entry) → fitCheck (e .kind) (e .bib) (cellsOf t .updates) ≡ Fits → Fit t e
   unfolding fitCheck entryCheck
   fit t e h =
-      let r = rest-fits (badBib (e .bib)) (ltb (cellsOf t .updates) updates) (kindCheck (e .kind)) (on-fits (ownCheck (cellsOf t .count n)) _ h .1) in
+      let r = rest-fits (badBib (e .bib)) (ltb (cellsOf t .updates) updates) (kindCheck (e .kind)) h in
       record { kind = r .0; known = r .1; bib-in = r .2; room = ltb-true (cellsOf t .updates) updates (r .3) }
 
   pub update-taken : (t : List ℕ) → Going t c n → (e : Entry) → Fit t e → updateOut t c n (e .kind) (e .bib) (e .v) ≡ taken (entered t c n e) (cellsOf t .updates)
   update-taken t G e F = update-is t G e ∙ rw (F .bib-in, F .known, lt-ltb (cellsOf t .updates) updates (F .room)) (ap (λ d. taken d (cellsOf t .updates)) (sym (halves t c n G (F .room) e (F .kind) (F .known))))
 
-  pub update-refused : (t : List ℕ) → Going t c n → (e : Entry) (code : ℕ) → fitCheck (e .kind) (e .bib) (cellsOf t .updates) (cellsOf t .count n) ≡ Refused code
+  pub update-refused : (t : List ℕ) → Going t c n → (e : Entry) (code : ℕ) → fitCheck (e .kind) (e .bib) (cellsOf t .updates) ≡ Refused code
       → (updateOut t c n (e .kind) (e .bib) (e .v) ≡ refused t code) × (code ≡ 0 → ⊥)
   unfolding fitCheck entryCheck
   update-refused t G e code h =
-      let z = rest-refused (badBib (e .bib)) (ltb (cellsOf t .updates) updates) (kindCheck (e .kind)) t (Allowed t e) code (rw (own-fits (cellsOf t .count n) (few-own t c n G)) at h) in
+      let z = rest-refused (badBib (e .bib)) (ltb (cellsOf t .updates) updates) (kindCheck (e .kind)) t (Allowed t e) code h in
       (update-is t G e ∙ z .0, z .1)

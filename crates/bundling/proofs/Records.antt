@@ -12,41 +12,39 @@ use Rattle.bundles.specs.Records.{entriesFrom, entryAt}
 use Rattle.bundles.proofs.First.{entries-all, entries-next, entries-none}
 use Rattle.table.specs.Halves.{cellsOf}
 use Rattle.table.specs.Answers.{taken}
-use Rattle.bundling.specs.Bundles.{Going, entered, enteredAll, fitCheck, onFit, ownCheck, sentCheck}
+use Rattle.bundling.specs.Bundles.{Going, entered, enteredAll, fitCheck, onFit, sentCheck}
 use Rattle.bundling.specs.declared.bundle.FitCheck.{FitCheck}
 use Rattle.bundling.specs.declared.bundle.FitCheck.the-variants.{Fits, Refused}
 use Rattle.bundling.proofs.Sent.{Onward, onward}
 
 -- the entries of the records from i on
-pub check-start : (b : List ℕ) (n taken own : ℕ) → sentCheck (entriesFrom b 0 n) taken own ≡ sentCheck (entriesFrom b 0 (n - 0)) (taken + 0) (own + 0)
-check-start b n taken own =
+pub check-start : (b : List ℕ) (n taken : ℕ) → sentCheck (entriesFrom b 0 n) taken ≡ sentCheck (entriesFrom b 0 (n - 0)) (taken + 0)
+check-start b n taken =
     let f : taken ≡ taken + 0 = omega arith in
-    let g : own ≡ own + 0 = omega arith in
-    ap (λ es. sentCheck es taken own) (entries-all b n) ∙ ap (λ k. sentCheck (entriesFrom b 0 (n - 0)) k own) f ∙ ap (λ k. sentCheck (entriesFrom b 0 (n - 0)) (taken + 0) k) g
+    ap (λ es. sentCheck es taken) (entries-all b n) ∙ ap (sentCheck (entriesFrom b 0 (n - 0))) f
 
-check-step : (b : List ℕ) (n taken own i : ℕ) → i < n
-    → sentCheck (entriesFrom b i (n - i)) (taken + i) (own + i)
-    ≡ onFit (fitCheck (entryAt b i .kind) (entryAt b i .bib) (taken + i) (own + i)) (sentCheck (entriesFrom b (i + 1) (n - (i + 1))) (taken + (i + 1)) (own + (i + 1)))
+check-step : (b : List ℕ) (n taken i : ℕ) → i < n
+    → sentCheck (entriesFrom b i (n - i)) (taken + i)
+    ≡ onFit (fitCheck (entryAt b i .kind) (entryAt b i .bib) (taken + i)) (sentCheck (entriesFrom b (i + 1) (n - (i + 1))) (taken + (i + 1)))
 unfolding sentCheck
-check-step b n taken own i h =
+check-step b n taken i h =
     let e : suc (taken + i) ≡ taken + (i + 1) = omega arith in
-    let f : suc (own + i) ≡ own + (i + 1) = omega arith in
-    ap (λ es. sentCheck es (taken + i) (own + i)) (entries-next b i n h) ∙ rw (e, f)
+    ap (λ es. sentCheck es (taken + i)) (entries-next b i n h) ∙ rw e
 
-module _ (b : List ℕ) (n taken own i : ℕ) (h : i < n) (found : FitCheck) (e : found ≡ fitCheck (entryAt b i .kind) (entryAt b i .bib) (taken + i) (own + i)) where
-  pub check-ends : (code : ℕ) → found ≡ Refused code → found ≡ sentCheck (entriesFrom b i (n - i)) (taken + i) (own + i)
-  check-ends code q = q ∙ sym (check-step b n taken own i h ∙ rw (sym e ∙ q))
+module _ (b : List ℕ) (n taken i : ℕ) (h : i < n) (found : FitCheck) (e : found ≡ fitCheck (entryAt b i .kind) (entryAt b i .bib) (taken + i)) where
+  pub check-ends : (code : ℕ) → found ≡ Refused code → found ≡ sentCheck (entriesFrom b i (n - i)) (taken + i)
+  check-ends code q = q ∙ sym (check-step b n taken i h ∙ rw (sym e ∙ q))
 
-  pub check-goes-on : found ≡ Fits → sentCheck (entriesFrom b i (n - i)) (taken + i) (own + i) ≡ sentCheck (entriesFrom b (i + 1) (n - (i + 1))) (taken + (i + 1)) (own + (i + 1))
-  check-goes-on q = check-step b n taken own i h ∙ rw (sym e ∙ q)
+  pub check-goes-on : found ≡ Fits → sentCheck (entriesFrom b i (n - i)) (taken + i) ≡ sentCheck (entriesFrom b (i + 1) (n - (i + 1))) (taken + (i + 1))
+  check-goes-on q = check-step b n taken i h ∙ rw (sym e ∙ q)
 
-pub check-last : (b : List ℕ) (n taken own i : ℕ) → i ≡ n → sentCheck (entriesFrom b i (n - i)) (taken + i) (own + i) ≡ ownCheck (own + n)
+pub check-last : (b : List ℕ) (n taken i : ℕ) → n ≤ i → sentCheck (entriesFrom b i (n - i)) (taken + i) ≡ Fits
 unfolding sentCheck
-check-last b n taken own i e = ap (λ es. sentCheck es (taken + i) (own + i)) (entries-none b i n (omega arith)) ∙ ap (λ k. ownCheck (own + k)) e
+check-last b n taken i h = ap (λ es. sentCheck es (taken + i)) (entries-none b i n h)
 
-pub fits-on : (t : List ℕ) (c n : ℕ) (b : List ℕ) (i m : ℕ) → i < m → Going t c n → sentCheck (entriesFrom b i (m - i)) (cellsOf t .updates) (cellsOf t .count n) ≡ Fits
+pub fits-on : (t : List ℕ) (c n : ℕ) (b : List ℕ) (i m : ℕ) → i < m → Going t c n → sentCheck (entriesFrom b i (m - i)) (cellsOf t .updates) ≡ Fits
     → Onward c n t (entryAt b i) (entriesFrom b (i + 1) (m - (i + 1)))
-fits-on t c n b i m l G h = onward c n t (entryAt b i) (entriesFrom b (i + 1) (m - (i + 1))) G (ap (λ es. sentCheck es (cellsOf t .updates) (cellsOf t .count n)) (sym (entries-next b i m l)) ∙ h)
+fits-on t c n b i m l G h = onward c n t (entryAt b i) (entriesFrom b (i + 1) (m - (i + 1))) G (ap (λ es. sentCheck es (cellsOf t .updates)) (sym (entries-next b i m l)) ∙ h)
 
 pub entered-next : (t : List ℕ) (c n : ℕ) (b : List ℕ) (i m : ℕ) → i < m → enteredAll t c n (entriesFrom b i (m - i)) ≡ enteredAll (entered t c n (entryAt b i)) c n (entriesFrom b (i + 1) (m - (i + 1)))
 unfolding enteredAll
@@ -59,6 +57,6 @@ entered-none t c n b i m l = ap (enteredAll t c n) (entries-none b i m l)
 pub bib-below : (e f : Entry) → e ≡ f → badBib (f .bib) ≡ false → e .bib < 1000
 bib-below e f q h = let l = ltb-true (f .bib) 1000 (not-false (ltb (f .bib) 1000) h) in let z : e .bib ≡ f .bib = ap (λ x. x .bib) q in omega arith
 
--- the check, with the counts as they were read
-pub same-check : (es : List Entry) (f : FitCheck) (a b u k : ℕ) → a ≡ u → b ≡ k → f ≡ sentCheck es a b → f ≡ sentCheck es u k
-same-check es f a b u k e g h = h ∙ rw (e, g)
+-- the check, with the count as it was read
+pub same-check : (es : List Entry) (f : FitCheck) (a u : ℕ) → a ≡ u → f ≡ sentCheck es a → f ≡ sentCheck es u
+same-check es f a u e h = h ∙ ap (sentCheck es) e

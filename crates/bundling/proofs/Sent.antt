@@ -1,70 +1,50 @@
 -- Updates sent one by one by a client that may go on: the earliest refusal, or the bytes at the end.
-use Prim.Native.Nat.{ℕ, suc, _<_, _≤_}
-use mathlib.Core.Bool.{false, cond}
+use Prim.Native.Nat.{ℕ, suc}
+use mathlib.Core.Bool.{cond}
 use mathlib.Core.Path.{_≡_, refl, sym, _∙_, ap}
 use mathlib.Core.List.{List, [], _∷_, _++_}
-use native.Mathlib.Omega.{arith}
-use lib.Dec.{eqb, ltb}
-use borrow.Author.Tests.{ltb-false, ltb-true, ne-eqb}
-use Rattle.lists.proofs.Cases.{cases}
+use lib.Dec.{eqb}
+use borrow.Author.Tests.{ne-eqb}
 use Rattle.bundles.specs.declared.entry.Entry.{Entry}
 use Rattle.cells.specs.Sizes.{updates}
 use Rattle.cells.specs.Steps.{closeBytes}
-use Rattle.table.specs.Halves.{low, high, cellsOf, isTable}
+use Rattle.table.specs.Halves.{low, high, cellsOf}
 use Rattle.table.specs.Answers.{afterTaken, refused, taken}
 use Rattle.table.specs.Out.{Out}
 use Rattle.table.specs.Calls.{sentOut, settled, yieldOut}
-use Rattle.bundling.specs.Bundles.{Going, entered, enteredAll, fitCheck, onFit, ownCheck, sentCheck}
+use Rattle.bundling.specs.Bundles.{Going, entered, enteredAll, fitCheck, onFit, sentCheck}
 use Rattle.bundling.specs.declared.bundle.FitCheck.{FitCheck}
 use Rattle.bundling.specs.declared.bundle.FitCheck.the-variants.{Fits, Refused}
-use Rattle.updating.proofs.Calls.{no-update, no-yield}
-use Rattle.bundling.proofs.Going.{few-own, sound-is, more-taken, more-own, going-next}
-use Rattle.bundling.proofs.Fit.{fits-not, on-fits, own-fits, own-over, own-few, Fit, fit, update-taken, update-refused}
+use Rattle.bundling.proofs.Going.{more-taken, going-next}
+use Rattle.bundling.proofs.Fit.{fits-not, on-fits, Fit, fit, update-taken, update-refused}
 
 module _ (c n : ℕ) where
-  -- on bytes that are no table any more, the next call has 1
-  sent-no-table : (es : List Entry) (t : List ℕ) → isTable t ≡ false → sentOut t c n es ≡ refused t 1
-  unfolding sentOut
-  sent-no-table [] t h = sym (no-yield t h c)
-  sent-no-table (e ∷ es) t h = ap (λ o. afterTaken o (λ d. sentOut d c n es)) (sym (no-update t h c n (e .kind) (e .bib) (e .v)))
-
-  check-no-table : (es : List Entry) (taken own : ℕ) → updates < own → sentCheck es taken own ≡ Refused 1
-  unfolding sentCheck fitCheck
-  check-no-table [] taken own h = own-over own h
-  check-no-table (e ∷ es) taken own h = rw (own-over own h)
-
   -- the rest, after an update that was taken
   sent-next : (t : List ℕ) → Going t c n → (e : Entry) (es : List Entry) → Fit c n t e → sentOut t c n (e ∷ es) ≡ sentOut (entered t c n e) c n es
   unfolding sentOut
   sent-next t G e es F = ap (λ o. afterTaken o (λ d. sentOut d c n es)) (update-taken c n t G e F)
 
-  check-next : (t : List ℕ) (G : Going t c n) (e : Entry) (es : List Entry) (F : Fit c n t e)
-      → sentCheck es (suc (cellsOf t .updates)) (suc (cellsOf t .count n)) ≡ sentCheck es (cellsOf (entered t c n e) .updates) (cellsOf (entered t c n e) .count n)
-  check-next t G e es F = rw (more-taken t c n G (F .room) e (F .kind) (F .known), more-own t c n G (F .room) e (F .kind) (F .known))
+  check-next : (t : List ℕ) (G : Going t c n) (e : Entry) (es : List Entry) (F : Fit c n t e) → sentCheck es (suc (cellsOf t .updates)) ≡ sentCheck es (cellsOf (entered t c n e) .updates)
+  check-next t G e es F = ap (sentCheck es) (sym (more-taken t c n G (F .room) e (F .kind) (F .known)))
 
   -- where all fit: the first entry is taken, and the others fit after it
   pub record Onward (t : List ℕ) (e : Entry) (es : List Entry) : Type 0 where
     pub fits : Fit c n t e
     pub going : Going (entered t c n e) c n
-    pub others : sentCheck es (cellsOf (entered t c n e) .updates) (cellsOf (entered t c n e) .count n) ≡ Fits
+    pub others : sentCheck es (cellsOf (entered t c n e) .updates) ≡ Fits
 
-  some-own : (es : List Entry) (taken own : ℕ) → sentCheck es taken own ≡ Fits → own ≤ updates
-  unfolding sentCheck fitCheck
-  some-own [] taken own h = own-few own h
-  some-own (e ∷ es) taken own h = own-few own (on-fits (ownCheck own) _ (on-fits (fitCheck (e .kind) (e .bib) taken own) _ h .0) .0)
-
-  pub onward : (t : List ℕ) (e : Entry) (es : List Entry) → Going t c n → sentCheck (e ∷ es) (cellsOf t .updates) (cellsOf t .count n) ≡ Fits → Onward t e es
+  pub onward : (t : List ℕ) (e : Entry) (es : List Entry) → Going t c n → sentCheck (e ∷ es) (cellsOf t .updates) ≡ Fits → Onward t e es
   unfolding sentCheck
   onward t e es G h =
-      let p = on-fits (fitCheck (e .kind) (e .bib) (cellsOf t .updates) (cellsOf t .count n)) _ h in
+      let p = on-fits (fitCheck (e .kind) (e .bib) (cellsOf t .updates)) _ h in
       let F = fit c n t e (p .0) in
-      record { fits = F; going = going-next t c n G (F .room) e (F .kind) (F .known) (some-own es _ _ (p .1)); others = sym (check-next t G e es F) ∙ p .1 }
+      record { fits = F; going = going-next t c n G (F .room) e (F .kind) (F .known); others = sym (check-next t G e es F) ∙ p .1 }
 
   yield-taken : (t : List ℕ) → Going t c n → sentOut t c n [] ≡ taken (closeBytes (low t) c ++ high t) 0
   unfolding sentOut yieldOut
   yield-taken t G = rw (G .sound, G .client)
 
-  pub sent-fits : (es : List Entry) (t : List ℕ) → Going t c n → sentCheck es (cellsOf t .updates) (cellsOf t .count n) ≡ Fits
+  pub sent-fits : (es : List Entry) (t : List ℕ) → Going t c n → sentCheck es (cellsOf t .updates) ≡ Fits
       → sentOut t c n es ≡ taken (closeBytes (low (enteredAll t c n es)) c ++ high (enteredAll t c n es)) 0
   unfolding enteredAll
   sent-fits [] t G h = yield-taken t G
@@ -74,9 +54,9 @@ module _ (c n : ℕ) where
   abbrev Refuses : Out → ℕ → Type 0
   Refuses o code = (o .code ≡ code) × (code ≡ 0 → ⊥)
 
-  first-refused : (t : List ℕ) → Going t c n → (e : Entry) (es : List Entry) (code : ℕ) (f : FitCheck) → fitCheck (e .kind) (e .bib) (cellsOf t .updates) (cellsOf t .count n) ≡ f
-      → onFit f (sentCheck es (suc (cellsOf t .updates)) (suc (cellsOf t .count n))) ≡ Refused code
-      → (Going (entered t c n e) c n → sentCheck es (cellsOf (entered t c n e) .updates) (cellsOf (entered t c n e) .count n) ≡ Refused code → Refuses (sentOut (entered t c n e) c n es) code)
+  first-refused : (t : List ℕ) → Going t c n → (e : Entry) (es : List Entry) (code : ℕ) (f : FitCheck) → fitCheck (e .kind) (e .bib) (cellsOf t .updates) ≡ f
+      → onFit f (sentCheck es (suc (cellsOf t .updates))) ≡ Refused code
+      → (Going (entered t c n e) c n → sentCheck es (cellsOf (entered t c n e) .updates) ≡ Refused code → Refuses (sentOut (entered t c n e) c n es) code)
       → Refuses (sentOut t c n (e ∷ es)) code
   unfolding sentOut
   first-refused t G e es code (Refused k) q h others =
@@ -85,28 +65,19 @@ module _ (c n : ℕ) where
       (ap (λ o. afterTaken o (λ d. sentOut d c n es) .code) (u .0) ∙ rw (ne-eqb k 0 (u .1)) z, λ y. u .1 (z ∙ y))
   first-refused t G e es code Fits q h others =
       let F = fit c n t e q in
-      let next = sent-next t G e es F in
-      cases (ltb (cellsOf t .count n) updates)
-      (λ l.
-      let o = others (going-next t c n G (F .room) e (F .kind) (F .known) (ltb-true _ _ l)) (sym (check-next t G e es F) ∙ h) in
-      (ap (λ o. o .code) next ∙ o .0, o .1))
-      (λ l.
-      let s = sent-no-table es (entered t c n e) (sound-is t c n G (F .room) e (F .kind) (F .known) ∙ l) in
-      let m = ltb-false (cellsOf t .count n) updates l in
-      let k = check-no-table es (suc (cellsOf t .updates)) (suc (cellsOf t .count n)) (omega arith) in
-      let z : _≡_ {A = ℕ} 1 code = cc (sym k ∙ h) in
-      (ap (λ o. o .code) (next ∙ s) ∙ z, λ y. omega arith))
+      let o = others (going-next t c n G (F .room) e (F .kind) (F .known)) (sym (check-next t G e es F) ∙ h) in
+      (ap (λ o. o .code) (sent-next t G e es F) ∙ o .0, o .1)
 
-  pub sent-refused : (es : List Entry) (t : List ℕ) → Going t c n → (code : ℕ) → sentCheck es (cellsOf t .updates) (cellsOf t .count n) ≡ Refused code → Refuses (sentOut t c n es) code
+  pub sent-refused : (es : List Entry) (t : List ℕ) → Going t c n → (code : ℕ) → sentCheck es (cellsOf t .updates) ≡ Refused code → Refuses (sentOut t c n es) code
   unfolding sentCheck
-  sent-refused [] t G code h = fits-not code (sym h ∙ own-fits (cellsOf t .count n) (few-own t c n G))
-  sent-refused (e ∷ es) t G code h = first-refused t G e es code (fitCheck (e .kind) (e .bib) (cellsOf t .updates) (cellsOf t .count n)) refl h (λ g i. sent-refused es (entered t c n e) g code i)
+  sent-refused [] t G code h = fits-not code (sym h)
+  sent-refused (e ∷ es) t G code h = first-refused t G e es code (fitCheck (e .kind) (e .bib) (cellsOf t .updates)) refl h (λ g i. sent-refused es (entered t c n e) g code i)
 
 -- the bundle's end
 pub refused-settled : (t : List ℕ) (o : Out) (code : ℕ) → o .code ≡ code → (code ≡ 0 → ⊥) → refused t code ≡ settled t o
 refused-settled t o code e z = sym (ap (λ k. cond (eqb k 0) (taken (o .lent) (cellsOf t .updates)) (refused t k)) e ∙ rw (ne-eqb code 0 z))
 
-module _ (t : List ℕ) (c n : ℕ) (G : Going t c n) (es : List Entry) (f : FitCheck) (h : f ≡ sentCheck es (cellsOf t .updates) (cellsOf t .count n)) where
+module _ (t : List ℕ) (c n : ℕ) (G : Going t c n) (es : List Entry) (f : FitCheck) (h : f ≡ sentCheck es (cellsOf t .updates)) where
   pub settle-refused : (code : ℕ) → f ≡ Refused code → refused t code ≡ settled t (sentOut t c n es)
   settle-refused code e = let r = sent-refused c n es t G code (sym h ∙ e) in refused-settled t (sentOut t c n es) code (r .0) (r .1)
 

@@ -35,10 +35,6 @@ pub record Going (t : List ℕ) (c n : ℕ) : Type 0 where
 unfoldable pub entryCheck : ℕ → ℕ → KindCheck
 entryCheck k bib = cond (badBib bib) kinds.Unknown (kindCheck k)
 
--- 1 of the next call, where the revision has so many updates of its own. More than the log holds: on no day.
-unfoldable pub ownCheck : ℕ → FitCheck
-ownCheck own = cond (ltb updates own) (Refused 1) Fits
-
 -- 9 of an entry, where so many updates are taken
 unfoldable pub roomCheck : ℕ → LogCheck
 roomCheck taken = cond (ltb taken updates) log.Room log.Full
@@ -52,14 +48,14 @@ abbrev pub fitCode : FitCheck → ℕ
 fitCode Fits = 0
 fitCode (Refused code) = code
 
--- 1, 5, 9 of an entry
-unfoldable pub fitCheck : ℕ → ℕ → ℕ → ℕ → FitCheck
-fitCheck k bib taken own = onFit (ownCheck own) (onKind (entryCheck k bib) (Refused 5) (λ kind. cond (ltb taken updates) Fits (Refused 9)))
+-- 5, 9 of an entry
+unfoldable pub fitCheck : ℕ → ℕ → ℕ → FitCheck
+fitCheck k bib taken = onKind (entryCheck k bib) (Refused 5) (λ kind. cond (ltb taken updates) Fits (Refused 9))
 
--- the earliest refusal of the updates, each with one taken more than the one before it, and of the yield
-unfoldable pub sentCheck : List Entry → ℕ → ℕ → FitCheck
-sentCheck [] taken own = ownCheck own
-sentCheck (e ∷ es) taken own = onFit (fitCheck (e .kind) (e .bib) taken own) (sentCheck es (suc taken) (suc own))
+-- the earliest refusal of the updates, each with one taken more than the one before it; the yield behind them is taken
+unfoldable pub sentCheck : List Entry → ℕ → FitCheck
+sentCheck [] taken = Fits
+sentCheck (e ∷ es) taken = onFit (fitCheck (e .kind) (e .bib) taken) (sentCheck es (suc taken))
 
 -- the table after an update that is taken, and after several
 unfoldable pub entered : List ℕ → ℕ → ℕ → Entry → List ℕ

@@ -11,7 +11,7 @@ ghost use Rattle.table.specs.Halves.{cellsOf, isTable, low};
 ghost use Rattle.table.specs.Out.{tableBytes};
 ghost use Rattle.table.specs.Answers.{left};
 ghost use Rattle.table.specs.Calls.{bundleOut, sentOut, settled};
-ghost use Rattle.bundling.specs.Bundles.{Going, entered, enteredAll, entryCheck, fitCheck, fitCode, ownCheck, roomCheck, sentCheck};
+ghost use Rattle.bundling.specs.Bundles.{Going, entered, enteredAll, entryCheck, fitCheck, fitCode, roomCheck, sentCheck};
 ghost use Rattle.bundling.specs.declared.bundle.FitCheck.the-variants as fit;
 use bundles::check::BundleCheck;
 use bundles::check::check_bundle;
@@ -34,7 +34,7 @@ use updating::update::check_update;
 use updating::update::put;
 use updating::yields::close;
 
-// Whether the next entry, or the yield, is refused.
+// Whether the next entry is refused.
 pub enum FitCheck {
     Fits,
     Refused(u8),
@@ -62,16 +62,6 @@ fn check_entry(kind: u8, bib: u16) -> KindCheck
     check_kind(kind)
 }
 
-// Code 1 of the next call, once an own list is longer than the log. No day makes such a list.
-fn check_own(own: usize) -> FitCheck
-    ensures { λ r. ⌜ r ≡ ownCheck own ⌝ }
-{
-    if Table::UPDATES < own {
-        return FitCheck::Refused(1);
-    }
-    FitCheck::Fits
-}
-
 // 9 of an entry, with so many updates taken.
 fn check_room(taken: usize) -> LogCheck
     ensures { λ r. ⌜ r ≡ roomCheck taken ⌝ }
@@ -82,14 +72,10 @@ fn check_room(taken: usize) -> LogCheck
     LogCheck::Full
 }
 
-// 1, 5 and 9 of an entry, with so many updates taken, so many of them the revision's own.
-fn check_fit(kind: u8, bib: u16, taken: usize, own: usize) -> FitCheck
-    ensures { λ r. ⌜ r ≡ fitCheck kind bib taken own ⌝ }
+// 5 and 9 of an entry, with so many updates taken.
+fn check_fit(kind: u8, bib: u16, taken: usize) -> FitCheck
+    ensures { λ r. ⌜ r ≡ fitCheck kind bib taken ⌝ }
 {
-    let found = check_own(own);
-    let FitCheck::Fits = found else {
-        return found;
-    };
     let KindCheck::Known(k) = check_entry(kind, bib) else {
         return FitCheck::Refused(5);
     };
@@ -99,21 +85,21 @@ fn check_fit(kind: u8, bib: u16, taken: usize, own: usize) -> FitCheck
     FitCheck::Fits
 }
 
-// The earliest refusal of the updates, and of the yield behind them.
-fn check_sent(b: &[u8], n: usize, taken: usize, own: usize) -> FitCheck
-    requires { ⌜ (12 * n ≤ length (now b)) × (n ≤ 64) × (taken ≤ updates) × (own ≤ updates) ⌝ }
-    ensures { λ r. ⌜ r ≡ sentCheck (entriesFrom (now (b .entry)) 0 n) taken own ⌝ }
+// The earliest refusal of the updates. The yield behind them is taken.
+fn check_sent(b: &[u8], n: usize, taken: usize) -> FitCheck
+    requires { ⌜ (12 * n ≤ length (now b)) × (n ≤ 64) × (taken ≤ updates) ⌝ }
+    ensures { λ r. ⌜ r ≡ sentCheck (entriesFrom (now (b .entry)) 0 n) taken ⌝ }
 {
     let mut i: usize = 0;
     while i < n {
         let e = entry_at(b, i);
-        let found = check_fit(e.kind, e.bib, taken + i, own + i);
+        let found = check_fit(e.kind, e.bib, taken + i);
         let FitCheck::Fits = found else {
             return found;
         };
         i += 1;
     }
-    check_own(own + n)
+    FitCheck::Fits
 }
 
 // An entry that the checks have passed.
@@ -129,7 +115,7 @@ fn enter(t: &mut [u8], c: Client, r: Revision, e: Entry)
 
 // The first n entries, each as `enter` does it.
 fn enter_all(t: &mut [u8], c: Client, r: Revision, b: &[u8], n: usize)
-    requires { ⌜ Going (now t) (c .0) (r .0) × (12 * n ≤ length (now b)) × (n ≤ 64) × (sentCheck (entriesFrom (now b) 0 n) (cellsOf (now t) .updates) (cellsOf (now t) .count (r .0)) ≡ fit.Fits) ⌝ }
+    requires { ⌜ Going (now t) (c .0) (r .0) × (12 * n ≤ length (now b)) × (n ≤ 64) × (sentCheck (entriesFrom (now b) 0 n) (cellsOf (now t) .updates) ≡ fit.Fits) ⌝ }
     ensures { λ _. ⌜ now (t .exit) ≡ enteredAll (now (t .entry)) (c .0) (r .0) (entriesFrom (now (b .entry)) 0 n) ⌝ }
 {
     let mut i: usize = 0;
@@ -146,8 +132,7 @@ fn send(t: &mut [u8], c: Client, r: Revision, b: &[u8], n: usize) -> Answer
     ensures { λ a. ⌜ left a (now (t .exit)) ≡ settled (now (t .entry)) (sentOut (now (t .entry)) (c .0) (r .0) (entriesFrom (now (b .entry)) 0 n)) ⌝ }
 {
     let taken = counts::taken(t);
-    let own = counts::own(t, r);
-    let found = check_sent(b, n, taken, own);
+    let found = check_sent(b, n, taken);
     let FitCheck::Fits = found else {
         return Answer {
             code: found.code(),

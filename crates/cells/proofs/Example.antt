@@ -10,7 +10,7 @@ use Rattle.cells.specs.Parts.{basePart, layoutPart, queuePart, openedPar
 use Rattle.cells.specs.Cells.{Cells, chain, freed, outs, flagged, nextNumber}
 use Rattle.cells.specs.Order.{order, picks}
 use Rattle.cells.specs.Checks.{isClient, givenOut, joined, openElsewhere, busy, busyByOther, stale, logFull, noneLeft, joinable}
-use Rattle.cells.specs.CellSteps.{freshCells, updateCells, closeCells, forkRow, forkCells, joinCells}
+use Rattle.cells.specs.CellSteps.{freshCells, counted, oneFewer, updateCells, closeCells, forkRow, forkCells, joinCells}
 
 -- client 0 updates revision 0, which forks 1; 1 updates and forks 2; 2, 0 and 1 update; 0 forks 3, which updates
 before : Cells
@@ -25,19 +25,19 @@ after = joinCells (joinCells before 1 2) 0 1
 
 -- a joinee's updates come after the joiner's, whatever the numbers
 main-order : order after 0 ≡ 0 ∷ 3 ∷ 1 ∷ 4 ∷ 2 ∷ []
-unfolding before after order chain insertBefore remove behind
+unfolding before after order chain insertBefore remove behind counted oneFewer
 main-order = refl
 
 other-order : order after 3 ≡ 0 ∷ 3 ∷ 5 ∷ []
-unfolding before after order chain insertBefore remove behind
+unfolding before after order chain insertBefore remove behind counted oneFewer
 other-order = refl
 
 forked-order : order before 2 ≡ 0 ∷ 1 ∷ 2 ∷ []
-unfolding before order chain insertBefore remove behind
+unfolding before order chain insertBefore remove behind counted
 forked-order = refl
 
 left-out : outs after ≡ 3 ∷ 0 ∷ []
-unfolding before after insertBefore remove
+unfolding before after insertBefore remove oneFewer
 left-out = refl
 
 -- 01, E2: "join 0 with 2 gives 11, and so does join 2 with 1; after join 0 with 1, join 0 with 2 is taken"
@@ -92,7 +92,7 @@ unfolding made
 next-ones = refl
 
 freed-ones : freed (made 0 62 64) ∷ freed (forkCells (made 0 62 64) 0 7) ∷ freed (joinCells after 0 3) ∷ [] ≡ (7 ∷ 5 ∷ []) ∷ (5 ∷ []) ∷ (2 ∷ 1 ∷ 3 ∷ []) ∷ []
-unfolding made before after
+unfolding made before after oneFewer
 freed-ones = refl
 
 -- neither the main revision nor the joiner is a joinee, whatever the flags; a row that is not in use counts for nothing
@@ -102,7 +102,7 @@ flags-alone = refl
 
 -- a fork of a fork of a fork inherits by count, by flag and from the own list
 third-order : order (forkCells before 2 4) 4 ≡ 0 ∷ 1 ∷ 2 ∷ []
-unfolding before order chain insertBefore remove behind
+unfolding before order chain insertBefore remove behind counted
 third-order = refl
 
 -- each entry once, in its order

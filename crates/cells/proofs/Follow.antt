@@ -1,5 +1,5 @@
 -- A step on the parts is the step on the cells: query, update, close and join.
-use Prim.Native.Nat.{ℕ, suc, _+_, _-_, _<_}
+use Prim.Native.Nat.{ℕ, suc, _+_, _<_}
 use mathlib.Core.Bool.{Bool, true, false, cond, _&&_, _||_}
 use mathlib.Core.Path.{_≡_, refl, _∙_, fun-ext}
 use native.Mathlib.Omega.{arith}
@@ -16,7 +16,7 @@ use Rattle.cells.specs.Flags.{flagIn, putRow}
 use Rattle.cells.specs.Cells.{Cells}
 use Rattle.cells.specs.Decode.{decode}
 use Rattle.lists.specs.Pool.{joinPool}
-use Rattle.cells.specs.CellSteps.{onlyCaught, queryCells, updateCells, closeCells, joinCaught, joinCells}
+use Rattle.cells.specs.CellSteps.{counted, oneFewer, onlyCaught, queryCells, updateCells, closeCells, joinCaught, joinCells}
 use Rattle.cells.specs.Steps.{queryParts, updateParts, closeParts, joinParts}
 use Rattle.cells.proofs.Tables.{getD-changed}
 use Rattle.cells.proofs.Words.{word-put, byte-put-other, word-set-other, link-put}
@@ -96,7 +96,7 @@ module _ (p : Parts) (h : Sized p) (c r : ℕ) (cl : c < clients) (rl : r < revi
           used = decode p .used;
           last = fun-ext (λ x. word-put (p lastPart) r u x (omega arith)) i;
           first = fun-ext (λ x. word-put (p firstPart) r (cond (eqb (decode p .count r) 0) u (decode p .first r)) x (omega arith)) i;
-          count = fun-ext (λ x. word-put (p countPart) r (suc (decode p .count r)) x (omega arith)) i;
+          count = fun-ext (λ x. word-put (p countPart) r (counted (suc (decode p .count r))) x (omega arith)) i;
           base = decode p .base;
           row = decode p .row;
           link = fun-ext (λ x. link-put (p lowPart) (p highPart) u (decode p .last r) x (omega arith) (omega arith) ll) i;
@@ -172,16 +172,16 @@ module _ (p : Parts) (h : Sized p) (a b : ℕ) (al : a < revisions) (bl : b < re
         used = decode p .used;
         last = fun-ext join-last i;
         first = fun-ext join-first i;
-        count = fun-ext (λ x. word-put (p countPart) a (k .count a + k .count b) x (omega arith)) i;
+        count = fun-ext (λ x. word-put (p countPart) a (counted (k .count a + k .count b)) x (omega arith)) i;
         base = decode p .base;
         row = decode p .row;
         link = fun-ext join-link i;
         seen = fun-ext (λ x. fun-ext (join-seen x)) i;
         caught = fun-ext (λ x. fun-ext (join-caught x)) i;
         layout = decode (joinParts p a b) .layout;
-        out = getD-set-same (p countersPart) 2 (k .out - 1) 0 (omega arith) i;
+        out = getD-set-same (p countersPart) 2 (oneFewer (k .out)) 0 (omega arith) i;
         queue = decode (joinParts p a b) .queue;
         opened = decode p .opened;
-        updates = word-set-other (p countersPart) 0 (k .out - 1) 2 (omega arith) (omega arith) i;
-        given = getD-set-other (p countersPart) 2 3 (k .out - 1) 0 (omega arith) i;
+        updates = word-set-other (p countersPart) 0 (oneFewer (k .out)) 2 (omega arith) (omega arith) i;
+        given = getD-set-other (p countersPart) 2 3 (oneFewer (k .out)) 0 (omega arith) i;
       }

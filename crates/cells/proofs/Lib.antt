@@ -4,6 +4,7 @@ pub mod Parts
 pub mod Words
 pub mod Flags
 pub mod Chain
+pub mod Stops
 pub mod Places
 pub mod Sized
 pub mod Follow
@@ -11,5 +12,6 @@ pub mod FollowFork
 pub mod FollowFresh
 pub mod Range
 pub mod Example
-pub mod Entered
+pub mod Stays
+pub mod Decoded
 pub mod Clean

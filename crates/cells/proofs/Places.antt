@@ -1,7 +1,7 @@
 -- The layout's and the queue's first places after a fork and a join: what the revisions out and the numbers handed in are then.
 use Prim.Native.Nat.{ℕ, zero, suc, _-_, _<_, _≤_}
 use mathlib.Core.Path.{_≡_, refl, sym, _∙_, ap}
-use mathlib.Core.List.{List, [], _∷_, _++_, List·Memᴰ·cases-cons, List·Memᴰ·not-nil}
+use mathlib.Core.List.{List, [], _∷_, _++_, List·Memᴰ·cases-cons, List·Memᴰ·eq-of-singleton, List·Memᴰ·not-nil}
 use native.Mathlib.Numerals.{add-one, sub-one}
 use native.Mathlib.Omega.{arith}
 use lib.Dec.{eqb}
@@ -14,6 +14,7 @@ use Rattle.lists.proofs.Cases.{cases, either}
 use Rattle.cells.specs.Sizes.{revisions}
 use Rattle.cells.specs.Cells.{Cells, freed, outs}
 use Rattle.cells.specs.CellSteps.{forkCells, joinCells}
+use Rattle.cells.proofs.Stops.{fewer-is}
 
 take-insert : (q c n : ℕ) (l : List ℕ) → q ∈ take n l → take (suc n) (insertBefore q c l) ≡ insertBefore q c (take n l)
 unfolding insertBefore
@@ -59,9 +60,19 @@ take-shift n (x ∷ l) h = take-append-le n l (1 ∷ []) (omega arith)
 pub fork-outs : (k : Cells) (q c : ℕ) → k .out < revisions → q ∈ outs k → outs (forkCells k q c) ≡ insertBefore q c (outs k)
 fork-outs k q c h m = take-take (suc (k .out)) revisions (insertBefore q c (k .layout)) h ∙ take-insert q c (k .out) (k .layout) m
 
+-- of two revisions out there are two
+pub two-out : (k : Cells) (a b : ℕ) → a ∈ outs k → b ∈ outs k → (a ≡ b → ⊥) → 1 < k .out
+two-out k a b i j d = go (k .out) (k .layout) i j
+  where
+    go : (n : ℕ) (l : List ℕ) → a ∈ take n l → b ∈ take n l → 1 < n
+    go zero l i j = absurd (List·Memᴰ·not-nil i)
+    go (suc zero) [] i j = absurd (List·Memᴰ·not-nil i)
+    go (suc zero) (x ∷ l) i j = absurd (d (List·Memᴰ·eq-of-singleton i ∙ sym (List·Memᴰ·eq-of-singleton j)))
+    go (suc (suc n)) l i j = omega arith
+
 -- a joinee that is in the layout is out of it
-pub join-outs : (k : Cells) (a b : ℕ) → length (k .layout) ≡ revisions → k .out ≤ revisions → b ∈ outs k → outs (joinCells k a b) ≡ remove b (outs k)
-join-outs k a b l h m = go (k .out) h m
+pub join-outs : (k : Cells) (a b : ℕ) → length (k .layout) ≡ revisions → 1 < k .out → k .out ≤ revisions → b ∈ outs k → outs (joinCells k a b) ≡ remove b (outs k)
+join-outs k a b l o h m = rw (fewer-is (k .out) o) (go (k .out) h m)
   where
     go : (n : ℕ) → n ≤ revisions → b ∈ take n (k .layout) → take (n - 1) (take revisions (remove b (k .layout) ++ (0 ∷ []))) ≡ remove b (take n (k .layout))
     go zero g i = absurd (List·Memᴰ·not-nil i)
@@ -85,7 +96,7 @@ first-freed k o = let z : k .given - k .out ≡ suc (k .given - suc (k .out)) = 
     first n (x ∷ l) = refl
 
 -- after a join the joinee's number is last
-pub join-freed : (k : Cells) (a b : ℕ) → length (k .queue) ≡ revisions → 0 < k .out → k .out ≤ k .given → k .given ≤ revisions → freed (joinCells k a b) ≡ freed k ++ (b ∷ [])
+pub join-freed : (k : Cells) (a b : ℕ) → length (k .queue) ≡ revisions → 1 < k .out → k .out ≤ k .given → k .given ≤ revisions → freed (joinCells k a b) ≡ freed k ++ (b ∷ [])
 join-freed k a b l p o m =
     let z : k .given - (k .out - 1) ≡ suc (k .given - k .out) = omega arith in
-    rw z (take-suc-set (k .queue) (k .given - k .out) b (omega arith))
+    rw (fewer-is (k .out) p, z) (take-suc-set (k .queue) (k .given - k .out) b (omega arith))

@@ -73,7 +73,7 @@ append-sized {p} h r =
     let k = decode p in
     let a = word-sized (link-sized h (k .updates) (k .last r)) lastPart r (k .updates) in
     let b = word-sized a firstPart r (cond (eqb (k .count r) 0) (k .updates) (k .first r)) in
-    word-sized (word-sized b countPart r (suc (k .count r))) countersPart 0 (suc (k .updates))
+    word-sized (word-sized b countPart r _) countersPart 0 (suc (k .updates))
 
 pub update-sized : {p : Parts} → Sized p → (c r : ℕ) → c < clients → Sized (updateParts p c r)
 update-sized h c r l = query-sized (append-sized h r) c r l
@@ -116,12 +116,12 @@ pub join-sized : {p : Parts} → Sized p → (a b : ℕ) → a < revisions → S
 unfolding size
 join-sized {p} h a b al =
     let k = decode p in
-    let s = sized-with (splice-sized h a b) countPart (putWord (p countPart) a (k .count a + k .count b)) (putWord-length (p countPart) a _ ∙ h .of countPart) in
+    let s = sized-with (splice-sized h a b) countPart _ (putWord-length (p countPart) a _ ∙ h .of countPart) in
     let m = caught-sized (seenRow-sized s a (joinPool (k .seen) a b a) al) (joinCaught (k .caught) a b) in
     let t = sized-with m statePart (set (p statePart) b stateJoined) (length-set (p statePart) b _ ∙ h .of statePart) in
     let l = sized-with t layoutPart (take revisions (remove b (p layoutPart) ++ (0 ∷ []))) (whole (remove b (p layoutPart) ++ (0 ∷ [])) (remove-length b (p layoutPart))) in
     let q = sized-with l queuePart (joinQueue k b) (length-set (p queuePart) (k .given - k .out) b ∙ h .of queuePart) in
-    sized-with q countersPart (set (p countersPart) 2 (k .out - 1)) (length-set (p countersPart) 2 _ ∙ h .of countersPart)
+    sized-with q countersPart _ (length-set (p countersPart) 2 _ ∙ h .of countersPart)
   where
     whole : (l : List ℕ) → length (p layoutPart) ≤ length l → length (take revisions l) ≡ size layoutPart
     whole l m = let s = h .of layoutPart in length-take-le revisions l (omega arith)

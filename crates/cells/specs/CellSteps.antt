@@ -57,6 +57,14 @@ queryCells k c r = record {
   given = k .given;
 }
 
+-- a count stops at its range. On a day none would pass it: the log is full first
+unfoldable pub counted : ℕ → ℕ
+counted n = cond (ltb n updates) n updates
+
+-- one revision fewer is out, and one at least: on a day the main revision is
+unfoldable pub oneFewer : ℕ → ℕ
+oneFewer n = cond (ltb 1 n) (n - 1) 1
+
 -- an update besides: the next number goes to the end of r's own list
 abbrev pub updateCells : Cells → ℕ → ℕ → Cells
 updateCells k c r = record {
@@ -64,7 +72,7 @@ updateCells k c r = record {
   used = k .used;
   last = changed (k .last) r (k .updates);
   first = changed (k .first) r (cond (eqb (k .count r) 0) (k .updates) (k .first r));
-  count = changed (k .count) r (suc (k .count r));
+  count = changed (k .count) r (counted (suc (k .count r)));
   base = k .base;
   row = k .row;
   link = changed (k .link) (k .updates) (k .last r);
@@ -153,14 +161,14 @@ joinCells k a b = record {
   used = k .used;
   last = spliced k b (k .last) (changed (k .last) a (k .last b));
   first = spliced k b (k .first) (changed (k .first) a (cond (eqb (k .count a) 0) (k .first b) (k .first a)));
-  count = changed (k .count) a (k .count a + k .count b);
+  count = changed (k .count) a (counted (k .count a + k .count b));
   base = k .base;
   row = k .row;
   link = spliced k b (k .link) (changed (k .link) (k .first b) (k .last a));
   seen = joinPool (k .seen) a b;
   caught = joinCaught (k .caught) a b;
   layout = take revisions (remove b (k .layout) ++ (0 ∷ []));
-  out = k .out - 1;
+  out = oneFewer (k .out);
   queue = joinQueue k b;
   opened = k .opened;
   updates = k .updates;

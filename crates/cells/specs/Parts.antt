@@ -1,4 +1,4 @@
--- No claim rests on this file: it serves the code.
+-- Of the claims only `StaysTable` (crate consistency) rests on this file; else it serves the code.
 -- The bytes as parts in a row: docs/CELLS.md, "The parts". No other definition says where a part lies.
 use Prim.Native.Nat.{ℕ, zero, suc, _+_}
 use mathlib.Core.Path.{_≡_}

@@ -1,4 +1,4 @@
--- No claim rests on this file: it serves the code.
+-- Of the claims only `StaysTable` (crate consistency) rests on this file; else it serves the code.
 -- Code 1, "a cell is out of its range": docs/CELLS.md, "Ranges". Fixed numbers; rows, links and flags have every byte in range.
 use Prim.Native.Nat.{ℕ}
 use mathlib.Core.Bool.{Bool, _&&_}

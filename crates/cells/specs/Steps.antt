@@ -1,6 +1,6 @@
 -- No claim rests on this file: it serves the code.
 -- What each accepted step writes: docs/CELLS.md, "What each step writes". On parts, and so on the bytes.
-use Prim.Native.Nat.{ℕ, zero, suc, _+_, _-_, _/_, _%_}
+use Prim.Native.Nat.{ℕ, zero, suc, _+_, _/_, _%_}
 use mathlib.Core.Bool.{Bool, true, cond}
 use mathlib.Core.List.{List, [], _∷_, _++_}
 use lib.Dec.{eqb}
@@ -14,7 +14,7 @@ use Rattle.cells.specs.Flags.{pack, putRow}
 use Rattle.cells.specs.Decode.{decode}
 use Rattle.cells.specs.Range.{signature}
 use Rattle.lists.specs.Pool.{forkPool, joinPool}
-use Rattle.cells.specs.CellSteps.{forkCaught, forkRow, forkGiven, forkQueue, spliced, joinCaught, joinQueue}
+use Rattle.cells.specs.CellSteps.{counted, oneFewer, forkCaught, forkRow, forkGiven, forkQueue, spliced, joinCaught, joinQueue}
 
 -- all bytes 0 but these
 abbrev pub freshParts : Parts
@@ -48,7 +48,7 @@ appendParts p r =
     linkParts p (k .updates) (k .last r)
     ⟨ lastPart ≔ putWord (p lastPart) r (k .updates) ⟩
     ⟨ firstPart ≔ putWord (p firstPart) r (cond (eqb (k .count r) 0) (k .updates) (k .first r)) ⟩
-    ⟨ countPart ≔ putWord (p countPart) r (suc (k .count r)) ⟩
+    ⟨ countPart ≔ putWord (p countPart) r (counted (suc (k .count r))) ⟩
     ⟨ countersPart ≔ putWord (p countersPart) 0 (suc (k .updates)) ⟩
 
 abbrev pub updateParts : Parts → ℕ → ℕ → Parts
@@ -99,13 +99,13 @@ abbrev pub joinParts : Parts → ℕ → ℕ → Parts
 joinParts p a b =
     let k = decode p in
     spliceParts p a b
-    ⟨ countPart ≔ putWord (p countPart) a (k .count a + k .count b) ⟩
+    ⟨ countPart ≔ putWord (p countPart) a (counted (k .count a + k .count b)) ⟩
     ⟨ seenPart ≔ putRow 8 (p seenPart) a (joinPool (k .seen) a b a) ⟩
     ⟨ caughtPart ≔ pack clients (joinCaught (k .caught) a b) ⟩
     ⟨ statePart ≔ set (p statePart) b stateJoined ⟩
     ⟨ layoutPart ≔ take revisions (remove b (p layoutPart) ++ (0 ∷ [])) ⟩
     ⟨ queuePart ≔ joinQueue k b ⟩
-    ⟨ countersPart ≔ set (p countersPart) 2 (k .out - 1) ⟩
+    ⟨ countersPart ≔ set (p countersPart) 2 (oneFewer (k .out)) ⟩
 
 -- the same on the bytes
 unfoldable pub freshBytes : List ℕ

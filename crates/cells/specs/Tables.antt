@@ -1,4 +1,4 @@
--- No claim rests on this file: it serves the code.
+-- Of the claims only `StaysTable` (crate consistency) rests on this file; else it serves the code.
 -- A function's values in a row, and a test of every number from 0 on.
 use Prim.Native.Nat.{ℕ, zero, suc}
 use mathlib.Core.Bool.{Bool, true, _&&_}

@@ -1,4 +1,4 @@
--- No claim rests on this file: it serves the code.
+-- Of the claims only `StaysTable` (crate consistency) rests on this file; else it serves the code.
 -- Numbers in bytes: words of two bytes, the low byte first; half bytes; links, of a byte and a half byte each.
 use Prim.Native.Nat.{ℕ, _+_, _*_, _/_, _%_}
 use mathlib.Core.Bool.{cond}

@@ -9,7 +9,7 @@ use Rattle.diagram.specs.Accepted.{noneOf}
 use Rattle.diagram.specs.Examples.{Example, e1, e1List, examples, expected}
 use Rattle.cells.specs.Cells.{Cells, chain}
 use Rattle.cells.specs.Checks.{busy, busyByOther, givenOut, isClient, joinable, joined, logFull, noneLeft, openElsewhere, stale}
-use Rattle.cells.specs.CellSteps.{freshCells}
+use Rattle.cells.specs.CellSteps.{counted, freshCells, oneFewer}
 use Rattle.cells.specs.Order.{order}
 use Rattle.following.specs.Reached.{stepCells}
 
@@ -42,5 +42,5 @@ unfolding passes stepCells chain insertBefore remove anyBelow
 examples-hold = refl
 
 e1-list : order (triedAll freshCells e1) 0 ≡ e1List
-unfolding passes stepCells chain insertBefore remove anyBelow behind order
+unfolding passes stepCells chain insertBefore remove anyBelow behind order counted oneFewer
 e1-list = refl

@@ -2,6 +2,7 @@
 -- calls the replies do, demand 3 holds, own updates add up, and previews follow joins.
 pub mod Table
 pub mod Refusals
+pub mod Stays
 pub mod Demand
 pub mod Fills
 pub mod Previews

@@ -2,16 +2,13 @@
 use Prim.Native.Nat.{ℕ}
 use mathlib.Core.Path.{_≡_, refl, sym, _∙_, ap}
 use mathlib.Core.List.{List}
-use native.Mathlib.Omega.{arith}
-use Rattle.lists.proofs.Cases.{cases}
 use Rattle.updates.specs.Effect.{stateOf, valueIn}
 use Rattle.desk.specs.Calls.{Looks, Preview, Query}
 use Rattle.desk.specs.Checks.{joinChecks}
 use Rattle.desk.proofs.Checks.{Passed, goes-on, passed-first, took}
-use Rattle.table.specs.Halves.{isTable}
 use Rattle.table.specs.Answers.{refused}
 use Rattle.table.specs.Out.{Out}
-use Rattle.table.specs.Calls.{asked, foreseen, joinEnd, joinOut, noProspect, previewOut, queryOut, readOn, standingAt}
+use Rattle.table.specs.Calls.{asked, foreseen, joinEnd, joinOut, noProspect, previewOut, queryOut, standingAt}
 use Rattle.table.specs.declared.answer.Prospect.{Prospect}
 use Rattle.consistency.specs.Previews.{PreviewsFollowJoins}
 
@@ -27,10 +24,6 @@ join-taken : (t : List ℕ) (n m : ℕ) → Passed (joinChecks (asked t) n m) �
 unfolding joinOut
 join-taken t n m P = goes-on (refused t) (joinEnd t n m) (joinChecks (asked t) n m) P
 
-read-is : (copy : List ℕ) (n bib gain : ℕ) → readOn copy n bib gain .code ≡ 0 → readOn copy n bib gain ≡ foreseen (standingAt copy n bib) gain
-unfolding readOn
-read-is copy n bib gain e = cases (isTable copy) (λ i. rw i) (λ i. let z : _≡_ {A = ℕ} 1 0 = rw i at e in absurd (omega arith))
-
 -- a preview that is taken: the join would be, and it is what is read on the copy
 record Read (t : List ℕ) (n m bib : ℕ) : Type 0 where
   joins : joinOut t n m .code ≡ 0
@@ -39,10 +32,9 @@ record Read (t : List ℕ) (n m bib : ℕ) : Type 0 where
 read : (t : List ℕ) (n m bib : ℕ) → previewOut t n m bib .code ≡ 0 → Read t n m bib
 unfolding previewOut
 read t n m bib e =
-    let w = took (λ (f : Prospect). f .code) noProspect (λ k. refl) (asked t) (Looks (Preview n m bib)) (readOn (joinEnd t n m .lent) n bib (joinEnd t n m .value)) e in
+    let w = took (λ (f : Prospect). f .code) noProspect (λ k. refl) (asked t) (Looks (Preview n m bib)) (foreseen (standingAt (joinEnd t n m .lent) n bib) (joinEnd t n m .value)) e in
     let j = join-taken t n m (passed-first (joinChecks (asked t) n m) _ (w .passed)) in
-    let r = w .is ∙ read-is (joinEnd t n m .lent) n bib (joinEnd t n m .value) (rw (w .is) at e) in
-    record { joins = ap (λ (o : Out). o .code) j; is = r ∙ ap (λ (o : Out). foreseen (standingAt (o .lent) n bib) (o .value)) (sym j) }
+    record { joins = ap (λ (o : Out). o .code) j; is = w .is ∙ ap (λ (o : Out). foreseen (standingAt (o .lent) n bib) (o .value)) (sym j) }
 
 pub previews-follow-joins : PreviewsFollowJoins
 previews-follow-joins t n m bib e =

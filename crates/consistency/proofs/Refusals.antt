@@ -2,7 +2,7 @@
 use Prim.Native.Nat.{ℕ}
 use mathlib.Core.Bool.{not}
 use mathlib.Core.Path.{_≡_, refl, ap}
-use mathlib.Core.List.{List, [], _∷_, List·Memᴰ·head}
+use mathlib.Core.List.{List, [], _∷_}
 use lib.Dec.{eqb}
 use lib.ListN.{length}
 use borrow.Author.Tests.{eqb-false}
@@ -12,10 +12,9 @@ use Rattle.bundles.specs.declared.entry.Entry.{Entry}
 use Rattle.desk.specs.Calls.{Call, Update, Query, Yield, Fork, Join, Bundle, Looks, Show, Fill, Preview, Batch, Records, Entries, entriesOf}
 use Rattle.desk.specs.Checks.{checks, settle, codesFor}
 use Rattle.desk.proofs.Checks.{Refused, among-in, refused-only}
-use Rattle.table.specs.Halves.{isTable}
 use Rattle.table.specs.Answers.{afterTaken, refused}
 use Rattle.table.specs.Out.{Out, tableBytes}
-use Rattle.table.specs.Calls.{asked, batchOut, bundleOut, entriesOut, fillOut, forkOut, freshOut, joinEnd, joinOut, listOut, noFill, noProspect, previewOut, queryOut, readOn, sentOut, settled, updateOut, yieldOut}
+use Rattle.table.specs.Calls.{asked, batchOut, bundleOut, entriesOut, fillOut, forkOut, freshOut, joinOut, listOut, noFill, noProspect, previewOut, queryOut, sentOut, settled, updateOut, yieldOut}
 use Rattle.table.specs.declared.answer.Level.{Level}
 use Rattle.table.specs.declared.answer.Prospect.{Prospect}
 use Rattle.consistency.specs.Table.{levelReply, onTable, outReply, prospectReply}
@@ -46,11 +45,8 @@ module _ (t : List ℕ) where
   yield-refused c = out-refused t t (Yield c) _ (λ h. absurd (h refl))
 
   preview-refused : (n m bib : ℕ) → (previewOut t n m bib .code ≡ 0 → ⊥) → Refused (λ (f : Prospect). f .code) noProspect (listed (Looks (Preview n m bib))) (previewOut t n m bib)
-  unfolding previewOut readOn
-  preview-refused n m bib = refused-only (λ (f : Prospect). f .code) noProspect (λ k. refl) (asked t) (Looks (Preview n m bib)) _ (read-refused (joinEnd t n m .lent) n m bib (joinEnd t n m .value))
-    where
-      read-refused : (copy : List ℕ) (n m bib gain : ℕ) → (readOn copy n bib gain .code ≡ 0 → ⊥) → Refused (λ (f : Prospect). f .code) noProspect (listed (Looks (Preview n m bib))) (readOn copy n bib gain)
-      read-refused copy n m bib gain = cases (not (isTable copy)) (λ e. rw e (λ h. record { number = List·Memᴰ·head refl; is = refl })) (λ e. rw e (λ h. absurd (h refl)))
+  unfolding previewOut
+  preview-refused n m bib = refused-only (λ (f : Prospect). f .code) noProspect (λ k. refl) (asked t) (Looks (Preview n m bib)) _ (λ h. absurd (h refl))
 
 -- the updates of a bundle and its yield, one by one: the first refusal has a number of theirs
 abbrev eventCodes : List ℕ

@@ -177,6 +177,13 @@ ends-by refusal end q e (begins ks more h l) = rw e (by (settled refusal end ks)
 pub ends : {A : Type 0} (refusal : ℕ → A) (end : A) (q : Tests) → q .noTable ≡ false → (c : Call ℕ) → Ends (checks q c) refusal end (settle (checks q c) refusal end)
 ends refusal end q e c = ends-by refusal end q e (rows q c)
 
+-- without a table every row gives 1
+first-by : {A : Type 0} (refusal : ℕ → A) (end : A) (q : Tests) → q .noTable ≡ true → {listed : List ℕ} {ks : List Check} → Row q listed ks → settle ks refusal end ≡ refusal 1
+first-by refusal end q e (begins ks more h l) = rw e
+
+pub no-table-first : {A : Type 0} (refusal : ℕ → A) (end : A) (q : Tests) → q .noTable ≡ true → (c : Call ℕ) → settle (checks q c) refusal end ≡ refusal 1
+no-table-first refusal end q e c = first-by refusal end q e (rows q c)
+
 -- two rows that find the same, each check asked only where those before it found nothing
 pub data Agree : List Check → List Check → Type 0 where
   end : Agree [] []

@@ -1,3 +1,2 @@
--- The bytes keep the cells, and every cell is in its range.
+-- The bytes keep the cells, and stay in range.
 pub mod Stored
-pub mod Ranged

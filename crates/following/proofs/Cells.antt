@@ -5,7 +5,6 @@ pub mod Ordered
 pub mod Entering
 pub mod Forking
 pub mod Joining
-pub mod Bounded
 pub mod Kept
 pub mod Answers
 pub mod Passing

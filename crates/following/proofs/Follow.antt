@@ -19,7 +19,6 @@ use Rattle.following.proofs.Cells.Kept.{Kept, fresh-kept, kept-after}
 use Rattle.following.proofs.Cells.Laid.{laid}
 use Rattle.following.proofs.Cells.Numbers.{numbers-follow}
 use Rattle.following.specs.Numbers.{NumbersFollowDays}
-use Rattle.following.proofs.Bytes.Ranged.{ranged}
 use Rattle.following.proofs.Bytes.Stored.{Stored, fresh-stored, step-stored}
 
 kept-follows : (y : Day) (m : Machine) (k : Cells) → Kept y m k → CellsFollow y k
@@ -41,7 +40,7 @@ cells-follow ss P = kept-follows (run ss) (machineFrom freshMachine ss) (cellsAf
 stored-after : (y : Day) (m : Machine) (k : Cells) (d : List ℕ) (s : Step) → accepted y s ≡ true → Kept y m k → Stored d k → Stored (stepBytes d (byNumber y s)) (stepCells k (byNumber y s))
 stored-after y m k d s e K S =
     let e′ = S .cells-are in
-    subst (λ z. Stored (stepBytes d (byNumber y s)) (stepCells z (byNumber y s))) e′ (step-stored y m d (subst (Kept y m) (sym e′) K) (S .size-is) (S .hidden) s e)
+    subst (λ z. Stored (stepBytes d (byNumber y s)) (stepCells z (byNumber y s))) e′ (step-stored y m d (subst (Kept y m) (sym e′) K) (S .lower) s e)
 
 stored-from : (ss : List Step) (y : Day) (m : Machine) (k : Cells) (d : List ℕ) → AcceptedFrom y ss → Kept y m k → Stored d k → Stored (bytesFrom y d ss) (cellsFrom y k ss)
 unfolding bytesFrom cellsFrom
@@ -61,7 +60,7 @@ bytes-follow ss P =
     let y = run ss in
     let m = machineFrom freshMachine ss in
     let K = subst (Kept y m) (sym (S .cells-are)) (kept-run ss P) in
-    record { size = S .size-is; ranged = ranged y m (bytesAfter ss) K (S .hidden); follow = kept-follows y m (cells (bytesAfter ss)) K }
+    record { size = S .lower .long; ranged = S .lower .ranged; follow = kept-follows y m (cells (bytesAfter ss)) K }
 
 pub numbers-follow-days : NumbersFollowDays
 numbers-follow-days ss P = numbers-follow (run ss) (cells (bytesAfter ss)) (bytes-follow ss P .follow)

@@ -14,12 +14,10 @@ ghost use Rattle.entries.specs.Entries.{entryAt};
 ghost use Rattle.entries.specs.Folded.{standingOf};
 ghost use Rattle.table.specs.Halves.{cellsOf, high, isTable, low};
 ghost use Rattle.table.specs.Out.{tableBytes};
-ghost use Rattle.table.specs.Calls.{noProspect, previewOut, readOn};
-ghost use Rattle.table.specs.Checks.{pairIn};
+ghost use Rattle.table.specs.Calls.{foreseen, noProspect, previewOut, standingAt};
+ghost use Rattle.table.specs.Checks.{joinIn};
 ghost use Rattle.previewing.specs.Checks.{previewCheck};
 use buffers::put::copy;
-use checks::range::RangeCheck;
-use checks::range::check_range;
 use querying::standing::tell;
 use revisions::join::join;
 use sizes::numbers::Revision;
@@ -74,12 +72,9 @@ fn standing_on(d: &[u8], t: &[u8], r: Revision, bib: u16) -> Standing
 
 // A copy of t that has been joined, d its lower half, read at a.
 fn read_on(d: &[u8], t: &[u8], a: Revision, bib: u16, gain: u16) -> Prospect
-    requires { ⌜ (length (now d) ≡ Lower.lowerBytes) × (length (now t) ≡ tableBytes) × (a .0 < revisions) ⌝ }
-    ensures { λ p. ⌜ p ≡ readOn (now (d .entry) ++ high (now (t .entry))) (a .0) bib gain ⌝ }
+    requires { ⌜ (length (now d) ≡ Lower.lowerBytes) × (inRange (now d) ≡ true) × (length (now t) ≡ tableBytes) × (a .0 < revisions) ⌝ }
+    ensures { λ p. ⌜ p ≡ foreseen (standingAt (now (d .entry) ++ high (now (t .entry))) (a .0) bib) gain ⌝ }
 {
-    let RangeCheck::Sound = check_range(d) else {
-        return refused(1);
-    };
     let standing = standing_on(d, t, a, bib);
     let told = tell(standing);
     let state = told.state;
@@ -93,8 +88,8 @@ fn read_on(d: &[u8], t: &[u8], a: Revision, bib: u16, gain: u16) -> Prospect
 
 // The end of a preview that the checks allow: b is joined into a on a copy.
 fn foresee(t: &[u8], a: Revision, b: Revision, bib: u16) -> Prospect
-    requires { ⌜ (length (now t) ≡ tableBytes) × (inRange (low (now t)) ≡ true) × (a .0 < revisions) × (b .0 < revisions) ⌝ }
-    ensures { λ p. ⌜ p ≡ readOn (joinBytes (low (now (t .entry))) (a .0) (b .0) ++ high (now (t .entry))) (a .0) bib (cellsOf (now (t .entry)) .count (b .0)) ⌝ }
+    requires { ⌜ (length (now t) ≡ tableBytes) × (inRange (low (now t)) ≡ true) × (a .0 < revisions) × (b .0 < revisions) × (0 < b .0) ⌝ }
+    ensures { λ p. ⌜ p ≡ foreseen (standingAt (joinBytes (low (now (t .entry))) (a .0) (b .0) ++ high (now (t .entry))) (a .0) bib) (cellsOf (now (t .entry)) .count (b .0)) ⌝ }
 {
     // what the join brings is b's own
     let gain = counts::own(t, b) as u16;
@@ -106,7 +101,7 @@ fn foresee(t: &[u8], a: Revision, b: Revision, bib: u16) -> Prospect
 // The checks of the join, then 5.
 fn check_preview(d: &[u8], joiner: u8, joinee: u8, bib: u16) -> PairCheck
     requires { ⌜ length (now d) ≡ Lower.lowerBytes ⌝ }
-    ensures { λ r. ⌜ (r ≡ previewCheck (now (d .entry)) joiner joinee bib) × pairIn r ⌝ }
+    ensures { λ r. ⌜ (r ≡ previewCheck (now (d .entry)) joiner joinee bib) × joinIn r ⌝ }
 {
     let found = check_join(d, joiner, joinee);
     let PairCheck::Allowed(a, b) = found else {

@@ -19,7 +19,7 @@ use Rattle.cells.specs.Words.{putWord, putHalf}
 use Rattle.cells.specs.Flags.{pack, putRow}
 use Rattle.cells.specs.Decode.{decode}
 use Rattle.lists.specs.Pool.{forkPool, joinPool}
-use Rattle.cells.specs.CellSteps.{forkCaught, forkRow, joinCaught}
+use Rattle.cells.specs.CellSteps.{counted, oneFewer, forkCaught, forkRow, joinCaught}
 use Rattle.cells.specs.Steps.{queryParts, linkParts, appendParts, putRowOf, inheritParts, forkParts, spliceParts, freshBytes, queryBytes, updateBytes, forkBytes, joinBytes}
 use Rattle.cells.proofs.Parts.{Holds, glue-split, holds-split, holds-put, holds-step, holds-wrote, sized-with, split-is, with-same}
 use Rattle.cells.proofs.Words.{putWord-length, putHalf-length}
@@ -109,17 +109,17 @@ module _ (d : List ℕ) (l : length d ≡ lowerBytes) where
       byte-wrote openedPart c v h₁ e₂ .eq ∙ rw ev
 
   pub append-done : (d₁ d₂ d₃ d₄ d₅ : List ℕ) (r u last count first : ℕ)
-      → u ≡ decode (split d) .updates → last ≡ decode (split d) .last r → count ≡ decode (split d) .count r → first ≡ cond (eqb (decode (split d) .count r) 0) u (decode (split d) .first r)
+      → u ≡ decode (split d) .updates → last ≡ decode (split d) .last r → count ≡ counted (decode (split d) .count r + 1) → first ≡ cond (eqb (decode (split d) .count r) 0) u (decode (split d) .first r)
       → d₁ ≡ glue (linkParts (split d) u last) → d₂ ≡ wrote d₁ lastPart (putWord (split d₁ lastPart) r u) → d₃ ≡ wrote d₂ firstPart (putWord (split d₂ firstPart) r first)
-      → d₄ ≡ wrote d₃ countPart (putWord (split d₃ countPart) r (count + 1)) → d₅ ≡ wrote d₄ countersPart (putWord (split d₄ countersPart) 0 (u + 1))
+      → d₄ ≡ wrote d₃ countPart (putWord (split d₃ countPart) r count) → d₅ ≡ wrote d₄ countersPart (putWord (split d₄ countersPart) 0 (u + 1))
       → d₅ ≡ glue (appendParts (split d) r)
   append-done d₁ d₂ d₃ d₄ d₅ r u last count first eu el ec ef e₁ e₂ e₃ e₄ e₅ =
       let h = holds-split d l in
       let h₁ = holds-step (λ q. linkParts q u last) h e₁ (link-sized (h .sized) u last) in
       let h₂ = word-wrote lastPart r u h₁ e₂ in
       let h₃ = word-wrote firstPart r first h₂ e₃ in
-      let h₄ = word-wrote countPart r (count + 1) h₃ e₄ in
-      word-wrote countersPart 0 (u + 1) h₄ e₅ .eq ∙ rw (add-one, add-one, ef, eu, el, ec)
+      let h₄ = word-wrote countPart r count h₃ e₄ in
+      word-wrote countersPart 0 (u + 1) h₄ e₅ .eq ∙ rw (ec, add-one, add-one, ef, eu, el)
 
   pub update-done : (d₁ d₂ : List ℕ) (c r : ℕ) → c < clients → d₁ ≡ glue (appendParts (split d) r) → d₂ ≡ queryBytes d₁ c r → d₂ ≡ updateBytes d c r
   unfolding queryBytes updateBytes
@@ -159,14 +159,14 @@ module _ (d : List ℕ) (l : length d ≡ lowerBytes) where
       let h₅ = byte-wrote queuePart i b h₄ e₅ in
       byte-wrote countersPart 2 n h₅ e₆ .eq
 
-  pub join-done : (d₁ d₂ d₃ : List ℕ) (a b m n i o : ℕ) → m ≡ decode (split d) .count a → n ≡ decode (split d) .count b → i ≡ decode (split d) .given - decode (split d) .out → o ≡ decode (split d) .out
-      → d₁ ≡ glue (spliceParts (split d) a b) → d₂ ≡ wrote d₁ countPart (putWord (split d₁ countPart) a (m + n)) → d₃ ≡ glue (retireParts (split d₂) a b i (o - 1)) → d₃ ≡ joinBytes d a b
+  pub join-done : (d₁ d₂ d₃ : List ℕ) (a b m n t i o : ℕ) → m ≡ decode (split d) .count a → n ≡ decode (split d) .count b → t ≡ counted (m + n) → i ≡ decode (split d) .given - decode (split d) .out → o ≡ oneFewer (decode (split d) .out)
+      → d₁ ≡ glue (spliceParts (split d) a b) → d₂ ≡ wrote d₁ countPart (putWord (split d₁ countPart) a t) → d₃ ≡ glue (retireParts (split d₂) a b i o) → d₃ ≡ joinBytes d a b
   unfolding joinBytes
-  join-done d₁ d₂ d₃ a b m n i o em en ei eo e₁ e₂ e₃ =
+  join-done d₁ d₂ d₃ a b m n t i o em en et ei eo e₁ e₂ e₃ =
       let h = holds-split d l in
       let h₁ = holds-step (λ q. spliceParts q a b) h e₁ (splice-sized (h .sized) a b) in
-      let h₂ = word-wrote countPart a (m + n) h₁ e₂ in
-      e₃ ∙ ap (λ q. glue (retireParts q a b i (o - 1))) (split-is h₂) ∙ rw (em, en, ei, eo)
+      let h₂ = word-wrote countPart a t h₁ e₂ in
+      e₃ ∙ ap (λ q. glue (retireParts q a b i o)) (split-is h₂) ∙ rw (et, em, en, ei, eo)
 
   -- what c inherits
   pub by-count-done : (d₁ d₂ d₃ : List ℕ) (c base : ℕ) → base ≡ decode (split d) .count 0

@@ -7,6 +7,7 @@ ghost use Rattle.cells.specs.Sizes.{lowerBytes, revisions};
 ghost use Rattle.cells.specs.Parts.{glue, split};
 ghost use Rattle.cells.specs.Decode.{cells};
 ghost use Rattle.cells.specs.Range.{inRange};
+ghost use Rattle.cells.specs.CellSteps.{oneFewer};
 ghost use Rattle.cells.specs.Steps.{joinBytes};
 ghost use Rattle.revisions.specs.Pieces.{retireParts};
 use crate::own;
@@ -28,6 +29,17 @@ fn queue_end(d: &[u8]) -> usize
     given - out
 }
 
+// One revision fewer is out, and one at least. On a day the main revision is.
+fn one_fewer(n: usize) -> usize
+    requires { ⌜ n < 256 ⌝ }
+    ensures { λ v. ⌜ (v ≡ oneFewer n) × (v < 256) ⌝ }
+{
+    if 1 < n {
+        return n - 1;
+    }
+    1
+}
+
 // The flags, b's state and place, its number in the queue, and the count of those out.
 fn retire(d: &mut [u8], a: Revision, b: Revision, place: usize, out: usize)
     requires { ⌜ (length (now d) ≡ lowerBytes) × (a .0 < revisions) × (b .0 < revisions) × (place < revisions) × (out < 256) ⌝ }
@@ -47,9 +59,9 @@ pub fn join(d: &mut [u8], a: Revision, b: Revision) -> usize
     ensures { λ n. ⌜ (n ≡ cells (now (d .entry)) .count (b .0)) × (now (d .exit) ≡ joinBytes (now (d .entry)) (a .0) (b .0)) ⌝ }
 {
     let gain = read::count(d, b);
-    let total = read::count(d, a) + gain;
+    let total = own::counted(read::count(d, a) + gain);
     let place = queue_end(d);
-    let out = read::out(d) - 1;
+    let out = one_fewer(read::out(d));
     own::splice(d, a, b);
     write::count(d, a, total);
     retire(d, a, b, place, out);

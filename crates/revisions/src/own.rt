@@ -8,10 +8,12 @@ ghost use Rattle.cells.specs.Sizes.{lowerBytes, revisions, updates};
 ghost use Rattle.cells.specs.Parts.{glue, split};
 ghost use Rattle.cells.specs.Decode.{cells};
 ghost use Rattle.cells.specs.Range.{inRange};
+ghost use Rattle.cells.specs.CellSteps.{counted};
 ghost use Rattle.cells.specs.Steps.{appendParts, linkParts, spliceParts};
 use fields::read;
 use fields::write;
 use sizes::numbers::Revision;
+use sizes::table::Table;
 
 // The link of u is v.
 pub fn link(d: &mut [u8], u: usize, v: usize)
@@ -33,6 +35,16 @@ fn first_or(d: &[u8], r: Revision, u: usize) -> usize
     read::first(d, r)
 }
 
+// A count stops at its range. On a day none would pass it.
+pub fn counted(n: usize) -> usize
+    ensures { λ v. ⌜ (v ≡ counted n) × (v < 65536) ⌝ }
+{
+    if n < Table::UPDATES {
+        return n;
+    }
+    Table::UPDATES
+}
+
 // The next update number goes to the end of r's own list. The number is the answer.
 pub fn append(d: &mut [u8], r: Revision) -> usize
     requires { ⌜ (length (now d) ≡ lowerBytes) × (inRange (now d) ≡ true) × (r .0 < revisions) × (cells (now d) .updates < updates) ⌝ }
@@ -40,12 +52,12 @@ pub fn append(d: &mut [u8], r: Revision) -> usize
 {
     let u = read::updates(d);
     let last = read::last(d, r);
-    let count = read::count(d, r);
+    let count = counted(read::count(d, r) + 1);
     let first = first_or(d, r, u);
     link(d, u, last);
     write::last(d, r, u);
     write::first(d, r, first);
-    write::count(d, r, count + 1);
+    write::count(d, r, count);
     write::updates(d, u + 1);
     u
 }

@@ -66,12 +66,3 @@ is-table t e =
 pub no-table : (t : List ℕ) → tableCheck t ≡ table.Damaged → isTable t ≡ false
 unfolding tableCheck
 no-table t e = failed (isTable t) _ _ _ (λ d. cc) e .0
-
--- the range check of a lower half
-pub in-range : (d : List ℕ) → rangeCheck d ≡ range.Sound → inRange d ≡ true
-unfolding rangeCheck
-in-range d e = held (inRange d) _ _ _ (λ h. cc) e .0
-
-pub out-of-range : (d : List ℕ) → rangeCheck d ≡ range.Damaged → inRange d ≡ false
-unfolding rangeCheck
-out-of-range d e = failed (inRange d) _ _ _ (λ h. cc) e .0

@@ -1,14 +1,20 @@
--- The halves of a table: put together from them, and each one lent.
+-- The halves of a table: put together from them, each one lent, and what makes them a table.
 use Prim.Native.Nat.{ℕ, _+_}
-use mathlib.Core.Path.{_≡_, ap}
+use mathlib.Core.Bool.{true}
+use mathlib.Core.Path.{_≡_, _∙_, ap}
 use mathlib.Core.List.{List, _++_}
 use native.Mathlib.Omega.{arith}
-use lib.ListN.{length, take, drop, length-take, length-drop}
+use lib.Dec.{eqb}
+use lib.ListN.{length, take, drop, length-append, length-take, length-drop}
 use lib.Seq.{take-at, take-all, drop-at}
+use borrow.Author.Tests.{eq-eqb, eqb-true}
 use borrow.Rule.Slice.PartMut.{midOf, putMid}
+use Rattle.lists.proofs.Cases.{and-true}
 use Rattle.cells.specs.Sizes as Lower
+use Rattle.cells.specs.Range.{inRange}
+use Rattle.cells.proofs.Stays.{Lower}
 use Rattle.entries.specs.Sizes as Upper
-use Rattle.table.specs.Halves.{low, high}
+use Rattle.table.specs.Halves.{low, high, isTable}
 use Rattle.table.specs.Out.{tableBytes}
 
 pub low-of : (a b : List ℕ) → length a ≡ Lower.lowerBytes → low (a ++ b) ≡ a
@@ -50,3 +56,15 @@ high-whole t h = to-end Lower.lowerBytes Upper.entryBytes t h
 pub upper-length : (t : List ℕ) → length t ≡ tableBytes → length (high t) ≡ Upper.entryBytes
 unfolding high
 upper-length t h = rw length-drop (omega (arith, h))
+
+-- what a table is: its length, and a lower half in range; and two halves put together
+pub lower-of : (t : List ℕ) → isTable t ≡ true → (length t ≡ tableBytes) × Lower (low t)
+unfolding isTable low
+lower-of t e =
+    let both = and-true (eqb (length t) tableBytes) (inRange (low t)) e in
+    let l = eqb-true (length t) tableBytes (both .0) in
+    (l, record { long = low-length t l; ranged = both .1 })
+
+pub table-of : (d h : List ℕ) → Lower d → length h ≡ Upper.entryBytes → isTable (d ++ h) ≡ true
+unfolding isTable
+table-of d h L e = rw (eq-eqb (length (d ++ h)) tableBytes (length-append d h ∙ omega (arith, L .long, e)), low-of d h (L .long)) (L .ranged)

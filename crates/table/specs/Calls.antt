@@ -117,11 +117,6 @@ noProspect code = record { code = code; state = Neither; value = 0; gain = 0 }
 abbrev pub foreseen : Standing → ℕ → Prospect
 foreseen s gain = record { code = 0; state = stateOf s; value = valueIn s; gain = gain }
 
--- read at n on the joined copy. A reading is no query: no client's checks are asked there. A copy that is no table any more is refused as every
--- call refuses it; no day makes one
-unfoldable pub readOn : List ℕ → ℕ → ℕ → ℕ → Prospect
-readOn copy n bib gain = settle (1 if not (isTable copy) ∷ []) noProspect (foreseen (standingAt copy n bib) gain)
-
--- "equal to joining on a copy of the table and reading there"
+-- "equal to joining on a copy of the table and reading there". A reading is no query: no client's checks are asked there
 unfoldable pub previewOut : List ℕ → ℕ → ℕ → ℕ → Prospect
-previewOut t n m bib = settle (checks (asked t) (Looks (Preview n m bib))) noProspect (readOn (joinEnd t n m .lent) n bib (joinEnd t n m .value))
+previewOut t n m bib = settle (checks (asked t) (Looks (Preview n m bib))) noProspect (foreseen (standingAt (joinEnd t n m .lent) n bib) (joinEnd t n m .value))

@@ -63,6 +63,7 @@ abbrev pub eventIn : EventCheck → Type 0
 eventIn (event.Refused k) = Unit {0}
 eventIn (event.Allowed x y) = (x .0 < clients) × (y .0 < revisions)
 
-abbrev pub pairIn : PairCheck → Type 0
-pairIn (pair.Refused k) = Unit {0}
-pairIn (pair.Allowed a b) = (a .0 < revisions) × (b .0 < revisions)
+-- 11 "joinee is box 0": a joinee is another
+abbrev pub joinIn : PairCheck → Type 0
+joinIn (pair.Refused k) = Unit {0}
+joinIn (pair.Allowed a b) = (a .0 < revisions) × (b .0 < revisions) × (0 < b .0)

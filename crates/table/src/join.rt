@@ -2,7 +2,7 @@
 ghost use mathlib.Core.Path.{_≡_};
 ghost use lib.ListN.{length};
 ghost use Rattle.cells.specs.Sizes as Lower;
-ghost use Rattle.table.specs.Checks.{joinCheck, pairIn};
+ghost use Rattle.table.specs.Checks.{joinCheck, joinIn};
 use crate::pair::PairCheck;
 use checks::busy::UseCheck;
 use checks::busy::check_use;
@@ -16,7 +16,7 @@ use checks::joined::check_joined;
 // Checks 3, 4, 7, 11: each of the joiner, then of the joinee.
 pub fn check_join(d: &[u8], joiner: u8, joinee: u8) -> PairCheck
     requires { ⌜ length (now d) ≡ Lower.lowerBytes ⌝ }
-    ensures { λ r. ⌜ (r ≡ joinCheck (now (d .entry)) joiner joinee) × pairIn r ⌝ }
+    ensures { λ r. ⌜ (r ≡ joinCheck (now (d .entry)) joiner joinee) × joinIn r ⌝ }
 {
     let GivenCheck::Given(a) = check_given(d, joiner) else {
         return PairCheck::Refused(3);

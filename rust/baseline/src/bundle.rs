@@ -5,7 +5,7 @@ use calls::Code;
 use crate::calls::LISTED;
 use crate::checks::refuse;
 use crate::entry::Entry;
-use crate::numbers::{Bib, Client, LOG};
+use crate::numbers::{Bib, Client};
 use crate::range::checked;
 use crate::update::Kind;
 
@@ -27,8 +27,6 @@ pub fn bundle(t: &mut [u8], client: u8, revision: u8, records: &[u8]) -> Result<
             t.check_may_enter(client, revision)?;
         }
         t.check_log_after(place)?;
-        // On cells that no day made, the count may leave its range: what comes next finds no table.
-        refuse(usize::from(t.count(revision)) + place >= LOG, Code::NoTable)?;
     }
 
     let first = t.updates();

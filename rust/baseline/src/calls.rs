@@ -107,8 +107,9 @@ pub fn preview(t: &mut [u8], joiner: u8, joinee: u8, bib: u16) -> Result<Preview
     let bib = Bib::checked(bib)?;
 
     let mut copy = *t.0;
-    let gain = Table(&mut copy).join(joiner, joinee);
-    Ok(Preview { standing: checked(&mut copy)?.standing(joiner, bib), gain })
+    let mut copy = Table(&mut copy);
+    let gain = copy.join(joiner, joinee);
+    Ok(Preview { standing: copy.standing(joiner, bib), gain })
 }
 
 /// Writes the visible updates of a revision to the sheet; how many. The table stays as it is.

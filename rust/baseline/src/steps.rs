@@ -7,6 +7,11 @@ use crate::order::insert;
 use crate::parts::{CLOSED, IS_JOINED, IS_OUT};
 use crate::table::Table;
 
+/// A count stops at its range. On a day none would pass it.
+fn counted(n: u16) -> u16 {
+    n.min(LOG as u16)
+}
+
 impl Table<'_> {
     /// An event: the transaction is open, and its client has caught up with this revision alone.
     pub(crate) fn enter(&mut self, c: Client, r: Revision) {
@@ -23,7 +28,7 @@ impl Table<'_> {
         if count == 0 {
             self.set_first(r, u);
         }
-        self.set_count(r, count + 1);
+        self.set_count(r, counted(count + 1));
         self.set_updates(u + 1);
         self.set_entry(u, entry.to_bytes());
         u
@@ -95,7 +100,7 @@ impl Table<'_> {
                 self.set_first(joiner, first);
             }
         }
-        self.set_count(joiner, before + gained);
+        self.set_count(joiner, counted(before + gained));
         self.set_seen(joiner, self.seen(joiner).or(self.seen(joinee)));
         for client in (0..CLIENTS as u8).map(Client) {
             let marks = self.caught(client);
@@ -109,7 +114,8 @@ impl Table<'_> {
         }
         let place = usize::from(self.given().saturating_sub(self.out()));
         self.queue_mut()[place] = joinee.0;
-        self.set_out(self.out() - 1);
+        // One at least: on a day the main revision is out.
+        self.set_out((self.out() - 1).max(1));
         gained
     }
 }

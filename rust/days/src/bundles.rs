@@ -46,7 +46,6 @@ fn singly<D>(
     if !rest.is_empty() || !(1..=BUNDLE).contains(&whole.len()) {
         return Answer::refused(Code::WrongBundle);
     }
-    // On a table that no day made, the last update may have left no table for the yield.
     let all = updates_of(client, revision, records).chain([Call::Yield { client }]);
     let made = all.map(|call| match make(day, &call) {
         Answer { code: Code::Accepted, value, .. } => Ok(value),

@@ -26,15 +26,11 @@ pub fn fault_of_previews<D: Clone + PartialEq>(
             } else {
                 let listed = listed(&mut copy, joiner, bib, &make);
                 let told = |read: Answer| Answer { gain: joined.value, ..read };
-                if listed.code == Code::Accepted {
-                    [listed]
-                        .into_iter()
-                        .chain(queried(&mut copy, joiner, bib, &make))
-                        .map(told)
-                        .collect()
-                } else {
-                    vec![listed]
-                }
+                [listed]
+                    .into_iter()
+                    .chain(queried(&mut copy, joiner, bib, &make))
+                    .map(told)
+                    .collect()
             };
             Some((right, before))
         }

@@ -16,10 +16,9 @@ use Rattle.plain.specs.Record.{PlainDay, pathResult}
 use Rattle.plain.specs.Answers as Plain
 use Rattle.plain.specs.Answers.{called, ending, joined}
 use Rattle.plain.proofs.Ends.{Passes, join-passes, preview-passes}
-use Rattle.table.specs.Halves.{isTable}
-use Rattle.table.specs.Calls.{joinEnd, noProspect, previewOut, readOn, standingAt}
+use Rattle.table.specs.Calls.{foreseen, joinEnd, noProspect, previewOut, standingAt}
 use Rattle.consistency.specs.Table.{prospectReply}
-use Rattle.consistency.proofs.Table.Stands.{Stands, is-table}
+use Rattle.consistency.proofs.Table.Stands.{Stands}
 use Rattle.consistency.proofs.Table.Rows.{agree}
 use Rattle.consistency.proofs.Table.Calls.{OnTable, Same, join-end, same-answer}
 use Rattle.consistency.proofs.Table.Values.{same-reading}
@@ -61,16 +60,12 @@ module _ (p : PlainDay) (t : List ℕ) (S : Stands p t) (n m : ℕ) (P : Passes 
   unfolding after
   copy-reads bib = same-reading q copy (as-joined .stands) n given out bib ∙ ap (λ z. pathResult q z bib) (ap (q .day .terminal) same-bearer ∙ changed-same (p .day .terminal) a (length (p .day .diagram)))
 
-  pub copy-table : isTable copy ≡ true
-  copy-table = is-table q copy (as-joined .stands)
-
 module _ (p : PlainDay) (t : List ℕ) (S : Stands p t) where
-  preview-end : (n m bib : ℕ) → Passes p (Looks (Preview n m bib)) → Same [] (record { reply = prospectReply (readOn (joinEnd t n m .lent) n bib (joinEnd t n m .value)); table = t }) (ending p (Looks (Preview n m bib)))
-  unfolding readOn
+  preview-end : (n m bib : ℕ) → Passes p (Looks (Preview n m bib)) → Same [] (record { reply = prospectReply (foreseen (standingAt (joinEnd t n m .lent) n bib) (joinEnd t n m .value)); table = t }) (ending p (Looks (Preview n m bib)))
   preview-end n m bib P =
       let J = preview-passes p n m bib P .0 in
       let s = copy-reads p t S n m J bib in
-      rw (copy-table p t S n m J) (record { reply = same-answer 0 0 (ap stateOf s) (ap valueIn s) (ap (λ r. r .value) (as-joined p t S n m J .reply)) refl; stands = S })
+      record { reply = same-answer 0 0 (ap stateOf s) (ap valueIn s) (ap (λ r. r .value) (as-joined p t S n m J .reply)) refl; stands = S }
 
   pub preview-same : (n m bib : ℕ) → Same [] (record { reply = prospectReply (previewOut t n m bib); table = t }) (called p (Looks (Preview n m bib)))
   unfolding called previewOut

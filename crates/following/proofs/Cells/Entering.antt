@@ -16,9 +16,10 @@ use Rattle.diagram.specs.Steps.{close, enter, yield}
 use Rattle.machine.specs.Machine.{Machine, enterOn, yieldOn}
 use Rattle.cells.specs.Sizes.{clients, main, updates}
 use Rattle.cells.specs.Cells.{Cells, chain, own}
-use Rattle.cells.specs.CellSteps.{closeCells, queryCells, updateCells}
+use Rattle.cells.specs.CellSteps.{closeCells, counted, queryCells, updateCells}
 use Rattle.cells.proofs.Chain.{kept-chain}
-use Rattle.following.proofs.Cells.Laid.{Laid, same-number}
+use Rattle.cells.proofs.Stops.{counted-is}
+use Rattle.following.proofs.Cells.Laid.{Laid, own-few, same-number}
 use Rattle.following.proofs.Cells.Represents.{Represents, count-is, openCell}
 
 module _ (y : Day) (m : Machine) (k : Cells) (h : Represents y m k) where
@@ -111,12 +112,16 @@ module _ (y : Day) (m : Machine) (k : Cells) (h : Represents y m k) where
       fresh : (x : ℕ) → x ∈ m .layout → m .updates ∈ own k (numberOf y x) → ⊥
       fresh x j e = let l = L .own-low x j (m .updates) (rw (h .own-is x j) at e) in omega arith
 
+      -- the count does not stop: the list is no longer than the log, which has room
+      more-is : counted (suc (k .count n)) ≡ suc (k .count n)
+      more-is = counted-is (suc (k .count n)) (omega (arith, own-few y m L r i, count-is y m k h r i, h .updates-is))
+
       update-own : (x : ℕ) → x ∈ m .layout → own (updateCells k c n) (numberOf y x) ≡ changed (m .own) r (m .own r ++ (m .updates ∷ [])) x
       unfolding chain
       update-own x j =
           rw (h .updates-is, same-number y m L x r j i)
           (cases (eqb x r)
-          (λ e. rw (e, eq-eqb (m .updates) (m .updates) refl, kept-chain (k .link) (m .updates) (k .last n) (k .last n) (k .count n) (fresh r i), h .own-is r i))
+          (λ e. rw (e, more-is, eq-eqb (m .updates) (m .updates) refl, kept-chain (k .link) (m .updates) (k .last n) (k .last n) (k .count n) (fresh r i), h .own-is r i))
           (λ e. rw (e, kept-chain (k .link) (m .updates) (k .last n) (k .last (numberOf y x)) (k .count (numberOf y x)) (fresh x j), h .own-is x j)))
 
       update-first : (x : ℕ) → x ∈ m .layout → (f : ℕ) (l : List ℕ) → changed (m .own) r (m .own r ++ (m .updates ∷ [])) x ≡ f ∷ l → updateCells k c n .first (numberOf y x) ≡ f

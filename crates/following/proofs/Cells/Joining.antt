@@ -1,18 +1,19 @@
 -- A join: the cells follow.
-use Prim.Native.Nat.{_-_, _<_, suc, zero, ℕ}
+use Prim.Native.Nat.{_+_, _-_, _≤_, _<_, suc, zero, ℕ}
 use mathlib.Core.Path.{_∙_, _≡_, ap, refl, sym}
 use mathlib.Core.Option.{Option, none, some}
 use mathlib.Core.List.{List, List·Memᴰ·head, List·Nodup, Memᴰ·cast, [], _++_, _∷_, append-nil}
 use native.Mathlib.Nat.{add-zero}
 use native.Mathlib.Omega.{arith}
 use lib.Dec.{eqb}
-use lib.ListN.{length-set, take}
+use lib.ListN.{length, length-append, length-set}
 use lib.Seq.{length-take-le}
 use borrow.Author.Tests.{eq-eqb, eqb-false, eqb-true, ne-eqb}
 use Rattle.lists.specs.Lists.{_∈_, named}
 use Rattle.lists.specs.Arranged.{remove}
 use Rattle.lists.proofs.Blocks.{flatBack-nodup, flatBack-one}
 use Rattle.lists.proofs.Cases.{cases}
+use Rattle.lists.proofs.Changed.{changed-same}
 use Rattle.lists.proofs.Grown.{first-append, grown-longer, grown-take}
 use Rattle.lists.proofs.Places.{remove-back, remove-gone, remove-keep}
 use Rattle.lists.proofs.Renamed.{named-in, named-remove}
@@ -22,15 +23,16 @@ use Rattle.diagram.specs.Steps.{joinInto}
 use Rattle.diagram.proofs.Days.Moves.{CanJoin}
 use Rattle.diagram.proofs.Days.Naming.{join-count, meant-number}
 use Rattle.machine.specs.Machine.{Machine, joinOn}
-use Rattle.cells.specs.Sizes.{clients, main, revisions}
-use Rattle.cells.specs.Cells.{Cells, chain, own}
-use Rattle.cells.specs.CellSteps.{joinCells}
+use Rattle.cells.specs.Sizes.{clients, main, revisions, updates}
+use Rattle.cells.specs.Cells.{Cells, chain, outs, own}
+use Rattle.cells.specs.CellSteps.{counted, joinCells}
 use Rattle.cells.proofs.Chain.{chain-first, kept-chain, splice, walk}
-use Rattle.cells.proofs.Places.{join-freed, join-outs, remove-length}
-use Rattle.following.proofs.Cells.Laid.{Laid, apart, same-number}
+use Rattle.cells.proofs.Places.{join-freed, join-outs, remove-length, two-out}
+use Rattle.cells.proofs.Stops.{counted-is, fewer-is}
+use Rattle.following.proofs.Cells.Laid.{Laid, apart, own-few, same-number}
 use Rattle.following.proofs.Cells.Represents.{Represents, all-given, count-is, given-few, stateCell}
 
-module _ (y : Day) (m : Machine) (k : Cells) (h : Represents y m k) (L : Laid y m) (a b : ℕ) (i : a ∈ m .layout) (j : b ∈ m .layout) (H : CanJoin y a b) where
+module _ (y : Day) (m : Machine) (k : Cells) (h : Represents y m k) (L : Laid y m) (a b : ℕ) (i : a ∈ m .layout) (j : b ∈ m .layout) (H : CanJoin y a b) (L′ : Laid (joinInto y a b) (joinOn m a b)) where
   abbrev na : ℕ
   na = numberOf y a
 
@@ -52,11 +54,27 @@ module _ (y : Day) (m : Machine) (k : Cells) (h : Represents y m k) (L : Laid y 
   not-b : (x : ℕ) → x ∈ m′ .layout → x ≡ b → ⊥
   not-b x o e = remove-gone b (m .layout) (L .lone) (Memᴰ·cast (sym e) o)
 
-  join-layout : take (k .out - 1) (k′ .layout) ≡ named (numberOf y) (remove b (m .layout))
+  -- the counts do not stop: both are out, and no list is longer than the log
+  two : 1 < k .out
+  two = two-out k na nb (there a i) (there b j) (λ e. H .not-self (sym (apart y m L a b i j e)))
+    where
+      there : (x : ℕ) → x ∈ m .layout → numberOf y x ∈ outs k
+      there x o = rw (h .layout-is) (named-in (numberOf y) (m .layout) x o)
+
+  sum-is : counted (k .count na + k .count nb) ≡ k .count na + k .count nb
+  sum-is = counted-is (k .count na + k .count nb) few
+    where
+      few : k .count na + k .count nb ≤ updates
+      few =
+          let l = own-few y′ m′ L′ a (remove-keep b a (m .layout) (λ q. H .not-self (sym q)) i) in
+          let e = ap length (changed-same (m .own) a (m .own a ++ m .own b)) ∙ length-append (m .own a) (m .own b) in
+          omega (arith, l, e, count-is y m k h a i, count-is y m k h b j, h .updates-is, h .updates-few)
+
+  join-layout : outs k′ ≡ named (numberOf y) (remove b (m .layout))
   join-layout =
       let o = all-given y m k h L in
       let g = given-few y m k h L in
-      join-outs k na nb (h .places) (omega arith) (rw (h .layout-is) (named-in (numberOf y) (m .layout) b j)) ∙ ap (remove nb) (h .layout-is)
+      join-outs k na nb (h .places) two (omega arith) (rw (h .layout-is) (named-in (numberOf y) (m .layout) b j)) ∙ ap (remove nb) (h .layout-is)
       ∙ sym (named-remove (numberOf y) b (m .layout) (λ x o. apart y m L x b o j))
 
   -- a number that means another revision than b keeps its state
@@ -101,13 +119,13 @@ module _ (y : Day) (m : Machine) (k : Cells) (h : Represents y m k) (L : Laid y 
         rw (ne-eqb (k .count nb) 0 (λ z. omega arith))
         (rw (same-number y m L x a (was x o) i)
         (cases (eqb x a)
-        (λ q. rw (q, b-first, e) (splice (k .link) (k .last na) (k .count na) (k .last nb) n b-once (b-apart a i (λ z. H .not-self (sym z))) ∙ rw (b-own, h .own-is a i)))
+        (λ q. rw (q, sum-is, b-first, e) (splice (k .link) (k .last na) (k .count na) (k .last nb) n b-once (b-apart a i (λ z. H .not-self (sym z))) ∙ rw (b-own, h .own-is a i)))
         (λ q. rw (q, b-first) (kept-chain (k .link) w (k .last na) (k .last (numberOf y x)) (k .count (numberOf y x)) (b-apart x (was x o) (not-b x o)) ∙ h .own-is x (was x o)))))
 
   own-none : k .count nb ≡ 0 → (x : ℕ) → x ∈ m′ .layout → own k′ (numberOf y x) ≡ m′ .own x
   own-none e x o =
       rw (eq-eqb (k .count nb) 0 e, same-number y m L x a (was x o) i)
-      (cases (eqb x a) (λ q. rw (q, eqb-true x a q, e, add-zero, b-none e, append-nil) (h .own-is a i)) (λ q. rw q (h .own-is x (was x o))))
+      (cases (eqb x a) (λ q. rw (q, sum-is, eqb-true x a q, e, add-zero, b-none e, append-nil) (h .own-is a i)) (λ q. rw q (h .own-is x (was x o))))
 
   join-own : (x : ℕ) → x ∈ m′ .layout → own k′ (numberOf y x) ≡ m′ .own x
   join-own x o = by (k .count nb) refl
@@ -146,11 +164,11 @@ module _ (y : Day) (m : Machine) (k : Cells) (h : Represents y m k) (L : Laid y 
       record {
         layout-is = join-layout;
         places = let p = h .places in let q = remove-length nb (k .layout) in length-take-le revisions (remove nb (k .layout) ++ (0 ∷ [])) (omega arith);
-        out-is = omega arith;
+        out-is = fewer-is (k .out) two ∙ omega arith;
         main-out = remove-keep b main (m .layout) (λ e. H .not-main (sym e)) (h .main-out);
         main-number = h .main-number;
         given-is = h .given-is;
-        freed-is = join-freed k na nb (h .queue-places) (omega arith) given few ∙ ap (λ l. l ++ (nb ∷ [])) (h .freed-is);
+        freed-is = join-freed k na nb (h .queue-places) two given few ∙ ap (λ l. l ++ (nb ∷ [])) (h .freed-is);
         queue-places = length-set (k .queue) (k .given - k .out) nb ∙ h .queue-places;
         state-is = join-state;
         own-is = join-own;

@@ -9,14 +9,13 @@ use lib.ListN.{length-replicate}
 use borrow.Author.Tests.{eqb-false, eqb-true, lt-ltb, ltb-true, ne-eqb, not-false, not-true}
 use Rattle.lists.specs.Lists.{_∈_}
 use Rattle.lists.proofs.Cases.{and-true, cases}
-use Rattle.lists.proofs.Places.{remove-keep}
 use Rattle.diagram.specs.Sizes.{revisionLimit, updateLimit}
 use Rattle.diagram.specs.Numbering.{next}
 use Rattle.diagram.specs.Day.{Day, IsOut, fresh, numberOf}
 use Rattle.diagram.proofs.Days.Found.{found}
 use Rattle.diagram.specs.Checks.{busyByOther, logFull, openElsewhere, stale, unknownClient}
-use Rattle.machine.specs.Machine.{Machine, enterOn, freshMachine, joinOn, machineAfter}
-use Rattle.diagram.specs.Steps.{Event, Fork, Join, Step, Yield, after, enter, joinInto}
+use Rattle.machine.specs.Machine.{Machine, freshMachine, machineAfter}
+use Rattle.diagram.specs.Steps.{Event, Fork, Join, Step, Yield, after}
 use Rattle.diagram.specs.Accepted.{accepted, noneOf, notGiven}
 use Rattle.diagram.proofs.Days.Moves.{CanFork, can-enter, can-fork, can-join, step-moves}
 use Rattle.diagram.proofs.Days.Naming.{Named, named-fresh, named-moves, next-apart, next-given}
@@ -26,18 +25,16 @@ use Rattle.cells.specs.Sizes.{clients, main, revisions, updates}
 use Rattle.cells.specs.Cells.{Cells, chain, nextNumber}
 use Rattle.cells.specs.CellSteps.{freshCells}
 use Rattle.following.specs.Reached.{byNumber, stepCells}
-use Rattle.following.proofs.Cells.Bounded.{Bounded, close-bounded, fork-bounded, fresh-bounded, join-bounded, query-bounded, update-bounded}
 use Rattle.following.proofs.Cells.Entering.{queries, updates-on, yields}
 use Rattle.following.proofs.Cells.Forking.{forks}
 use Rattle.following.proofs.Cells.Joining.{joins}
-use Rattle.following.proofs.Cells.Laid.{Laid, apart, laid, number-low}
+use Rattle.following.proofs.Cells.Laid.{Laid, apart, laid}
 use Rattle.following.proofs.Cells.Represents.{Represents, number-is, out-low}
 
 pub record Kept (y : Day) (m : Machine) (k : Cells) : Type 0 where
   pub agree : Agree y m
   pub named : Named y
   pub represents : Represents y m k
-  pub bounded : Bounded k
 
 fresh-represents : Represents fresh freshMachine freshCells
 unfolding chain found
@@ -64,7 +61,7 @@ fresh-represents = record {
 }
 
 pub fresh-kept : Kept fresh freshMachine freshCells
-fresh-kept = record { agree = agree-fresh; named = named-fresh; represents = fresh-represents; bounded = fresh-bounded }
+fresh-kept = record { agree = agree-fresh; named = named-fresh; represents = fresh-represents }
 
 -- where no check has found anything, the last has not
 last-quiet : (bs : List Bool) (b : Bool) → noneOf (bs ++ (b ∷ [])) ≡ true → b ≡ false
@@ -93,9 +90,6 @@ module _ (y : Day) (m : Machine) (k : Cells) (K : Kept y m k) where
       let e : numberOf y r ≡ main → ⊥ = λ q. d (apart y m L r main (there r o) (h .main-out) (q ∙ sym (h .main-number))) in
       omega arith
 
-  pub some-given : 0 < k .given
-  some-given = let a = number-low y m L main (h .main-out) in let b = h .given-is in omega arith
-
   -- an update is accepted only if the log has room; a fork gives a number that is not the main revision's
   pub log-room : (c r : ℕ) → accepted y (Event c r true) ≡ true → k .updates < updates
   unfolding accepted logFull updateLimit
@@ -117,28 +111,16 @@ module _ (y : Day) (m : Machine) (k : Cells) (K : Kept y m k) where
     pub next-some : nextNumber k ≡ 0 → ⊥
     next-some z = next-apart y (K .named) r C main (L .out main (h .main-out)) (h .main-number ∙ sym z ∙ next-is)
 
-  represents-after : (s : Step) → accepted y s ≡ true → Represents (after y s) (machineAfter m s) (stepCells k (byNumber y s))
+  represents-after : (s : Step) → accepted y s ≡ true → Laid (after y s) (machineAfter m s) → Represents (after y s) (machineAfter m s) (stepCells k (byNumber y s))
   unfolding stepCells machineAfter after
-  represents-after (Event c r true) e = updates-on y m k h L c r (there r (can-enter y c r true e .out)) (log-room c r e)
-  represents-after (Event c r false) e = queries y m k h L c r (there r (can-enter y c r false e .out))
-  represents-after (Yield c) e = yields y m k h c (y .openBy c)
-  represents-after (Fork r) e = forks y m k h L r (there r (can-fork y r e .out)) (can-fork y r e)
-  represents-after (Join a b) e = let j = can-join y a b e in joins y m k h L a b (there a (j .out-a)) (there b (j .out-b)) j
-
-  bounded-after : (s : Step) → accepted y s ≡ true → Laid (after y s) (machineAfter m s) → Represents (after y s) (machineAfter m s) (stepCells k (byNumber y s)) → Bounded (stepCells k (byNumber y s))
-  unfolding stepCells machineAfter after
-  bounded-after (Event c r true) e L′ h′ = update-bounded k (K .bounded) (enter y c r true) (enterOn m c r true) L′ c r h′ (there r (can-enter y c r true e .out)) (log-room c r e)
-  bounded-after (Event c r false) e L′ h′ = query-bounded k (K .bounded) c (numberOf y r)
-  bounded-after (Yield c) e L′ h′ = close-bounded k (K .bounded) c
-  bounded-after (Fork r) e L′ h′ = fork-bounded k (K .bounded) (numberOf y r) (nextNumber k) (next-low r e)
-  bounded-after (Join a b) e L′ h′ =
-      let j = can-join y a b e in
-      join-bounded k (K .bounded) (joinInto y a b) (joinOn m a b) L′ a (numberOf y b) h′ (remove-keep b a (m .layout) (λ q. j .not-self (sym q)) (there a (j .out-a)))
-      (not-main b (j .out-b) (j .not-main)) (low b (j .out-b))
+  represents-after (Event c r true) e L′ = updates-on y m k h L c r (there r (can-enter y c r true e .out)) (log-room c r e)
+  represents-after (Event c r false) e L′ = queries y m k h L c r (there r (can-enter y c r false e .out))
+  represents-after (Yield c) e L′ = yields y m k h c (y .openBy c)
+  represents-after (Fork r) e L′ = forks y m k h L r (there r (can-fork y r e .out)) (can-fork y r e)
+  represents-after (Join a b) e L′ = let j = can-join y a b e in joins y m k h L a b (there a (j .out-a)) (there b (j .out-b)) j L′
 
   pub kept-after : (s : Step) → accepted y s ≡ true → Kept (after y s) (machineAfter m s) (stepCells k (byNumber y s))
   kept-after s e =
       let A′ = agree-after y m s e A in
       let N′ = named-moves y (K .named) (after y s) (step-moves y s e) in
-      let h′ = represents-after s e in
-      record { agree = A′; named = N′; represents = h′; bounded = bounded-after s e (laid (after y s) (machineAfter m s) A′ N′) h′ }
+      record { agree = A′; named = N′; represents = represents-after s e (laid (after y s) (machineAfter m s) A′ N′) }

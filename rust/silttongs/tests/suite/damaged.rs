@@ -1,5 +1,5 @@
 //! Buffers that no day made: every call returns, a refusal changes no byte of table and sheet, two
-//! runs give the same, and code 1 is given exactly if docs/CELLS.md says so.
+//! runs give the same, code 1 is given exactly if docs/CELLS.md says so, and a table stays one.
 
 use std::collections::BTreeMap;
 
@@ -17,7 +17,10 @@ use super::given::{
 const BUFFERS: u64 = 8_000;
 /// How many calls are made on each.
 const CALLS: usize = 16;
-/// The cell that says how many numbers were given out.
+/// The cells that say how many updates revision 0 has, how many revisions are out, and how many
+/// numbers were given out.
+const COUNT: usize = 39_424;
+const OUT: usize = 39_826;
 const GIVEN: usize = 39_827;
 
 /// The 799 bytes that docs/CELLS.md names.
@@ -58,6 +61,29 @@ fn each_cell_at_its_limits() {
             assert_eq!(given.answer, right, "{value} in {cell:?}");
         }
     }
+}
+
+/// Two own lists as long as the log, and one revision out, which is joined: the counts stop at their
+/// ranges, and every call leaves a table.
+#[test]
+fn counts_stop_at_their_range() {
+    let cells = cells();
+    let mut t = fresh_bytes();
+    let full = 4_096_u16.to_le_bytes();
+    let mut made = |call: Call| {
+        let given =
+            judged(&cells, &mut t, &call).unwrap_or_else(|fault| panic!("`{call}`: {fault}"));
+        assert_eq!(given.answer.code, Code::Accepted, "`{call}`");
+        // The counts of revisions 0 and 1, and of those out.
+        t[COUNT..COUNT + 4].copy_from_slice(&[full, full].concat());
+        t[OUT] = 1;
+    };
+    let record = Line { kind: 1, client: 0, bib: 7, v: 1, number: 0 }.to_bytes();
+    made(Call::Fork { revision: 0 });
+    made(Call::Update { client: 0, revision: 0, kind: 1, bib: 7, v: 1 });
+    made(Call::Bundle { client: 0, revision: 0, records: record.repeat(BUNDLE) });
+    made(Call::Preview { joiner: 0, joinee: 1, bib: 7 });
+    made(Call::Join { joiner: 0, joinee: 1 });
 }
 
 /// Every other byte is in range, whatever it is.
@@ -188,15 +214,16 @@ fn judged(cells: &[Cell], t: &mut Vec<u8>, call: &Call) -> Result<Given, String>
     }
     let code = given.answer.code;
     let table = is_table(cells, &before);
-    // An entry of a bundle, or the join of a preview, may leave a cell out of its range, and what comes
-    // next finds no table.
+    if (code == Code::NoTable) == table {
+        return Err(format!("code {code}, against docs/CELLS.md"));
+    }
+    if table && !is_table(cells, t) {
+        return Err("it left no table".to_string());
+    }
     let one = std::slice::from_ref(call);
     let fault = match call {
         Call::Bundle { .. } if table => fault_of_bundles(before.clone(), one, answered),
         Call::Preview { .. } if table => fault_of_previews(before.clone(), one, answered),
-        _ if (code == Code::NoTable) == table => {
-            Some(format!("code {code}, against docs/CELLS.md"))
-        }
         _ => None,
     };
     if let Some(fault) = fault {

@@ -1,4 +1,4 @@
--- `bundling::bundle::check_fit` meets its contract: 1, 5 and 9 in their order. Assumes nothing.
+-- `bundling::bundle::check_fit` meets its contract: 5 and 9 in their order. Assumes nothing.
 use mathlib.Core.Path.{sym, _∙_}
 use borrow.Author.Needs.{needs}
 use Rattle.table.specs.Found.{onKind}
@@ -8,34 +8,22 @@ use Rattle.bundling.proofs.bundle.check_fit.Statement.{statement}
 use Rattle.bundling.proofs.bundle.check_fit.Tie as tie
 
 returns : tie.Need-returns
-unfolding fitCheck
-returns c =
-    let h = c .enum-told2 .given .1 in
-    h ∙ rw (sym (c .before .before .check-own .ensures) ∙ h)
+unfolding fitCheck onKind
+returns c = rw (sym (c .before .before .check-entry .ensures) ∙ c .enum-told .given .1)
 
 returns-2 : tie.Need-returns-2
 unfolding fitCheck onKind
 returns-2 c =
-    let o = c .before .before .before in
-    rw (sym (o .before .before .check-own .ensures) ∙ o .enum-told .given .1, sym (c .before .before .check-entry .ensures) ∙ c .enum-told3 .given .1)
+    let k = c .before .before .before in
+    let e = sym (k .before .before .before .check-entry .ensures) ∙ k .before .k .given .1 in
+    rw (e, room-told _ .fails (sym (c .before .before .check-room .ensures) ∙ c .enum-told3 .given .1))
 
 returns-3 : tie.Need-returns-3
 unfolding fitCheck onKind
 returns-3 c =
     let k = c .before .before .before in
-    let o = k .before .before .before .before in
-    let e = sym (o .before .before .check-own .ensures) ∙ o .enum-told .given .1 in
-    let f = sym (k .before .before .before .check-entry .ensures) ∙ k .before .k .given .1 in
-    rw (e, f, room-told _ .fails (sym (c .before .before .check-room .ensures) ∙ c .enum-told5 .given .1))
-
-returns-4 : tie.Need-returns-4
-unfolding fitCheck onKind
-returns-4 c =
-    let k = c .before .before .before in
-    let o = k .before .before .before .before in
-    let e = sym (o .before .before .check-own .ensures) ∙ o .enum-told .given .1 in
-    let f = sym (k .before .before .before .check-entry .ensures) ∙ k .before .k .given .1 in
-    rw (e, f, room-told _ .holds (sym (c .before .before .check-room .ensures) ∙ c .enum-told4 .given .1))
+    let e = sym (k .before .before .before .check-entry .ensures) ∙ k .before .k .given .1 in
+    rw (e, room-told _ .holds (sym (c .before .before .check-room .ensures) ∙ c .enum-told2 .given .1))
 
 pub check-fit-spec : {M : Type 1} → statement M
 check-fit-spec = tie.close (tie.spec
@@ -47,8 +35,4 @@ check-fit-spec = tie.close (tie.spec
     (λ c. search needs)
     (λ c. search needs)
     returns-2
-    (λ c κs. search needs)
-    (λ c. search needs)
-    (λ c. search needs)
-    returns-3
-    returns-4)
+    returns-3)

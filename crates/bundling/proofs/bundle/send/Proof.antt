@@ -8,53 +8,42 @@ use Rattle.cells.specs.Sizes.{updates}
 use Rattle.cells.specs.Steps.{closeBytes}
 use Rattle.table.specs.Halves.{high, low}
 use Rattle.bundling.specs.Bundles.{fitCode}
-use Rattle.bundling.proofs.Going.{client-in, few-own, few-taken, revision-in}
+use Rattle.bundling.proofs.Going.{client-in, few-taken}
 use Rattle.bundling.proofs.Records.{same-check}
 use Rattle.bundling.proofs.Sent.{settle-fits, settle-refused}
 use Rattle.bundling.proofs.bundle.send.Statement.{statement}
 use Rattle.bundling.proofs.bundle.send.Tie as tie
 
-own-requires : tie.Need-own-requires
-own-requires c κs =
-    let start = c .before .before .before .before .before in
-    let s = start .args in
-    (start .pre .1, revision-in (s .t .now) (s .c .0) (s .r .0) (start .pre .0))
-
 check-sent-requires : tie.Need-check-sent-requires
 check-sent-requires c κs =
-    let at-taken = c .before .before in
-    let start = at-taken .before .before .before .before in
+    let start = c .before .before .before .before in
     let s = start .args in
-    let G = start .pre .0 in
-    (start .pre .2, start .pre .3, subst (λ k. k ≤ updates) (sym (at-taken .taken .ensures .0)) (few-taken (s .t .now) (s .c .0) (s .r .0) G), subst (λ k. k ≤ updates) (sym (c .own .ensures .0)) (few-own (s .t .now) (s .c .0) (s .r .0) G))
+    (start .pre .2, start .pre .3, subst (λ k. k ≤ updates) (sym (c .taken .ensures .0)) (few-taken (s .t .now) (s .c .0) (s .r .0) (start .pre .0)))
 
 returns : tie.Need-returns
 returns c =
     let at-check = c .before .before .before in
-    let at-own = at-check .before in
-    let at-taken = at-own .before .before in
+    let at-taken = at-check .before in
     let start = at-taken .before .before .before .before in
     let s = start .args in
     let g = c .before .enum-told2 .given in
     rw (c .code .ensures ∙ ap fitCode (g .1)) (settle-refused (s .t .now) (s .c .0) (s .r .0) (start .pre .0) (entriesFrom (s .b .now) 0 (s .n)) (at-check .check-sent .result)
-    (same-check (entriesFrom (s .b .now) 0 (s .n)) _ _ _ _ _ (at-taken .taken .ensures .0) (at-own .own .ensures .0) (at-check .check-sent .ensures))
+    (same-check (entriesFrom (s .b .now) 0 (s .n)) _ _ _ (at-taken .taken .ensures .0) (at-check .check-sent .ensures))
     (g .0 .0) (g .1))
 
 enter-all-requires : tie.Need-enter-all-requires
 enter-all-requires c κs =
     let at-check = c .before .before .before in
-    let at-own = at-check .before in
-    let at-taken = at-own .before .before in
+    let at-taken = at-check .before in
     let start = at-taken .before .before .before .before in
     let s = start .args in
-    (start .pre .0, start .pre .2, start .pre .3, sym (same-check (entriesFrom (s .b .now) 0 (s .n)) _ _ _ _ _ (at-taken .taken .ensures .0) (at-own .own .ensures .0) (at-check .check-sent .ensures)) ∙ c .before .enum-told .given .1)
+    (start .pre .0, start .pre .2, start .pre .3, sym (same-check (entriesFrom (s .b .now) 0 (s .n)) _ _ _ (at-taken .taken .ensures .0) (at-check .check-sent .ensures)) ∙ c .before .enum-told .given .1)
 
 close-requires : tie.Need-close-requires
 close-requires c κs =
     let at-enter = c .before .before .before in
     let at-check = at-enter .before .before .before .before in
-    let at-taken = at-check .before .before .before in
-    let start = at-taken .before .before .before .before in
+    let start = at-check .before .before .before .before .before in
     let s = start .args in
     (at-enter .enter-all .kept .0 ∙ start .pre .1, client-in (s .t .now) (s .c .0) (s .r .0) (start .pre .0))
 
@@ -64,12 +53,11 @@ returns-2 c =
     let at-enter = at-close .before .before .before .before in
     let at-told = at-enter .before .before in
     let at-check = at-told .before .before in
-    let at-own = at-check .before in
-    let at-taken = at-own .before .before in
+    let at-taken = at-check .before in
     let start = at-taken .before .before .before .before in
     let s = start .args in
     settle-fits (s .t .now) (s .c .0) (s .r .0) (start .pre .0) (entriesFrom (s .b .now) 0 (s .n)) (at-check .check-sent .result)
-    (same-check (entriesFrom (s .b .now) 0 (s .n)) _ _ _ _ _ (at-taken .taken .ensures .0) (at-own .own .ensures .0) (at-check .check-sent .ensures))
+    (same-check (entriesFrom (s .b .now) 0 (s .n)) _ _ _ (at-taken .taken .ensures .0) (at-check .check-sent .ensures))
     (at-told .enum-told .given .1)
     (at-close .close .ensures ∙ ap (λ d. closeBytes (low d) (s .c .0) ++ high d) (at-enter .enter-all .ensures))
     (at-taken .taken .ensures .0)
@@ -77,7 +65,6 @@ returns-2 c =
 pub send-spec : {M : Type 1} → statement M
 send-spec = tie.close (tie.spec
     (λ c κs. search needs)
-    own-requires
     check-sent-requires
     (λ c. search needs)
     (λ c. search needs)

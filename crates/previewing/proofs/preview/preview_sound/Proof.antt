@@ -27,7 +27,7 @@ foresee-requires c κs =
     let at-check = at-found .before .before in
     let start = at-check .before .before .before in
     let i = rw (at-found .found .given .1) at (at-check .check-preview .ensures .1) in
-    (start .pre .1, start .pre .2, i .0, i .1)
+    (start .pre .1, start .pre .2, i .0, i .1, i .2)
 
 returns-2 : tie.Need-returns-2
 unfolding low onPair

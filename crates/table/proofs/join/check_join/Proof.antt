@@ -2,6 +2,8 @@
 use Prim.{tt}
 use mathlib.Core.Path.{sym, _∙_}
 use borrow.Author.Needs.{needs}
+use Rattle.cells.specs.Decode.{cells}
+use Rattle.cells.proofs.Stays.{joinee-some}
 use Rattle.table.specs.Found.{onGiven}
 use Rattle.table.specs.Checks.{joinCheck}
 use Rattle.table.proofs.Checks.{joinable-told, joined-told, use-told, was-given}
@@ -128,7 +130,8 @@ returns-8 c =
     let free-a = use-told _ _ .fails (sym (at-free-a .before .before .check-use .ensures) ∙ at-free-a .enum-told7 .given .1) in
     let free-b = use-told _ _ .fails (sym (at-free-b .before .before .check-use2 .ensures) ∙ at-free-b .enum-told9 .given .1) in
     let joinable = joinable-told _ _ _ .holds (sym (at-joinable .before .before .check-joinable .ensures) ∙ at-joinable .enum-told11 .given .1) in
-    (rw (given-a, given-b, out-a, out-b, free-a, free-b, joinable), (was-given _ _ _ given-a, was-given _ _ _ given-b))
+    let start = at-given-a .before .before .before .before .before in
+    (rw (given-a, given-b, out-a, out-b, free-a, free-b, joinable), (was-given _ _ _ given-a, was-given _ _ _ given-b, joinee-some (cells (start .args .d .now)) _ _ joinable))
 
 pub check-join-spec : {M : Type 1} → statement M
 check-join-spec = tie.close (tie.spec

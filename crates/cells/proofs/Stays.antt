@@ -1,0 +1,249 @@
+-- A step leaves every cell in its range, of any bytes in range: also of those that no day made.
+use Prim.Native.Nat.{ℕ, suc, _+_, _-_, _*_, _/_, _%_, _<_}
+use mathlib.Core.Bool.{Bool, true, cond, not, _&&_}
+use mathlib.Core.Path.{_≡_, refl, sym, _∙_, ap}
+use mathlib.Core.Logic.{_⊎_, inl, inr}
+use mathlib.Core.List.{List, [], _∷_, _++_, List·Memᴰ·append-cases, List·Memᴰ·eq-of-singleton}
+use native.Mathlib.Omega.{arith}
+use lib.Dec.{eqb, ltb}
+use lib.ListN.{length, set, take, length-append, length-set}
+use lib.Seq.{getD-at, getD-set-other, getD-set-same}
+use borrow.Author.Tests.{eqb-false, lt-ltb, ltb-true, not-true}
+use Rattle.lists.specs.Lists.{_∈_, restOf}
+use Rattle.lists.specs.Arranged.{insertBefore, remove}
+use Rattle.lists.proofs.Cases.{and-true, cases, cond-all, either}
+use Rattle.lists.proofs.Changed.{changed-at}
+use Rattle.lists.proofs.Places.{getD-in, insert-back, place, remove-back, rest-in, set-in, take-in}
+use Rattle.cells.specs.Sizes.{lowerBytes, revisions, clients, updates, main, closed, stateOut, stateJoined}
+use Rattle.cells.specs.Tables.{every}
+use Rattle.cells.specs.Parts.{Parts, Sized, glue, size, split, rowsPart, lowPart, highPart, seenPart, caughtPart, statePart, usedPart, lastPart, firstPart}
+use Rattle.cells.specs.Parts.{countPart, basePart, layoutPart, queuePart, openedPart, countersPart}
+use Rattle.cells.specs.Words.{byte, word, putWord, putHalf}
+use Rattle.cells.specs.Flags.{pack, putRow}
+use Rattle.cells.specs.Cells.{Cells}
+use Rattle.cells.specs.Checks.{joinable}
+use Rattle.cells.specs.Decode.{decode, cells}
+use Rattle.cells.specs.Range.{countersIn, inRange, partsIn, signature, wordsBelow}
+use Rattle.lists.specs.Pool.{forkPool, joinPool}
+use Rattle.cells.specs.CellSteps.{counted, oneFewer, forkCaught, forkGiven, forkQueue, forkRow, joinCaught, spliced}
+use Rattle.cells.specs.Steps.{freshParts, queryParts, appendParts, updateParts, closeParts, putRowOf, inheritParts, forkParts, spliceParts, joinParts, freshBytes, queryBytes, updateBytes, closeBytes, forkBytes, joinBytes}
+use Rattle.cells.proofs.Tables.{every-all, every-at}
+use Rattle.cells.proofs.Words.{byte-put-other, word-put, word-set-other}
+use Rattle.cells.proofs.Parts.{glue-length, split-glue, split-sized}
+use Rattle.cells.proofs.Sized.{append-sized, close-sized, fork-sized, fresh-sized, join-sized, query-sized, update-sized}
+use Rattle.cells.proofs.Places.{shift-length}
+use Rattle.cells.proofs.Stops.{counted-few, fewer-most, fewer-some}
+use Rattle.cells.proofs.Range.{Ranged, Ranges, counters-in, parts-ranged, partIn, ranged-in, ranged-ranges, ranged-with}
+
+-- bytes that each pass a test: so does each byte of a row that has no others but v, which passes too
+module _ (f : ℕ → Bool) (n : ℕ) where
+  each-in : (t : List ℕ) → length t ≡ n → every (λ i. f (byte t i)) n ≡ true → (x : ℕ) → x ∈ t → f x ≡ true
+  each-in t l h x m =
+      let a = place x t m in
+      let here : length (a .above) < n = omega (arith, l, ap length (a .eq) ∙ length-append (a .above) (x ∷ a .below)) in
+      ap f (sym (ap (λ s. byte s (length (a .above))) (a .eq) ∙ getD-at (a .above) x (a .below) 0 (length (a .above)) refl)) ∙ every-at (λ i. f (byte t i)) n (length (a .above)) h here
+
+  bytes-from : (t t′ : List ℕ) (v : ℕ) → length t ≡ n → length t′ ≡ n → ((x : ℕ) → x ∈ t′ → (x ≡ v) ⊎ (x ∈ t)) → f v ≡ true → every (λ i. f (byte t i)) n ≡ true → every (λ i. f (byte t′ i)) n ≡ true
+  bytes-from t t′ v l l′ from passes h =
+      every-all (λ i. f (byte t′ i)) n (λ i il. either (from (byte t′ i) (getD-in t′ i 0 (omega arith))) (λ e. rw e passes) (λ m. each-in t l h (byte t′ i) m))
+
+  byte-set : (t : List ℕ) (i v : ℕ) → length t ≡ n → f v ≡ true → every (λ i. f (byte t i)) n ≡ true → every (λ j. f (byte (set t i v) j)) n ≡ true
+  byte-set t i v l = bytes-from t (set t i v) v l (length-set t i v ∙ l) (λ x. set-in x t i v)
+
+word-set : (limit n : ℕ) (t : List ℕ) (r v : ℕ) → 2 * r + 1 < length t → v < limit → wordsBelow n limit t ≡ true → wordsBelow n limit (putWord t r v) ≡ true
+word-set limit n t r v fits low h =
+    every-all (λ i. ltb (word (putWord t r v) i) limit) n
+    (λ i l. rw (word-put t r v i fits) (changed-at (λ w. ltb w limit ≡ true) (word t) r v i (every-at (λ j. ltb (word t j) limit) n i h l) (lt-ltb v limit low)))
+
+counters-all : (t : List ℕ) → word t 0 < 4097 → 0 < byte t 2 → byte t 2 < 65 → 0 < byte t 3 → byte t 3 < 65 → countersIn t ≡ true
+counters-all t a b c d e = rw (lt-ltb (word t 0) 4097 a, lt-ltb 0 (byte t 2) b, lt-ltb (byte t 2) 65 c, lt-ltb 0 (byte t 3) d, lt-ltb (byte t 3) 65 e)
+
+-- one of the counters written
+module _ (t : List ℕ) (l : length t ≡ 4) (h : countersIn t ≡ true) where
+  taken-set : (u : ℕ) → u < 4097 → countersIn (putWord t 0 u) ≡ true
+  taken-set u low =
+      let c = counters-in t h in
+      let out = byte-put-other t 0 u 2 (omega arith) (omega arith) in
+      let given = byte-put-other t 0 u 3 (omega arith) (omega arith) in
+      counters-all (putWord t 0 u) (rw (word-put t 0 u 0 (omega arith)) low) (rw out (c .1)) (rw out (c .2)) (rw given (c .3)) (rw given (c .4))
+
+  out-set : (n : ℕ) → 0 < n → n < 65 → countersIn (set t 2 n) ≡ true
+  out-set n some low =
+      let c = counters-in t h in
+      let out = getD-set-same t 2 n 0 (omega arith) in
+      let given = getD-set-other t 2 3 n 0 (omega arith) in
+      counters-all (set t 2 n) (rw (word-set-other t 0 n 2 (omega arith) (omega arith)) (c .0)) (rw out some) (rw out low) (rw given (c .3)) (rw given (c .4))
+
+  given-set : (n : ℕ) → 0 < n → n < 65 → countersIn (set t 3 n) ≡ true
+  given-set n some low =
+      let c = counters-in t h in
+      let out = getD-set-other t 3 2 n 0 (omega arith) in
+      let given = getD-set-same t 3 n 0 (omega arith) in
+      counters-all (set t 3 n) (rw (word-set-other t 0 n 3 (omega arith) (omega arith)) (c .0)) (rw out (c .1)) (rw out (c .2)) (rw given some) (rw given low)
+
+-- 11 keeps the main revision from being a joinee
+pub joinee-some : (k : Cells) (a b : ℕ) → joinable k a b ≡ true → 0 < b
+joinee-some k a b h =
+    let both = and-true (not (eqb b main) && not (eqb a b)) (k .seen a b) h in
+    let d = eqb-false b main (not-true (eqb b main) (and-true (not (eqb b main)) (not (eqb a b)) (both .0) .0)) in
+    omega arith
+
+-- the steps, part by part as they write
+module _ {p : Parts} (s : Sized p) (h : Ranged p) where
+  abbrev k : Cells
+  k = decode p
+
+  R : Ranges (decode p)
+  R = ranged-ranges p h
+
+  -- a byte, and a word, of a part
+  byte-ranged : (i n : ℕ) (f : ℕ → Bool) → size i ≡ n → ((t : List ℕ) → partIn i t ≡ every (λ j. f (byte t j)) n) → (j v : ℕ) → f v ≡ true → partIn i (set (p i) j v) ≡ true
+  byte-ranged i n f z is j v passes = is (set (p i) j v) ∙ byte-set f n (p i) j v (s .of i ∙ z) passes (sym (is (p i)) ∙ h .of i)
+
+  word-ranged : (i limit : ℕ) → size i ≡ 128 → ((t : List ℕ) → partIn i t ≡ wordsBelow revisions limit t) → (r v : ℕ) → r < revisions → v < limit → partIn i (putWord (p i) r v) ≡ true
+  word-ranged i limit z is r v rl low = let l = s .of i in is (putWord (p i) r v) ∙ word-set limit revisions (p i) r v (omega arith) low (sym (is (p i)) ∙ h .of i)
+
+  pub close-ranged : (c : ℕ) → Ranged (closeParts p c)
+  unfolding partIn size
+  close-ranged c = ranged-with h openedPart _ (byte-ranged openedPart clients (λ b. ltb b 65) refl (λ t. refl) c closed refl)
+
+  pub query-ranged : (c r : ℕ) → r < revisions → Ranged (queryParts p c r)
+  unfolding partIn size
+  query-ranged c r l =
+      let a = ranged-with h caughtPart (putRow 8 (p caughtPart) c (λ x. eqb x r)) refl in
+      ranged-with a openedPart _ (byte-ranged openedPart clients (λ b. ltb b 65) refl (λ t. refl) c r (lt-ltb r 65 (omega arith)))
+
+  pub append-ranged : (r : ℕ) → r < revisions → k .updates < updates → Ranged (appendParts p r)
+  unfolding partIn size
+  append-ranged r rl ul =
+      let u = k .updates in
+      let first = cond-all (λ n. n < updates) (eqb (k .count r) 0) u (k .first r) ul (R .first r rl) in
+      let few = counted-few (suc (k .count r)) in
+      let a = ranged-with (ranged-with h lowPart (set (p lowPart) u (k .last r % 256)) refl) highPart (putHalf (p highPart) u (k .last r / 256)) refl in
+      let b = ranged-with a lastPart _ (word-ranged lastPart 4096 refl (λ t. refl) r u rl ul) in
+      let c = ranged-with b firstPart _ (word-ranged firstPart 4096 refl (λ t. refl) r _ rl first) in
+      let d = ranged-with c countPart _ (word-ranged countPart 4097 refl (λ t. refl) r (counted (suc (k .count r))) rl (omega arith)) in
+      ranged-with d countersPart _ (taken-set (p countersPart) (s .of countersPart) (h .of countersPart) (suc u) (omega arith))
+
+  pub inherit-ranged : (q c : ℕ) → q < revisions → c < revisions → Ranged (inheritParts p q c)
+  unfolding partIn size
+  inherit-ranged q c ql cl =
+      let main-few = R .count main (omega arith) in
+      let few = R .base q ql in
+      let base = cond-all (λ n. n < 4097) (eqb q main) (k .count main) (k .base q) (omega arith) (omega arith) in
+      let a = ranged-with h rowsPart (cond (eqb q main) (p rowsPart) (putRowOf (p rowsPart) c (forkRow k q))) refl in
+      let b = ranged-with a usedPart _ (byte-ranged usedPart revisions (λ b. ltb b 2) refl (λ t. refl) c (cond (eqb q main) 0 1) (cond-all (λ n. ltb n 2 ≡ true) (eqb q main) 0 1 refl refl)) in
+      let d = ranged-with b basePart _ (word-ranged basePart 4097 refl (λ t. refl) c _ cl base) in
+      ranged-with d countPart _ (word-ranged countPart 4097 refl (λ t. refl) c 0 cl (omega arith))
+
+  fork-layout : (q c : ℕ) → c < revisions → partIn layoutPart (take revisions (insertBefore q c (p layoutPart))) ≡ true
+  unfolding partIn size
+  fork-layout q c l =
+      let t = p layoutPart in
+      bytes-from (λ b. ltb b 64) revisions t (take revisions (insertBefore q c t)) c (s .of layoutPart) (fork-sized s q c l .of layoutPart)
+      (λ x i. insert-back q c x t (take-in x revisions (insertBefore q c t) i)) (lt-ltb c 64 l) (h .of layoutPart)
+
+  fork-queue : partIn queuePart (forkQueue k) ≡ true
+  unfolding partIn size
+  fork-queue =
+      let t = p queuePart in
+      let l = s .of queuePart in
+      cond-all (λ l. partIn queuePart l ≡ true) (ltb (k .given) revisions) t (restOf t ++ (1 ∷ [])) (h .of queuePart)
+      (bytes-from (λ b. ltb 0 b && ltb b 64) revisions t (restOf t ++ (1 ∷ [])) 1 l (shift-length t (omega arith) ∙ l)
+      (λ x i. either (List·Memᴰ·append-cases (restOf t) i) (λ o. inr (rest-in x t o)) (λ o. inl (List·Memᴰ·eq-of-singleton o))) refl (h .of queuePart))
+
+  fork-given : (0 < forkGiven k) × (forkGiven k < 65)
+  fork-given =
+      let some = R .some-given in
+      let most = R .most-given in
+      cases (ltb (k .given) revisions) (λ e. let l = ltb-true (k .given) revisions e in rw e (omega arith, omega arith)) (λ e. rw e (some, omega arith))
+
+  pub fork-ranged : (q c : ℕ) → q < revisions → c < revisions → k .out < revisions → Ranged (forkParts p q c)
+  unfolding partIn size
+  fork-ranged q c ql cl room =
+      let t = p countersPart in
+      let l = s .of countersPart in
+      let out = out-set t l (h .of countersPart) (suc (k .out)) (omega arith) (omega arith) in
+      let a = ranged-with (ranged-with (inherit-ranged q c ql cl) seenPart (pack revisions (forkPool (k .seen) q c)) refl) caughtPart (pack clients (forkCaught (k .caught) q c)) refl in
+      let b = ranged-with a statePart _ (byte-ranged statePart revisions (λ b. ltb b 3) refl (λ t. refl) c stateOut refl) in
+      let d = ranged-with (ranged-with b layoutPart _ (fork-layout q c cl)) queuePart _ fork-queue in
+      ranged-with d countersPart _ (given-set (set t 2 (suc (k .out))) (length-set t 2 (suc (k .out)) ∙ l) out (forkGiven k) (fork-given .0) (fork-given .1))
+
+  pub splice-ranged : (a b : ℕ) → a < revisions → b < revisions → Ranged (spliceParts p a b)
+  unfolding partIn size
+  splice-ranged a b al bl =
+      let first = cond-all (λ n. n < updates) (eqb (k .count a) 0) (k .first b) (k .first a) (R .first b bl) (R .first a al) in
+      let low = ranged-with h lowPart (spliced k b (p lowPart) (set (p lowPart) (k .first b) (k .last a % 256))) refl in
+      let high = ranged-with low highPart (spliced k b (p highPart) (putHalf (p highPart) (k .first b) (k .last a / 256))) refl in
+      let last = ranged-with high lastPart _ (either-ranged lastPart _ (word-ranged lastPart 4096 refl (λ t. refl) a (k .last b) al (R .last b bl))) in
+      ranged-with last firstPart _ (either-ranged firstPart _ (word-ranged firstPart 4096 refl (λ t. refl) a _ al first))
+    where
+      either-ranged : (i : ℕ) (t : List ℕ) → partIn i t ≡ true → partIn i (spliced k b (p i) t) ≡ true
+      either-ranged i t e = cond-all (λ l. partIn i l ≡ true) (eqb (k .count b) 0) (p i) t (h .of i) e
+
+  join-layout : (a b : ℕ) → a < revisions → partIn layoutPart (take revisions (remove b (p layoutPart) ++ (0 ∷ []))) ≡ true
+  unfolding partIn size
+  join-layout a b al =
+      let t = p layoutPart in
+      bytes-from (λ b. ltb b 64) revisions t (take revisions (remove b t ++ (0 ∷ []))) 0 (s .of layoutPart) (join-sized s a b al .of layoutPart)
+      (λ x i. either (List·Memᴰ·append-cases (remove b t) (take-in x revisions (remove b t ++ (0 ∷ [])) i)) (λ o. inr (remove-back b x t o)) (λ o. inl (List·Memᴰ·eq-of-singleton o))) refl (h .of layoutPart)
+
+  pub join-ranged : (a b : ℕ) → a < revisions → b < revisions → 0 < b → Ranged (joinParts p a b)
+  unfolding partIn size
+  join-ranged a b al bl pos =
+      let few = counted-few (k .count a + k .count b) in
+      let most = fewer-most (k .out) revisions (R .most-out) (omega arith) in
+      let c = ranged-with (splice-ranged a b al bl) countPart _ (word-ranged countPart 4097 refl (λ t. refl) a (counted (k .count a + k .count b)) al (omega arith)) in
+      let d = ranged-with (ranged-with c seenPart (putRow 8 (p seenPart) a (joinPool (k .seen) a b a)) refl) caughtPart (pack clients (joinCaught (k .caught) a b)) refl in
+      let e = ranged-with d statePart _ (byte-ranged statePart revisions (λ b. ltb b 3) refl (λ t. refl) b stateJoined refl) in
+      let f = ranged-with e layoutPart _ (join-layout a b al) in
+      let g = ranged-with f queuePart _ (byte-ranged queuePart revisions (λ b. ltb 0 b && ltb b 64) refl (λ t. refl) (k .given - k .out) b (rw (lt-ltb 0 b pos) (lt-ltb b 64 bl))) in
+      ranged-with g countersPart _ (out-set (p countersPart) (s .of countersPart) (h .of countersPart) (oneFewer (k .out)) (fewer-some (k .out)) (omega arith))
+
+pub update-ranged : {p : Parts} → Sized p → Ranged p → (c r : ℕ) → r < revisions → decode p .updates < updates → Ranged (updateParts p c r)
+update-ranged s h c r rl ul = query-ranged (append-sized s r) (append-ranged s h r rl ul) c r rl
+
+pub fresh-ranged : Ranged freshParts
+unfolding every size signature word
+fresh-ranged = parts-ranged freshParts refl
+
+-- the same on the bytes
+pub record Lower (d : List ℕ) : Type 0 where
+  pub long : length d ≡ lowerBytes
+  pub ranged : inRange d ≡ true
+
+lower : (p : Parts) → Sized p → Ranged p → Lower (glue p)
+unfolding inRange
+lower p s h = record { long = glue-length p s; ranged = ap partsIn (split-glue p s) ∙ ranged-in p h }
+
+pub fresh-stays : Lower freshBytes
+unfolding freshBytes
+fresh-stays = lower freshParts fresh-sized fresh-ranged
+
+module _ (d : List ℕ) (L : Lower d) where
+  sized : Sized (split d)
+  sized = split-sized d (L .long)
+
+  ranged : Ranged (split d)
+  unfolding inRange
+  ranged = parts-ranged (split d) (L .ranged)
+
+  pub query-stays : (c r : ℕ) → c < clients → r < revisions → Lower (queryBytes d c r)
+  unfolding queryBytes
+  query-stays c r cl rl = lower (queryParts (split d) c r) (query-sized sized c r cl) (query-ranged sized ranged c r rl)
+
+  pub update-stays : (c r : ℕ) → c < clients → r < revisions → cells d .updates < updates → Lower (updateBytes d c r)
+  unfolding updateBytes cells
+  update-stays c r cl rl ul = lower (updateParts (split d) c r) (update-sized sized c r cl) (update-ranged sized ranged c r rl ul)
+
+  pub close-stays : (c : ℕ) → Lower (closeBytes d c)
+  unfolding closeBytes
+  close-stays c = lower (closeParts (split d) c) (close-sized sized c) (close-ranged sized ranged c)
+
+  pub fork-stays : (q c : ℕ) → q < revisions → c < revisions → cells d .out < revisions → Lower (forkBytes d q c)
+  unfolding forkBytes cells
+  fork-stays q c ql cl room = lower (forkParts (split d) q c) (fork-sized sized q c cl) (fork-ranged sized ranged q c ql cl room)
+
+  pub join-stays : (a b : ℕ) → a < revisions → b < revisions → 0 < b → Lower (joinBytes d a b)
+  unfolding joinBytes
+  join-stays a b al bl pos = lower (joinParts (split d) a b) (join-sized sized a b al) (join-ranged sized ranged a b al bl pos)
