@@ -48,13 +48,14 @@ enum {
     SILTTONGS_HANDED_IN = 4,      /* the latest box of that number was handed in */
     SILTTONGS_BAD_ENTRY = 5,      /* bib above 999, or update kind not 1 to 4 */
     SILTTONGS_OTHER_BOX_OPEN = 6, /* the tablet's open transaction is on another box */
-    SILTTONGS_IN_USE = 7,         /* another tablet, or for fork, join, list any, is at work there */
+    SILTTONGS_IN_USE = 7,         /* another tablet is at work there; for fork, join, sync, list any */
     SILTTONGS_NOT_CAUGHT_UP = 8,  /* the box has not seen the tablet's last event */
     SILTTONGS_LOG_FULL = 9,       /* 4,096 updates taken */
     SILTTONGS_NO_BOX_LEFT = 10,   /* 64 boxes are out */
     SILTTONGS_NOT_JOINABLE = 11,  /* box 0, the joiner itself, its fork unseen, or its start seen */
     SILTTONGS_SHEET_SHORT = 12,   /* the listing needs more bytes */
-    SILTTONGS_WRONG_BUNDLE = 14   /* no record, more than 64, or bytes not a multiple of 12 */
+    SILTTONGS_WRONG_BUNDLE = 14,  /* no record, more than 64, or bytes not a multiple of 12 */
+    SILTTONGS_OFF_THE_LINE = 15   /* single-main day: another box than 0 is forked, or joined into */
 };
 
 /* The kinds of update, and what each does to a bib. */
@@ -89,8 +90,12 @@ static inline uint16_t silttongs_own(uint64_t answer) { return (uint16_t)answer;
 static inline uint16_t silttongs_total(uint64_t answer) { return (uint16_t)(answer >> 16); }
 
 /* Starts a new day, whatever the bytes were: box 0 alone, every bib 0 and not struck. Code 1, for
- * the length only. Value: 0. */
-uint64_t silttongs_fresh(uint8_t *table, size_t length);
+ * the length only. Value: 0.
+ *
+ * single_main is 0 for an ordinary day. Any other byte makes it a single-main day: boxes come from
+ * box 0 and go back to it alone, and SILTTONGS_OFF_THE_LINE refuses all else. The choice is kept in
+ * the table until the next fresh that is taken. */
+uint64_t silttongs_fresh(uint8_t *table, size_t length, uint8_t single_main);
 
 /* Enters an update of a bib on a box, in the tablet's transaction there, which it opens if need
  * be. Codes 1 to 9. Value: how many updates the day took before it, its number. */
@@ -106,13 +111,24 @@ uint64_t silttongs_query(uint8_t *table, size_t length, uint8_t tablet, uint8_t 
 /* Closes the tablet's transaction, if it has one. Codes 1, 2. Value: 0. */
 uint64_t silttongs_yield(uint8_t *table, size_t length, uint8_t tablet);
 
-/* Sends a new box off from a box. Codes 1, 3, 4, 7, 10. Value: the new box's number, the next that was
- * never used; once all were, the number handed in longest ago. */
+/* Sends a new box off from a box. Codes 1, 3, 4, 15, 7, 10, in this order; 15 for another box than 0
+ * on a single-main day. Value: the new box's number, the next that was never used; once all were, the
+ * number handed in longest ago. */
 uint64_t silttongs_fork(uint8_t *table, size_t length, uint8_t box);
 
-/* Hands a box in: the joiner takes over the joinee's updates, behind its own. Codes 1, 3, 4, 7,
- * 11. Value: how many updates the joiner gained. */
+/* Hands a box in: the joiner takes over the joinee's updates, behind its own. Codes 1, 3, 4, 15, 7,
+ * 11, in this order; 15 for another joiner than box 0 on a single-main day. Value: how many updates
+ * the joiner gained. */
 uint64_t silttongs_join(uint8_t *table, size_t length, uint8_t joiner, uint8_t joinee);
+
+/* Hands a box in to box 0 and sends a new one off from there, on any day: as silttongs_join into box 0
+ * and then silttongs_fork of box 0, but both or neither. Codes 1, 3, 4, 7, 11, as for that join; on a
+ * table that no day made also 1, where the join would leave it no table. Value: the new box's number.
+ *
+ * The old number is handed in before the new one is taken. So while numbers are left that were never
+ * used it takes the next of them, and with 64 boxes out it answers the number that it was given: go on
+ * with the value, not with `box`. */
+uint64_t silttongs_sync(uint8_t *table, size_t length, uint8_t box);
 
 /* Writes the updates visible on a box to the sheet, in the order in which they apply, whatever
  * their numbers. Codes 1, 3, 4, 7, 12. Value: their count n.
@@ -141,8 +157,8 @@ uint64_t silttongs_bundle(uint8_t *table, size_t length, uint8_t tablet, uint8_t
                           const uint8_t *records, size_t records_length);
 
 /* Tells what a join would bring: the state and value of a bib at the joiner after it, and
- * silttongs_gain, how many updates the joiner would gain. Codes 1, 3, 4, 7, 11 as for the join, and
- * then 5, for the bib. In a refusal the state is SILTTONGS_NEITHER, value and gain are 0.
+ * silttongs_gain, how many updates the joiner would gain. Codes 1, 3, 4, 15, 7, 11 as for the join,
+ * and then 5, for the bib. In a refusal the state is SILTTONGS_NEITHER, value and gain are 0.
  *
  * The table is only read: a preview is no event. */
 uint64_t silttongs_preview(const uint8_t *table, size_t length, uint8_t joiner, uint8_t joinee,

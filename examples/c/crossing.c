@@ -67,7 +67,7 @@ static void show_entry(const uint8_t *e) {
 int main(void) {
     size_t n = sizeof table;
     show_query("query before fresh", silttongs_query(table, n, 0, 0, 7));
-    show("fresh", silttongs_fresh(table, n));
+    show("fresh", silttongs_fresh(table, n, 0));
     show("update 0/0 Time 61000", silttongs_update(table, n, 0, 0, SILTTONGS_TIME, 7, 61000));
     show("yield 0", silttongs_yield(table, n, 0));
     show("fork box 0", silttongs_fork(table, n, 0));

@@ -55,6 +55,7 @@ module _ (c : ℕ) (k k′ : Cells) (S : SameBut c k k′) (p : ℕ) (np : p ≡
     opened = S .opened;
     updates = S .updates;
     given = rw (S .given);
+    single = S .single;
   }
 
 pub starts-clean : StartsClean

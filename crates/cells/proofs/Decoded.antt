@@ -1,5 +1,6 @@
 -- The cells of the bytes that each step leaves, of any bytes in range.
 use Prim.Native.Nat.{ℕ, _<_}
+use mathlib.Core.Bool.{Bool}
 use mathlib.Core.Path.{_≡_, _∙_, ap}
 use mathlib.Core.List.{List}
 use native.Mathlib.Omega.{arith}
@@ -21,9 +22,9 @@ glued : (p : Parts) (k : Cells) → Sized p → decode p ≡ k → cells (glue p
 unfolding cells
 glued p k s e = ap decode (split-glue p s) ∙ e
 
-pub fresh-decoded : cells freshBytes ≡ freshCells
+pub fresh-decoded : (single : Bool) → cells (freshBytes single) ≡ freshCells single
 unfolding freshBytes
-fresh-decoded = glued freshParts freshCells fresh-sized fresh-follows
+fresh-decoded single = glued (freshParts single) (freshCells single) (fresh-sized single) (fresh-follows single)
 
 module _ (d : List ℕ) (L : Lower d) where
   abbrev p : Parts

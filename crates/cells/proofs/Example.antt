@@ -9,13 +9,15 @@ use Rattle.cells.specs.Parts.{offset, size, rowsPart, lowPart, highPart,
 use Rattle.cells.specs.Parts.{basePart, layoutPart, queuePart, openedPart, countersPart, namesPart, singlePart, closedPart, startedPart, keptPart, signaturePart}
 use Rattle.cells.specs.Cells.{Cells, chain, freed, outs, flagged, nextNumber}
 use Rattle.cells.specs.Order.{order, picks}
-use Rattle.cells.specs.Checks.{isClient, givenOut, joined, openElsewhere, busy, busyByOther, stale, logFull, noneLeft, joinable}
+use Rattle.cells.specs.Checks.{isClient, givenOut, joined, offLine, openElsewhere, busy, busyByOther, stale, logFull, noneLeft, joinable}
+use Rattle.cells.specs.Decode.{decode}
+use Rattle.cells.specs.Steps.{freshParts}
 use Rattle.cells.specs.CellSteps.{freshCells, counted, oneFewer, updateCells, closeCells, forkRow, forkCells, joinCells}
 
 -- client 0 updates revision 0, which forks 1; 1 updates and forks 2; 2, 0 and 1 update; 0 forks 3, which updates
 before : Cells
 before =
-    let a = updateCells (forkCells (updateCells freshCells 0 0) 0 1) 1 1 in
+    let a = updateCells (forkCells (updateCells (freshCells false) 0 0) 0 1) 1 1 in
     let b = updateCells (updateCells (updateCells (forkCells a 1 2) 2 2) 3 0) 1 1 in
     updateCells (forkCells b 0 3) 4 3
 
@@ -51,12 +53,24 @@ unfolding before after anyBelow
 caught-flags = refl
 
 -- the checks on a fresh day: clients 15 and 16; revisions 0 and 1 given out; nobody joined, busy or open elsewhere
-fresh-checks : isClient 15 ∷ isClient 16 ∷ givenOut freshCells 0 ∷ givenOut freshCells 1 ∷ joined freshCells 0 ∷ busy freshCells 0 ∷ busy freshCells 63 ∷ openElsewhere freshCells 0 5 ∷ [] ≡ true ∷ false ∷ true ∷ false ∷ false ∷ false ∷ false ∷ false ∷ []
+fresh-checks :
+    isClient 15 ∷ isClient 16 ∷ givenOut (freshCells false) 0 ∷ givenOut (freshCells false) 1 ∷ joined (freshCells false) 0 ∷ busy (freshCells false) 0
+    ∷ busy (freshCells false) 63 ∷ openElsewhere (freshCells false) 0 5 ∷ []
+    ≡ true ∷ false ∷ true ∷ false ∷ false ∷ false ∷ false ∷ false ∷ []
 unfolding anyBelow
 fresh-checks = refl
 
+-- 02, U8: on a single-main day another box than 0 is off the line, whatever the steps; on another day none is
+off-the-line : offLine (freshCells true) 0 ∷ offLine (forkCells (freshCells true) 0 1) 1 ∷ offLine (freshCells false) 1 ∷ offLine after 2 ∷ [] ≡ false ∷ true ∷ false ∷ false ∷ []
+unfolding before after
+off-the-line = refl
+
+-- and the byte that fresh writes is the choice
+chosen : decode (freshParts true) .single ∷ decode (freshParts false) .single ∷ [] ≡ true ∷ false ∷ []
+chosen = refl
+
 -- a joined revision was given out; the last client has the main revision busy
-later-checks : givenOut after 1 ∷ busy (updateCells freshCells 15 0) 0 ∷ busyByOther (updateCells freshCells 15 0) 1 0 ∷ [] ≡ true ∷ true ∷ true ∷ []
+later-checks : givenOut after 1 ∷ busy (updateCells (freshCells false) 15 0) 0 ∷ busyByOther (updateCells (freshCells false) 15 0) 1 0 ∷ [] ≡ true ∷ true ∷ true ∷ []
 unfolding before after anyBelow
 later-checks = refl
 
@@ -79,6 +93,7 @@ made updates out given = record {
   opened = λ c. 64;
   updates = updates;
   given = given;
+  single = false;
 }
 
 -- 01: "Update 4,096 is taken, the next gives 9"; 02, U7: "Code 10 is given exactly if 64 boxes are out", whatever was given

@@ -56,6 +56,7 @@ module _ (p : Parts) (h : Sized p) (c r : ℕ) (cl : c < clients) (rl : r < revi
     opened = fun-ext (opened-changed r) i;
     updates = decode p .updates;
     given = decode p .given;
+    single = decode p .single;
   }
 
   pub close-follows : decode (closeParts p c) ≡ closeCells (decode p) c
@@ -76,6 +77,7 @@ module _ (p : Parts) (h : Sized p) (c r : ℕ) (cl : c < clients) (rl : r < revi
     opened = fun-ext (opened-changed closed) i;
     updates = decode p .updates;
     given = decode p .given;
+    single = decode p .single;
   }
 
   module _ (ul : decode p .updates < updates) (ll : decode p .last r < updates) where
@@ -108,6 +110,7 @@ module _ (p : Parts) (h : Sized p) (c r : ℕ) (cl : c < clients) (rl : r < revi
           opened = fun-ext (opened-changed r) i;
           updates = word-put (p countersPart) 0 (suc u) 0 (omega arith) i;
           given = byte-put-other (p countersPart) 0 (suc u) 3 (omega arith) (omega arith) i;
+          single = decode p .single;
         }
 
 -- a column of flags changed, inside the rows
@@ -184,4 +187,5 @@ module _ (p : Parts) (h : Sized p) (a b : ℕ) (al : a < revisions) (bl : b < re
         opened = decode p .opened;
         updates = word-set-other (p countersPart) 0 (oneFewer (k .out)) 2 (omega arith) (omega arith) i;
         given = getD-set-other (p countersPart) 2 3 (oneFewer (k .out)) 0 (omega arith) i;
+        single = decode p .single;
       }

@@ -95,4 +95,5 @@ module _ (p : Parts) (h : Sized p) (q c : ℕ) (ql : q < revisions) (cl : c < re
         opened = k .opened;
         updates = (word-set-other two 0 (forkGiven k) 3 (omega arith) (omega arith) ∙ word-set-other (p countersPart) 0 (suc (k .out)) 2 (omega arith) (omega arith)) i;
         given = getD-set-same two 3 (forkGiven k) 0 (rw length-set (omega arith)) i;
+        single = k .single;
       }

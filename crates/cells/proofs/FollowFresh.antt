@@ -1,6 +1,6 @@
 -- The fresh parts are the fresh cells.
 use Prim.Native.Nat.{ℕ, zero, suc, _+_, _*_, _/_, _%_}
-use mathlib.Core.Bool.{true, false, cond, _&&_, and-true}
+use mathlib.Core.Bool.{Bool, true, false, cond, _&&_, and-true}
 use mathlib.Core.Path.{_≡_, refl, _∙_, ap, fun-ext}
 use mathlib.Core.List.{List}
 use native.Mathlib.Nat.{zero-div}
@@ -42,22 +42,27 @@ zero-link : (n m u : ℕ) → linkIn (zeros n) (zeros m) u ≡ 0
 unfolding half
 zero-link n m u = rw (zero-byte n u, zero-byte m (u / 2)) (cases (eqb (u % 2) 0) (λ e. rw e) (λ e. rw e))
 
-fresh-caught : (x y : ℕ) → decode freshParts .caught x y ≡ freshCells .caught x y
-fresh-caught x y = packed clients (λ c r. true) x y ∙ and-true (ltb x clients && ltb y revisions)
+fresh-caught : (single : Bool) (x y : ℕ) → decode (freshParts single) .caught x y ≡ freshCells single .caught x y
+fresh-caught single x y = packed clients (λ c r. true) x y ∙ and-true (ltb x clients && ltb y revisions)
 
-fresh-opened : (c : ℕ) → decode freshParts .opened c ≡ freshCells .opened c
-fresh-opened c =
+fresh-opened : (single : Bool) (c : ℕ) → decode (freshParts single) .opened c ≡ freshCells single .opened c
+fresh-opened single c =
     cases (ltb c clients)
     (λ e. rw e (getD-replicate clients c closed 0 (ltb-true c clients e)))
     (λ e. rw e (let l = ltb-false c clients e in List·getD-eq-default (replicate clients closed) 0 {n = c} (omega arith)))
 
-fresh-state : (r : ℕ) → decode freshParts .state r ≡ freshCells .state r
-fresh-state r = getD-changed (zeros revisions) main stateOut 0 r (omega arith) ∙ ap (λ z. cond (eqb r main) stateOut z) (zero-byte revisions r)
+fresh-state : (single : Bool) (r : ℕ) → decode (freshParts single) .state r ≡ freshCells single .state r
+fresh-state single r = getD-changed (zeros revisions) main stateOut 0 r (omega arith) ∙ ap (λ z. cond (eqb r main) stateOut z) (zero-byte revisions r)
 
-pub fresh-follows : decode freshParts ≡ freshCells
+-- the choice as a byte, and back
+choice : (b : Bool) → eqb (cond b 1 0) 1 ≡ b
+choice true = refl
+choice false = refl
+
+pub fresh-follows : (single : Bool) → decode (freshParts single) ≡ freshCells single
 unfolding word size
-fresh-follows = λ i. record {
-  state = fun-ext fresh-state i;
+fresh-follows single = λ i. record {
+  state = fun-ext (fresh-state single) i;
   used = fun-ext (λ x. ap (λ z. eqb z 1) (zero-byte (size usedPart) x)) i;
   last = fun-ext (zero-word (size lastPart)) i;
   first = fun-ext (zero-word (size firstPart)) i;
@@ -66,11 +71,12 @@ fresh-follows = λ i. record {
   row = fun-ext (λ x. fun-ext (zero-row (size rowsPart) x)) i;
   link = fun-ext (zero-link (size lowPart) (size highPart)) i;
   seen = fun-ext (λ x. fun-ext (zero-flag 8 revisions (size seenPart) x)) i;
-  caught = fun-ext (λ x. fun-ext (fresh-caught x)) i;
-  layout = freshCells .layout;
+  caught = fun-ext (λ x. fun-ext (fresh-caught single x)) i;
+  layout = freshCells single .layout;
   out = 1;
-  queue = freshCells .queue;
-  opened = fun-ext fresh-opened i;
+  queue = freshCells single .queue;
+  opened = fun-ext (fresh-opened single) i;
   updates = 0;
   given = 1;
+  single = choice single i;
 }

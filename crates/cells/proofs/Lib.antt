@@ -15,3 +15,4 @@ pub mod Example
 pub mod Stays
 pub mod Decoded
 pub mod Clean
+pub mod Left

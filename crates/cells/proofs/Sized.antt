@@ -11,7 +11,7 @@ use Rattle.lists.specs.Lists.{restOf}
 use Rattle.lists.specs.Arranged.{insertBefore, remove}
 use Rattle.cells.specs.Sizes.{revisions, clients, main, closed, stateOut, stateJoined}
 use Rattle.cells.specs.Parts.{Parts, Sized, size, _⟨_≔_⟩, rowsPart, lowPart, highPart, seenPart, caughtPart, statePart, usedPart, lastPart, firstPart}
-use Rattle.cells.specs.Parts.{countPart, basePart, layoutPart, queuePart, openedPart, countersPart, signaturePart}
+use Rattle.cells.specs.Parts.{countPart, basePart, layoutPart, queuePart, openedPart, countersPart, singlePart, signaturePart}
 use Rattle.cells.specs.Words.{putWord, putHalf}
 use Rattle.cells.specs.Flags.{pack, putRow}
 use Rattle.cells.specs.Decode.{decode}
@@ -126,11 +126,11 @@ join-sized {p} h a b al =
     whole : (l : List ℕ) → length (p layoutPart) ≤ length l → length (take revisions l) ≡ size layoutPart
     whole l m = let s = h .of layoutPart in length-take-le revisions l (omega arith)
 
-pub fresh-sized : Sized freshParts
+pub fresh-sized : (single : Bool) → Sized (freshParts single)
 unfolding size signature
-fresh-sized =
+fresh-sized single =
     let z : Sized (λ i. replicate (size i) 0) = record { of = λ i. length-replicate (size i) 0 } in
     let f = sized-with (caught-sized z (λ c r. true)) statePart (set (replicate revisions 0) main stateOut) refl in
     let a = sized-with f layoutPart (replicate revisions main) refl in
     let b = sized-with (sized-with (sized-with a queuePart (replicate 64 1) refl) openedPart (replicate 16 closed) refl) countersPart (0 ∷ 0 ∷ 1 ∷ 1 ∷ []) refl in
-    sized-with b signaturePart signature refl
+    sized-with (sized-with b singlePart (cond single 1 0 ∷ []) refl) signaturePart signature refl

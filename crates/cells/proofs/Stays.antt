@@ -1,6 +1,6 @@
 -- A step leaves every cell in its range, of any bytes in range: also of those that no day made.
 use Prim.Native.Nat.{ℕ, suc, _+_, _-_, _*_, _/_, _%_, _<_}
-use mathlib.Core.Bool.{Bool, true, cond, not, _&&_}
+use mathlib.Core.Bool.{Bool, true, cond, not, _&&_, false}
 use mathlib.Core.Path.{_≡_, refl, sym, _∙_, ap}
 use mathlib.Core.Logic.{_⊎_, inl, inr}
 use mathlib.Core.List.{List, [], _∷_, _++_, List·Memᴰ·append-cases, List·Memᴰ·eq-of-singleton}
@@ -203,9 +203,10 @@ module _ {p : Parts} (s : Sized p) (h : Ranged p) where
 pub update-ranged : {p : Parts} → Sized p → Ranged p → (c r : ℕ) → r < revisions → decode p .updates < updates → Ranged (updateParts p c r)
 update-ranged s h c r rl ul = query-ranged (append-sized s r) (append-ranged s h r rl ul) c r rl
 
-pub fresh-ranged : Ranged freshParts
+pub fresh-ranged : (single : Bool) → Ranged (freshParts single)
 unfolding every size signature word
-fresh-ranged = parts-ranged freshParts refl
+fresh-ranged true = parts-ranged (freshParts true) refl
+fresh-ranged false = parts-ranged (freshParts false) refl
 
 -- the same on the bytes
 pub record Lower (d : List ℕ) : Type 0 where
@@ -216,9 +217,9 @@ lower : (p : Parts) → Sized p → Ranged p → Lower (glue p)
 unfolding inRange
 lower p s h = record { long = glue-length p s; ranged = ap partsIn (split-glue p s) ∙ ranged-in p h }
 
-pub fresh-stays : Lower freshBytes
+pub fresh-stays : (single : Bool) → Lower (freshBytes single)
 unfolding freshBytes
-fresh-stays = lower freshParts fresh-sized fresh-ranged
+fresh-stays single = lower (freshParts single) (fresh-sized single) (fresh-ranged single)
 
 module _ (d : List ℕ) (L : Lower d) where
   sized : Sized (split d)

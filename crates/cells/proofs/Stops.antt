@@ -27,3 +27,7 @@ fewer-some n = cases (ltb 1 n) (λ e. let g = ltb-true 1 n e in rw e (omega arit
 pub fewer-most : (n m : ℕ) → n ≤ m → 0 < m → oneFewer n ≤ m
 unfolding oneFewer
 fewer-most n m h g = cases (ltb 1 n) (λ e. rw e (omega arith)) (λ e. rw e (omega arith))
+
+pub fewer-less : (n m : ℕ) → n ≤ m → 1 < m → oneFewer n < m
+unfolding oneFewer
+fewer-less n m h g = cases (ltb 1 n) (λ e. let k = ltb-true 1 n e in rw e (omega arith)) (λ e. rw e (omega arith))

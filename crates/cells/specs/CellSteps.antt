@@ -11,9 +11,9 @@ use Rattle.lists.specs.Pool.{forkPool, joinPool}
 use Rattle.cells.specs.Sizes.{revisions, clients, updates, main, closed, stateOut, stateJoined}
 use Rattle.cells.specs.Cells.{Cells, own, flagged}
 
--- a fresh day: the main revision is out; a client without events may start anywhere
-abbrev pub freshCells : Cells
-freshCells = record {
+-- a fresh day: the main revision is out; a client without events may start anywhere. 02, U8: "Fresh gains a choice of such a day."
+abbrev pub freshCells : Bool → Cells
+freshCells single = record {
   state = λ r. cond (eqb r main) stateOut 0;
   used = λ r. false;
   last = λ r. 0;
@@ -30,6 +30,7 @@ freshCells = record {
   opened = λ c. cond (ltb c clients) closed 0;
   updates = 0;
   given = 1;
+  single = single;
 }
 
 -- after its event a client has caught up with that revision alone
@@ -55,6 +56,7 @@ queryCells k c r = record {
   opened = changed (k .opened) c r;
   updates = k .updates;
   given = k .given;
+  single = k .single;
 }
 
 -- a count stops at its range. On a day none would pass it: the log is full first
@@ -84,6 +86,7 @@ updateCells k c r = record {
   opened = changed (k .opened) c r;
   updates = suc (k .updates);
   given = k .given;
+  single = k .single;
 }
 
 -- "Yield: the open transaction, if any, is closed."
@@ -105,6 +108,7 @@ closeCells k c = record {
   opened = changed (k .opened) c closed;
   updates = k .updates;
   given = k .given;
+  single = k .single;
 }
 
 -- who has caught up with p has caught up with c
@@ -141,6 +145,7 @@ forkCells k p c = record {
   opened = k .opened;
   updates = k .updates;
   given = forkGiven k;
+  single = k .single;
 }
 
 -- where b has updates of its own they go to the end of a's list
@@ -173,4 +178,5 @@ joinCells k a b = record {
   opened = k .opened;
   updates = k .updates;
   given = k .given;
+  single = k .single;
 }

@@ -37,6 +37,8 @@ pub record Cells : Type 0 where
   -- updates taken, and revision numbers given out
   pub updates : ℕ
   pub given : ℕ
+  -- 02, U8: the choice given to fresh, a single-main day
+  pub single : Bool
 
 -- n updates that end at `at`, along the links; the first one's link is not looked at
 unfoldable pub chain : (ℕ → ℕ) → ℕ → ℕ → List ℕ

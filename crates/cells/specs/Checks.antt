@@ -19,6 +19,10 @@ givenOut k r = ltb r revisions && not (eqb (k .state r) stateNever)
 abbrev pub joined : Cells → ℕ → Bool
 joined k r = eqb (k .state r) stateJoined
 
+-- 15, 02, U8: "off the line, for a fork of another box than 0 or a join into one on such a day"
+abbrev pub offLine : Cells → ℕ → Bool
+offLine k r = k .single && not (eqb r main)
+
 -- 6 "the tablet's open transaction is on another box"
 abbrev pub openElsewhere : Cells → ℕ → ℕ → Bool
 openElsewhere k c r = not (eqb (k .opened c) closed) && not (eqb (k .opened c) r)

@@ -23,6 +23,7 @@ pub record SameBut (c : ℕ) (k k′ : Cells) : Type 0 where
   pub opened : k .opened ≡ k′ .opened
   pub updates : k .updates ≡ k′ .updates
   pub given : k .given ≡ k′ .given
+  pub single : k .single ≡ k′ .single
 
 -- the same in all that a check, an order or a further step goes by: `first` and `last` of an empty own list are not among it
 pub record ShowsSame (k k′ : Cells) : Type 0 where
@@ -39,6 +40,7 @@ pub record ShowsSame (k k′ : Cells) : Type 0 where
   pub opened : k .opened ≡ k′ .opened
   pub updates : k .updates ≡ k′ .updates
   pub given : k .given ≡ k′ .given
+  pub single : k .single ≡ k′ .single
 
 abbrev pub StartsClean : Type 0
 StartsClean = (c : ℕ) (k k′ : Cells) → SameBut c k k′ → (p : ℕ) → (p ≡ c → ⊥) → (main ≡ c → ⊥) → ShowsSame (forkCells k p c) (forkCells k′ p c)

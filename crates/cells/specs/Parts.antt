@@ -55,7 +55,7 @@ openedPart = 13
 abbrev pub countersPart : ℕ
 countersPart = 14
 
--- the next four are 0 until a request uses them
+-- 0 until a request uses them: names, closed, started
 abbrev pub namesPart : ℕ
 namesPart = 15
 

@@ -8,7 +8,7 @@ use lib.ListN.{set, take, replicate}
 use Rattle.lists.specs.Arranged.{insertBefore, remove}
 use Rattle.cells.specs.Sizes.{revisions, clients, main, closed, stateOut, stateJoined}
 use Rattle.cells.specs.Parts.{Parts, split, glue, size, _⟨_≔_⟩, rowsPart, lowPart, highPart, seenPart, caughtPart, statePart, usedPart, lastPart, firstPart}
-use Rattle.cells.specs.Parts.{countPart, basePart, layoutPart, queuePart, openedPart, countersPart, signaturePart}
+use Rattle.cells.specs.Parts.{countPart, basePart, layoutPart, queuePart, openedPart, countersPart, singlePart, signaturePart}
 use Rattle.cells.specs.Words.{putWord, putHalf}
 use Rattle.cells.specs.Flags.{pack, putRow}
 use Rattle.cells.specs.Decode.{decode}
@@ -17,8 +17,8 @@ use Rattle.lists.specs.Pool.{forkPool, joinPool}
 use Rattle.cells.specs.CellSteps.{counted, oneFewer, forkCaught, forkRow, forkGiven, forkQueue, spliced, joinCaught, joinQueue}
 
 -- all bytes 0 but these
-abbrev pub freshParts : Parts
-freshParts =
+abbrev pub freshParts : Bool → Parts
+freshParts single =
     (λ i. replicate (size i) 0)
     ⟨ caughtPart ≔ pack clients (λ c r. true) ⟩
     ⟨ statePart ≔ set (replicate revisions 0) main stateOut ⟩
@@ -26,6 +26,7 @@ freshParts =
     ⟨ queuePart ≔ replicate revisions 1 ⟩
     ⟨ openedPart ≔ replicate clients closed ⟩
     ⟨ countersPart ≔ 0 ∷ 0 ∷ 1 ∷ 1 ∷ [] ⟩
+    ⟨ singlePart ≔ cond single 1 0 ∷ [] ⟩
     ⟨ signaturePart ≔ signature ⟩
 
 -- client c's row of caught-up flags has r alone; its open transaction is on r
@@ -108,8 +109,8 @@ joinParts p a b =
     ⟨ countersPart ≔ set (p countersPart) 2 (oneFewer (k .out)) ⟩
 
 -- the same on the bytes
-unfoldable pub freshBytes : List ℕ
-freshBytes = glue freshParts
+unfoldable pub freshBytes : Bool → List ℕ
+freshBytes single = glue (freshParts single)
 
 unfoldable pub queryBytes : List ℕ → ℕ → ℕ → List ℕ
 queryBytes d c r = glue (queryParts (split d) c r)

@@ -1,22 +1,21 @@
 -- What the checks of a client number (code 2), a number given out (3) and the next number (10) say.
 use Prim.Native.Nat.{ℕ, suc, _<_, _≤_}
 use native.Mathlib.Omega.{arith}
-use mathlib.Core.Bool.{true}
+use mathlib.Core.Bool.{true, false, and-false}
 use mathlib.Core.Path.{_≡_, refl, sym, _∙_, ap}
 use mathlib.Core.List.{List}
 use borrow.Author.Tests.{lt-ltb, le-ltb, eq-eqb, ne-eqb}
 use Rattle.cells.specs.Sizes.{clients, revisions}
 use Rattle.cells.specs.Cells.{nextNumber}
 use Rattle.cells.specs.Decode.{cells}
-use Rattle.cells.specs.Range.{inRange}
-use Rattle.cells.proofs.Range.{next-ranged, ranges}
 use Rattle.sizes.specs.Numbers.{revisionCheck}
 use Rattle.sizes.specs.declared.numbers.Client.{Client}
 use Rattle.sizes.specs.declared.numbers.Revision.{Revision}
 use Rattle.sizes.specs.declared.numbers.RevisionCheck.the-variants as revision
 use Rattle.fields.proofs.InRange.{known-below, known-revision, unknown-above, unknown-revision}
-use Rattle.checks.specs.Answers.{clientCheck, givenCheck, nextCheck}
+use Rattle.checks.specs.Answers.{clientCheck, givenCheck, lineCheck, nextCheck}
 use Rattle.checks.specs.declared.given.GivenCheck.the-variants as given
+use Rattle.checks.specs.declared.line.LineCheck.the-variants as line
 use Rattle.checks.specs.declared.next.NextCheck.the-variants as left
 use Rattle.checks.specs.declared.client.ClientCheck.{ClientCheck}
 use Rattle.checks.specs.declared.client.ClientCheck.the-variants.{Known, Unknown}
@@ -53,16 +52,26 @@ module _ (d : List ℕ) (n : ℕ) (r : Revision) (e : revisionCheck n ≡ revisi
   unfolding givenCheck
   given-out z = rw (lt-ltb n revisions (known-revision n r e .1), ← at-n, ne-eqb v 0 z) (ap given.Given (sym (same-revision n r (known-revision n r e .0))))
 
+-- 15
+module _ (d : List ℕ) (r : ℕ) where
+  pub main-on : r ≡ 0 → line.On ≡ lineCheck d r
+  unfolding lineCheck
+  main-on e = rw (eq-eqb r 0 e, and-false)
+
+  pub other-off : (r ≡ 0 → ⊥) → cells d .single ≡ true → line.Off ≡ lineCheck d r
+  unfolding lineCheck
+  other-off n e = rw (ne-eqb r 0 n, e)
+
+  pub other-on : (r ≡ 0 → ⊥) → cells d .single ≡ false → line.On ≡ lineCheck d r
+  unfolding lineCheck
+  other-on n e = rw (ne-eqb r 0 n, e)
+
 -- 10
 module _ (d : List ℕ) (n : ℕ) (en : n ≡ cells d .out) where
   pub none-left : revisions ≤ n → left.Exhausted ≡ nextCheck d
   unfolding nextCheck
   none-left h = rw (← en, le-ltb n revisions h)
 
-  pub next-left : n < revisions → (r : Revision) → revisionCheck (nextNumber (cells d)) ≡ revision.Known r → left.Next r ≡ nextCheck d
+  pub next-left : n < revisions → (r : Revision) → r ≡ record { 0 = nextNumber (cells d) } → left.Next r ≡ nextCheck d
   unfolding nextCheck
-  next-left h r e = rw (← en, lt-ltb n revisions h) (ap left.Next (sym (same-revision (nextNumber (cells d)) r (known-revision (nextNumber (cells d)) r e .0))))
-
--- in range the next number is known
-pub next-known : (d : List ℕ) → inRange d ≡ true → revisionCheck (nextNumber (cells d)) ≡ revision.Unknown → ⊥
-next-known d i e = let a = next-ranged (cells d) (ranges d i) .1 in let b = unknown-revision (nextNumber (cells d)) e in omega arith
+  next-left h r e = rw (← en, lt-ltb n revisions h) (ap left.Next e)

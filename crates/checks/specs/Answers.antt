@@ -6,7 +6,7 @@ use mathlib.Core.List.{List}
 use Rattle.cells.specs.Cells.{nextNumber}
 use Rattle.cells.specs.Decode.{cells}
 use Rattle.cells.specs.Range.{inRange}
-use Rattle.cells.specs.Checks.{isClient, givenOut, joined, openElsewhere, busy, busyByOther, stale, logFull, noneLeft, joinable}
+use Rattle.cells.specs.Checks.{isClient, givenOut, joined, offLine, openElsewhere, busy, busyByOther, stale, logFull, noneLeft, joinable}
 use Rattle.checks.specs.declared.range.RangeCheck.{RangeCheck}
 use Rattle.checks.specs.declared.range.RangeCheck.the-variants as range
 use Rattle.checks.specs.declared.client.ClientCheck.{ClientCheck}
@@ -15,6 +15,8 @@ use Rattle.checks.specs.declared.given.GivenCheck.{GivenCheck}
 use Rattle.checks.specs.declared.given.GivenCheck.the-variants as given
 use Rattle.checks.specs.declared.joined.JoinedCheck.{JoinedCheck}
 use Rattle.checks.specs.declared.joined.JoinedCheck.the-variants as out
+use Rattle.checks.specs.declared.line.LineCheck.{LineCheck}
+use Rattle.checks.specs.declared.line.LineCheck.the-variants as line
 use Rattle.checks.specs.declared.open.OpenCheck.{OpenCheck}
 use Rattle.checks.specs.declared.open.OpenCheck.the-variants as transaction
 use Rattle.checks.specs.declared.busy.UseCheck.{UseCheck}
@@ -43,6 +45,10 @@ givenCheck d n = cond (givenOut (cells d) n) (given.Given (record { 0 = n })) gi
 -- 4 "box already a joinee"
 unfoldable pub joinedCheck : List ℕ → ℕ → JoinedCheck
 joinedCheck d r = cond (joined (cells d) r) out.Joined out.Out
+
+-- 15, 02, U8: "off the line"
+unfoldable pub lineCheck : List ℕ → ℕ → LineCheck
+lineCheck d r = cond (offLine (cells d) r) line.Off line.On
 
 -- 6 "the tablet's open transaction is on another box"
 unfoldable pub openCheck : List ℕ → ℕ → ℕ → OpenCheck

@@ -6,6 +6,7 @@ pub mod client; // client.rt: code 2
 pub mod given; // given.rt: code 3
 pub mod joinable; // joinable.rt: code 11
 pub mod joined; // joined.rt: code 4
+pub mod line; // line.rt: code 15
 pub mod log; // log.rt: code 9
 pub mod next; // next.rt: code 10
 pub mod open; // open.rt: code 6

@@ -1,14 +1,15 @@
 -- Demand 3 of the table: the agreement, and the line-up of the plain day. The starred edges at a table.
 use Prim.Native.Nat.{ℕ}
+use mathlib.Core.Bool.{Bool, true, false}
 use mathlib.Core.Path.{_≡_, refl, sym, _∙_, ap, subst}
 use mathlib.Core.List.{List, [], _∷_}
 use lib.ListN.{length, length-replicate, replicate}
-use Rattle.desk.specs.Calls.{Call, Update, Query, Yield, Fork, Join, Bundle, Looks, Look, Show, Fill, Preview, answerOn, callOn, callsOn, lookOn}
+use Rattle.desk.specs.Calls.{Call, Update, Query, Yield, Fork, Join, Sync, Bundle, Looks, Look, Show, Fill, Preview, answerOn, callOn, callsOn, lookOn}
 use Rattle.plain.specs.Record.{PlainDay, freshDay}
 use Rattle.plain.specs.Answers.{called, answers, answersFrom}
 use Rattle.plain.specs.Edges as Edges
 use Rattle.plain.specs.Edges.{Edge, computed}
-use Rattle.plain.proofs.Edges.{edges-hold, codes-hold, reused-hold}
+use Rattle.plain.proofs.Edges.{edges-hold, codes-hold, reused-hold, on-line-hold}
 use Rattle.plain.proofs.LineUp.{lined-up}
 use Rattle.plain.proofs.Steps.{never-one}
 use Rattle.table.specs.Out.{tableBytes}
@@ -24,14 +25,14 @@ never-from (q ∷ qs) p = (never-one p (callOn length q), never-from qs (called 
 
 pub demand-three : DemandThree
 unfolding answers
-demand-three t h qs =
-    let f = table-follows t h in
+demand-three t h single qs =
+    let f = table-follows t h single in
     record {
       fresh-code = f .0;
       fresh-value = f .1;
       agreement = f .2 qs;
-      sound = subst NeverOne (sym (f .2 qs)) (never-from qs freshDay);
-      line-up = lined-up (calls qs);
+      sound = subst NeverOne (sym (f .2 qs)) (never-from qs (freshDay single));
+      line-up = lined-up single (calls qs);
     }
 
 -- a call asked with a sheet of zeros is the call
@@ -49,6 +50,7 @@ same-call (Query c n bib) = refl
 same-call (Yield c) = refl
 same-call (Fork n) = refl
 same-call (Join n m) = refl
+same-call (Sync m) = refl
 same-call (Bundle c n batch) = refl
 same-call (Looks l) = ap Looks (same-look l)
 
@@ -61,14 +63,19 @@ unfolding replies answersFrom
 said-from [] p = refl
 said-from (q ∷ qs) p = ap (λ z. answerOn (λ s. tt) (called p (callOn length q) .answer) ∷ z) (said-from qs (called p (callOn length q) .next))
 
-module _ (t : List ℕ) (h : length t ≡ tableBytes) where
-  same-computed : (es : List Edge) → computedOn t es ≡ computed es
+module _ (t : List ℕ) (h : length t ≡ tableBytes) (single : Bool) where
+  same-computed : (es : List Edge) → computedOn t single es ≡ computed single es
   unfolding answers
   same-computed [] = refl
   same-computed (e ∷ es) =
-      let first = ap Edges.said (table-follows t h .2 (callsOn zeros (e .calls))) ∙ said-from (callsOn zeros (e .calls)) freshDay ∙ ap (λ cs. Edges.said (answers cs)) (same-calls (e .calls)) in
+      let first = ap Edges.said (table-follows t h single .2 (callsOn zeros (e .calls))) ∙ said-from (callsOn zeros (e .calls)) (freshDay single) ∙ ap (λ cs. Edges.said (answers single cs)) (same-calls (e .calls)) in
       let rest = same-computed es in
       λ i. first i ∷ rest i
 
 pub edges-at-table : EdgesHold
-edges-at-table t h = (same-computed t h Edges.edges ∙ edges-hold, same-computed t h Edges.codes ∙ codes-hold, same-computed t h Edges.reused ∙ reused-hold)
+edges-at-table t h = (
+  same-computed t h false Edges.edges ∙ edges-hold,
+  same-computed t h false Edges.codes ∙ codes-hold,
+  same-computed t h false Edges.reused ∙ reused-hold,
+  same-computed t h true Edges.onLine ∙ on-line-hold,
+)

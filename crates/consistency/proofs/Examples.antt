@@ -1,5 +1,5 @@
 -- 01, "Edges of a race day", on the cells, by computation: which steps pass, and what is listed, as on the day.
-use mathlib.Core.Bool.{Bool, cond, not, _&&_}
+use mathlib.Core.Bool.{Bool, cond, false, not, _&&_}
 use mathlib.Core.Path.{_≡_, refl}
 use mathlib.Core.List.{List, [], _∷_}
 use Rattle.lists.specs.Sums.{anyBelow}
@@ -35,12 +35,12 @@ answers k (s ∷ ss) = passes k s ∷ answers (tried k s) ss
 
 abbrev computed : List Example → List (List Bool)
 computed [] = []
-computed (e ∷ es) = answers freshCells (e .steps) ∷ computed es
+computed (e ∷ es) = answers (freshCells false) (e .steps) ∷ computed es
 
 examples-hold : computed examples ≡ expected examples
 unfolding passes stepCells chain insertBefore remove anyBelow
 examples-hold = refl
 
-e1-list : order (triedAll freshCells e1) 0 ≡ e1List
+e1-list : order (triedAll (freshCells false) e1) 0 ≡ e1List
 unfolding passes stepCells chain insertBefore remove anyBelow behind order counted oneFewer
 e1-list = refl

@@ -1,9 +1,10 @@
 -- From a fresh table, through every run of accepted steps, cells and bytes agree with the day; through every list of
--- calls the replies do, demand 3 holds, own updates add up, and previews follow joins.
+-- calls the replies do, demand 3 holds, own updates add up, previews follow joins, and syncs are joins and forks.
 pub mod Table
 pub mod Refusals
 pub mod Stays
 pub mod Demand
 pub mod Fills
 pub mod Previews
+pub mod Syncs
 mod Examples

@@ -9,12 +9,13 @@ use borrow.Author.Tests.{eqb-false}
 use Rattle.lists.specs.Lists.{_∈_}
 use Rattle.lists.proofs.Cases.{cases}
 use Rattle.bundles.specs.declared.entry.Entry.{Entry}
-use Rattle.desk.specs.Calls.{Call, Update, Query, Yield, Fork, Join, Bundle, Looks, Show, Fill, Preview, Batch, Records, Entries, entriesOf}
+use Rattle.desk.specs.Calls.{Call, Update, Query, Yield, Fork, Join, Sync, Bundle, Looks, Show, Fill, Preview, Batch, Records, Entries, entriesOf}
 use Rattle.desk.specs.Checks.{checks, settle, codesFor}
-use Rattle.desk.proofs.Checks.{Refused, among-in, refused-only}
+use Rattle.desk.proofs.Checks.{Passed, Refused, among-in, refused-only}
 use Rattle.table.specs.Answers.{afterTaken, refused}
 use Rattle.table.specs.Out.{Out, tableBytes}
-use Rattle.table.specs.Calls.{asked, batchOut, bundleOut, entriesOut, fillOut, forkOut, freshOut, joinOut, listOut, noFill, noProspect, previewOut, queryOut, sentOut, settled, updateOut, yieldOut}
+use Rattle.table.specs.Calls.{asked, batchOut, bundleOut, entriesOut, fillOut, forkOut, freshOut, joinOut, listOut, noFill, noProspect, previewOut, queryOut, sentOut, settled, syncOut, updateOut, yieldOut}
+use Rattle.table.proofs.Syncs.{sync-ends}
 use Rattle.table.specs.declared.answer.Level.{Level}
 use Rattle.table.specs.declared.answer.Prospect.{Prospect}
 use Rattle.consistency.specs.Table.{levelReply, onTable, outReply, prospectReply}
@@ -27,26 +28,31 @@ listed c = codesFor c
 abbrev OutRefused : List ℕ → List ℕ → Out → Type 0
 OutRefused lent listed = Refused (λ (o : Out). o .code) (refused lent) listed
 
-out-refused : (t lent : List ℕ) (c : Call ℕ) (end : Out) → ((end .code ≡ 0 → ⊥) → OutRefused lent (codesFor c) end)
+out-refused : (t lent : List ℕ) (c : Call ℕ) (end : Out) → (Passed (checks (asked t) c) → (end .code ≡ 0 → ⊥) → OutRefused lent (codesFor c) end)
     → (settle (checks (asked t) c) (refused lent) end .code ≡ 0 → ⊥) → OutRefused lent (codesFor c) (settle (checks (asked t) c) (refused lent) end)
 out-refused t lent c end f = refused-only (λ (o : Out). o .code) (refused lent) (λ k. refl) (asked t) c end f
 
-level-refused : (t : List ℕ) (c : Call ℕ) (end : Level) → ((end .code ≡ 0 → ⊥) → Refused (λ (f : Level). f .code) noFill (codesFor c) end)
+level-refused : (t : List ℕ) (c : Call ℕ) (end : Level) → (Passed (checks (asked t) c) → (end .code ≡ 0 → ⊥) → Refused (λ (f : Level). f .code) noFill (codesFor c) end)
     → (settle (checks (asked t) c) noFill end .code ≡ 0 → ⊥) → Refused (λ (f : Level). f .code) noFill (codesFor c) (settle (checks (asked t) c) noFill end)
 level-refused t c end f = refused-only (λ (f : Level). f .code) noFill (λ k. refl) (asked t) c end f
 
 module _ (t : List ℕ) where
   update-refused : (c n k bib v : ℕ) → (updateOut t c n k bib v .code ≡ 0 → ⊥) → OutRefused t (listed (Update c n k bib v)) (updateOut t c n k bib v)
   unfolding updateOut
-  update-refused c n k bib v = out-refused t t (Update c n k bib v) _ (λ h. absurd (h refl))
+  update-refused c n k bib v = out-refused t t (Update c n k bib v) _ (λ P h. absurd (h refl))
 
   yield-refused : (c : ℕ) → (yieldOut t c .code ≡ 0 → ⊥) → OutRefused t (listed (Yield c)) (yieldOut t c)
   unfolding yieldOut
-  yield-refused c = out-refused t t (Yield c) _ (λ h. absurd (h refl))
+  yield-refused c = out-refused t t (Yield c) _ (λ P h. absurd (h refl))
 
   preview-refused : (n m bib : ℕ) → (previewOut t n m bib .code ≡ 0 → ⊥) → Refused (λ (f : Prospect). f .code) noProspect (listed (Looks (Preview n m bib))) (previewOut t n m bib)
   unfolding previewOut
-  preview-refused n m bib = refused-only (λ (f : Prospect). f .code) noProspect (λ k. refl) (asked t) (Looks (Preview n m bib)) _ (λ h. absurd (h refl))
+  preview-refused n m bib = refused-only (λ (f : Prospect). f .code) noProspect (λ k. refl) (asked t) (Looks (Preview n m bib)) _ (λ P h. absurd (h refl))
+
+-- a sync whose checks find nothing is taken
+sync-refused : (t : List ℕ) (m : ℕ) → (syncOut t m .code ≡ 0 → ⊥) → OutRefused t (listed (Sync m)) (syncOut t m)
+unfolding syncOut
+sync-refused t m = out-refused t t (Sync m) _ (λ P h. absurd (h (ap (λ o. o .code) (sync-ends t m P))))
 
 -- the updates of a bundle and its yield, one by one: the first refusal has a number of theirs
 abbrev eventCodes : List ℕ
@@ -67,21 +73,22 @@ settled-refused t o c n batch f =
     cases (eqb (o .code) 0) (λ q. rw q (λ h. absurd (h refl))) (λ q. rw q (λ h. record { number = among-in eventCodes (listed (Bundle c n batch)) refl (o .code) (f (eqb-false (o .code) 0 q)); is = refl }))
 
 batch-refused : (t : List ℕ) (c n : ℕ) (batch : Batch) → (batchOut t c n batch .code ≡ 0 → ⊥) → OutRefused t (listed (Bundle c n batch)) (batchOut t c n batch)
-batch-refused t c n batch = out-refused t t (Bundle c n batch) _ (settled-refused t (sentOut t c n (entriesOf batch)) c n batch (sent-refused (entriesOf batch) t c n))
+batch-refused t c n batch = out-refused t t (Bundle c n batch) _ (λ P. settled-refused t (sentOut t c n (entriesOf batch)) c n batch (sent-refused (entriesOf batch) t c n))
 
 pub refusals-change-nothing : RefusalsChangeNothing
 unfolding queryOut forkOut joinOut listOut fillOut bundleOut entriesOut
 refusals-change-nothing t (Update c n k bib v) e = let r = update-refused t c n k bib v e in record { number = r .number; blank = ap onTable (r .is) }
-refusals-change-nothing t (Query c n bib) e = let r = out-refused t t (Query c n bib) _ (λ h. absurd (h refl)) e in record { number = r .number; blank = ap onTable (r .is) }
+refusals-change-nothing t (Query c n bib) e = let r = out-refused t t (Query c n bib) _ (λ P h. absurd (h refl)) e in record { number = r .number; blank = ap onTable (r .is) }
 refusals-change-nothing t (Yield c) e = let r = yield-refused t c e in record { number = r .number; blank = ap onTable (r .is) }
-refusals-change-nothing t (Fork n) e = let r = out-refused t t (Fork n) _ (λ h. absurd (h refl)) e in record { number = r .number; blank = ap onTable (r .is) }
-refusals-change-nothing t (Join n m) e = let r = out-refused t t (Join n m) _ (λ h. absurd (h refl)) e in record { number = r .number; blank = ap onTable (r .is) }
+refusals-change-nothing t (Fork n) e = let r = out-refused t t (Fork n) _ (λ P h. absurd (h refl)) e in record { number = r .number; blank = ap onTable (r .is) }
+refusals-change-nothing t (Join n m) e = let r = out-refused t t (Join n m) _ (λ P h. absurd (h refl)) e in record { number = r .number; blank = ap onTable (r .is) }
+refusals-change-nothing t (Sync m) e = let r = sync-refused t m e in record { number = r .number; blank = ap onTable (r .is) }
 refusals-change-nothing t (Bundle c n (Records tableBytes)) e = let r = batch-refused t c n (Records tableBytes) e in record { number = r .number; blank = ap onTable (r .is) }
 refusals-change-nothing t (Bundle c n (Entries es)) e = let r = batch-refused t c n (Entries es) e in record { number = r .number; blank = ap onTable (r .is) }
-refusals-change-nothing t (Looks (Show n s)) e = let r = out-refused t s (Looks (Show n (length s))) _ (λ h. absurd (h refl)) e in record { number = r .number; blank = ap (λ u. record { reply = outReply u (u .lent); table = t }) (r .is) }
-refusals-change-nothing t (Looks (Fill n)) e = let r = level-refused t (Looks (Fill n)) _ (λ h. absurd (h refl)) e in record { number = r .number; blank = ap (λ f. record { reply = levelReply f; table = t }) (r .is) }
+refusals-change-nothing t (Looks (Show n s)) e = let r = out-refused t s (Looks (Show n (length s))) _ (λ P h. absurd (h refl)) e in record { number = r .number; blank = ap (λ u. record { reply = outReply u (u .lent); table = t }) (r .is) }
+refusals-change-nothing t (Looks (Fill n)) e = let r = level-refused t (Looks (Fill n)) _ (λ P h. absurd (h refl)) e in record { number = r .number; blank = ap (λ f. record { reply = levelReply f; table = t }) (r .is) }
 refusals-change-nothing t (Looks (Preview n m bib)) e = let r = preview-refused t n m bib e in record { number = r .number; blank = ap (λ f. record { reply = prospectReply f; table = t }) (r .is) }
 
 pub fresh-refused : FreshRefused
 unfolding freshOut
-fresh-refused t n = cases (not (eqb (length t) tableBytes)) (λ e. rw e (refl, refl, refl)) (λ e. absurd (n (rw e)))
+fresh-refused t single n = cases (not (eqb (length t) tableBytes)) (λ e. rw e (refl, refl, refl)) (λ e. absurd (n (rw e)))

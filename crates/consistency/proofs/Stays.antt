@@ -11,7 +11,7 @@ use borrow.Author.Tests.{eq-eqb, ltb-true, not-false}
 use Rattle.lists.proofs.Cases.{and-true, cases, or-false}
 use Rattle.bundles.specs.declared.entry.Entry.{Entry}
 use Rattle.updates.specs.Kinds.{kindOf}
-use Rattle.desk.specs.Calls.{Call, Update, Query, Yield, Fork, Join, Bundle, Looks, Show, Fill, Preview, Batch, Records, Entries, entriesOf}
+use Rattle.desk.specs.Calls.{Call, Update, Query, Yield, Fork, Join, Sync, Bundle, Looks, Show, Fill, Preview, Batch, Records, Entries, entriesOf}
 use Rattle.desk.specs.Checks.{checks, settle}
 use Rattle.desk.proofs.Checks.{Ends, Passed, _also_, ends, no, no-table-first, yes}
 use Rattle.cells.specs.Sizes.{clients, revisions, updates}
@@ -27,7 +27,7 @@ use Rattle.entries.proofs.Entries.{wrote-length}
 use Rattle.table.specs.Halves.{low, high, cellsOf, isTable}
 use Rattle.table.specs.Answers.{afterTaken, refused}
 use Rattle.table.specs.Out.{Out, tableBytes}
-use Rattle.table.specs.Calls.{asked, batchOut, bundleOut, entriesOut, fillOut, forkOut, freshOut, joinOut, listOut, noFill, noProspect, previewOut, queryOut, sentOut, settled, updateOut, yieldOut}
+use Rattle.table.specs.Calls.{asOne, asked, batchOut, bundleOut, entriesOut, fillOut, forkOut, freshOut, joinEnd, joinOut, listOut, noFill, noProspect, previewOut, queryOut, sentOut, settled, syncOut, updateOut, yieldOut}
 use Rattle.table.proofs.Halves.{lower-of, table-of, upper-length}
 use Rattle.table.specs.declared.answer.Level.{Level}
 use Rattle.table.specs.declared.answer.Prospect.{Prospect}
@@ -36,15 +36,15 @@ use Rattle.consistency.specs.Stays.{FreshMakesTable, LeavesTable, StaysT
 
 -- 1 is given exactly if there is no table, where the end does not give it
 module _ {A : Type 0} (codeOf : A → ℕ) (refusal : ℕ → A) (own : (k : ℕ) → codeOf (refusal k) ≡ k) (t : List ℕ) (c : Call ℕ) (end : A) where
-  one-exactly : (isTable t ≡ true → codeOf end ≡ 1 → ⊥) → (codeOf (settle (checks (asked t) c) refusal end) ≡ 1) ↔ (isTable t ≡ false)
+  one-exactly : (isTable t ≡ true → Passed (checks (asked t) c) → codeOf end ≡ 1 → ⊥) → (codeOf (settle (checks (asked t) c) refusal end) ≡ 1) ↔ (isTable t ≡ false)
   one-exactly f =
       (λ e. cases (isTable t) (λ h. absurd (by h (ends refusal end (asked t) (rw h) c) e)) (λ h. h), λ h. ap codeOf (no-table-first refusal end (asked t) (rw h) c) ∙ own 1)
     where
       by : isTable t ≡ true → {a : A} → Ends (checks (asked t) c) refusal end a → codeOf a ≡ 1 → ⊥
       by h (no k l) e = omega (arith, own k, l, e)
-      by h (yes P) e = f h e
+      by h (yes P) e = f h P e
 
-out-one : (t lent : List ℕ) (c : Call ℕ) (end : Out) → (isTable t ≡ true → end .code ≡ 1 → ⊥) → (settle (checks (asked t) c) (refused lent) end .code ≡ 1) ↔ (isTable t ≡ false)
+out-one : (t lent : List ℕ) (c : Call ℕ) (end : Out) → (isTable t ≡ true → Passed (checks (asked t) c) → end .code ≡ 1 → ⊥) → (settle (checks (asked t) c) (refused lent) end .code ≡ 1) ↔ (isTable t ≡ false)
 out-one t lent = one-exactly (λ (o : Out). o .code) (refused lent) (λ k. refl) t
 
 module _ (t : List ℕ) (h : isTable t ≡ true) where
@@ -77,14 +77,14 @@ module _ (t : List ℕ) (h : isTable t ≡ true) where
   query-end c n bib (e1 also e2 also e3 also P) = table-of (queryBytes (low t) c n) (high t) (query-stays (low t) L c n (client c e2) (revision n e3)) upper
 
   fork-end : (n : ℕ) → Passed (checks (asked t) (Fork n)) → isTable (forkBytes (low t) n (nextNumber (cellsOf t)) ++ high t) ≡ true
-  fork-end n (e1 also e3 also e4 also e7 also e10 also P) =
+  fork-end n (e1 also e3 also e4 also e15 also e7 also e10 also P) =
       let next = nextNumber (cellsOf t) in
       let low-next = next-ranged (cellsOf t) (ranges (low t) (L .ranged)) .1 in
       let room = ltb-true (cellsOf t .out) revisions (not-false _ e10) in
       table-of (forkBytes (low t) n next) (high t) (fork-stays (low t) L n next (revision n e3) low-next room) upper
 
   join-end : (n m : ℕ) → Passed (checks (asked t) (Join n m)) → isTable (joinBytes (low t) n m ++ high t) ≡ true
-  join-end n m (e1 also e3 also e4 also e7 also e11 also P) =
+  join-end n m (e1 also e3 also e4 also e15 also e7 also e11 also P) =
       let both = or-false (not (givenOut (cellsOf t) n)) (not (givenOut (cellsOf t) m)) e3 in
       let pos = joinee-some (cellsOf t) n m (not-false (joinable (cellsOf t) n m) e11) in
       table-of (joinBytes (low t) n m) (high t) (join-stays (low t) L n m (revision n (both .0)) (revision m (both .1)) pos) upper
@@ -95,11 +95,11 @@ module _ (t : List ℕ) (h : isTable t ≡ true) where
 -- an update and a yield; and so the calls of a bundle, each of which leaves a table to the next
 update-leaves : (t : List ℕ) (c n k bib v : ℕ) → LeavesTable t (Update c n k bib v)
 unfolding updateOut
-update-leaves t c n k bib v = record { stays = λ h. out-stays t h (Update c n k bib v) _ (update-end t h c n k bib v); one = out-one t t (Update c n k bib v) _ (λ h e. omega arith) }
+update-leaves t c n k bib v = record { stays = λ h. out-stays t h (Update c n k bib v) _ (update-end t h c n k bib v); one = out-one t t (Update c n k bib v) _ (λ h P e. omega arith) }
 
 yield-leaves : (t : List ℕ) (c : ℕ) → LeavesTable t (Yield c)
 unfolding yieldOut
-yield-leaves t c = record { stays = λ h. out-stays t h (Yield c) _ (λ P. yield-end t h c); one = out-one t t (Yield c) _ (λ h e. omega arith) }
+yield-leaves t c = record { stays = λ h. out-stays t h (Yield c) _ (λ P. yield-end t h c); one = out-one t t (Yield c) _ (λ h P e. omega arith) }
 
 abbrev Kept : Out → Type 0
 Kept o = (isTable (o .lent) ≡ true) × (o .code ≡ 1 → ⊥)
@@ -125,21 +125,33 @@ batch-stays : (t : List ℕ) → isTable t ≡ true → (c n : ℕ) (batch : Bat
 batch-stays t h c n batch = out-stays t h (Bundle c n batch) _ (λ P. settled-kept t h c n (entriesOf batch) .0)
 
 batch-one : (t : List ℕ) (c n : ℕ) (batch : Batch) → (batchOut t c n batch .code ≡ 1) ↔ (isTable t ≡ false)
-batch-one t c n batch = out-one t t (Bundle c n batch) _ (λ h. settled-kept t h c n (entriesOf batch) .1)
+batch-one t c n batch = out-one t t (Bundle c n batch) _ (λ h P. settled-kept t h c n (entriesOf batch) .1)
+
+-- a sync's join leaves a table to its fork
+fork-leaves : (t : List ℕ) (n : ℕ) → LeavesTable t (Fork n)
+unfolding forkOut
+fork-leaves t n = record { stays = λ h. out-stays t h (Fork n) _ (fork-end t h n); one = out-one t t (Fork n) _ (λ h P e. omega arith) }
+
+sync-kept : (t : List ℕ) → isTable t ≡ true → (m : ℕ) → Passed (checks (asked t) (Sync m)) → Kept (asOne t (forkOut (joinEnd t 0 m .lent) 0))
+sync-kept t h m P = by _ (kept _ (join-end t h 0 m P) (Fork 0) (fork-leaves _ 0))
+  where
+    by : (o : Out) → Kept o → Kept (asOne t o)
+    by o K = cases (eqb (o .code) 0) (λ q. rw q K) (λ q. rw q (h, K .1))
 
 pub stays-table : StaysTable
-unfolding queryOut forkOut joinOut listOut fillOut bundleOut entriesOut previewOut
+unfolding queryOut joinOut syncOut listOut fillOut bundleOut entriesOut previewOut
 stays-table t (Update c n k bib v) = update-leaves t c n k bib v
-stays-table t (Query c n bib) = record { stays = λ h. out-stays t h (Query c n bib) _ (query-end t h c n bib); one = out-one t t (Query c n bib) _ (λ h e. omega arith) }
+stays-table t (Query c n bib) = record { stays = λ h. out-stays t h (Query c n bib) _ (query-end t h c n bib); one = out-one t t (Query c n bib) _ (λ h P e. omega arith) }
 stays-table t (Yield c) = yield-leaves t c
-stays-table t (Fork n) = record { stays = λ h. out-stays t h (Fork n) _ (fork-end t h n); one = out-one t t (Fork n) _ (λ h e. omega arith) }
-stays-table t (Join n m) = record { stays = λ h. out-stays t h (Join n m) _ (join-end t h n m); one = out-one t t (Join n m) _ (λ h e. omega arith) }
+stays-table t (Fork n) = fork-leaves t n
+stays-table t (Join n m) = record { stays = λ h. out-stays t h (Join n m) _ (join-end t h n m); one = out-one t t (Join n m) _ (λ h P e. omega arith) }
+stays-table t (Sync m) = record { stays = λ h. out-stays t h (Sync m) _ (λ P. sync-kept t h m P .0); one = out-one t t (Sync m) _ (λ h P. sync-kept t h m P .1) }
 stays-table t (Bundle c n (Records bytes)) = record { stays = λ h. batch-stays t h c n (Records bytes); one = batch-one t c n (Records bytes) }
 stays-table t (Bundle c n (Entries es)) = record { stays = λ h. batch-stays t h c n (Entries es); one = batch-one t c n (Entries es) }
-stays-table t (Looks (Show n s)) = record { stays = λ h. h; one = out-one t s (Looks (Show n (length s))) _ (λ h e. omega arith) }
-stays-table t (Looks (Fill n)) = record { stays = λ h. h; one = one-exactly (λ (f : Level). f .code) noFill (λ k. refl) t (Looks (Fill n)) _ (λ h e. omega arith) }
-stays-table t (Looks (Preview n m bib)) = record { stays = λ h. h; one = one-exactly (λ (f : Prospect). f .code) noProspect (λ k. refl) t (Looks (Preview n m bib)) _ (λ h e. omega arith) }
+stays-table t (Looks (Show n s)) = record { stays = λ h. h; one = out-one t s (Looks (Show n (length s))) _ (λ h P e. omega arith) }
+stays-table t (Looks (Fill n)) = record { stays = λ h. h; one = one-exactly (λ (f : Level). f .code) noFill (λ k. refl) t (Looks (Fill n)) _ (λ h P e. omega arith) }
+stays-table t (Looks (Preview n m bib)) = record { stays = λ h. h; one = one-exactly (λ (f : Prospect). f .code) noProspect (λ k. refl) t (Looks (Preview n m bib)) _ (λ h P e. omega arith) }
 
 pub fresh-makes-table : FreshMakesTable
 unfolding freshOut
-fresh-makes-table t l = rw (eq-eqb (length t) tableBytes l) (table-of _ _ fresh-stays (length-replicate {A = ℕ} Upper.entryBytes 0))
+fresh-makes-table t l single = rw (eq-eqb (length t) tableBytes l) (table-of _ _ (fresh-stays single) (length-replicate {A = ℕ} Upper.entryBytes 0))

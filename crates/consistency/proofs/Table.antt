@@ -5,4 +5,5 @@ pub mod Rows
 pub mod Calls
 pub mod Bundles
 pub mod Previews
+pub mod Syncs
 pub mod Follows

@@ -1,6 +1,7 @@
--- Demand 3 of the table, whole: for every buffer of the right length made fresh and every list of calls with any arguments, refused ones
+-- Demand 3 of the table, whole: for every buffer of the right length made fresh, with either choice (02, U8), and every list of calls with any arguments, refused ones
 -- included. `LineUp` is the claim about the plain day alone (crate `plain`); the agreement makes it one about the table.
 use Prim.Native.Nat.{ℕ}
+use mathlib.Core.Bool.{Bool}
 use mathlib.Core.Path.{_≡_}
 use mathlib.Core.List.{List, [], _∷_}
 use lib.ListN.{length}
@@ -16,16 +17,16 @@ unfoldable pub NeverOne : List (Answer (List ℕ)) → Type 0
 NeverOne [] = Unit {0}
 NeverOne (r ∷ rs) = (r .code ≡ 1 → ⊥) × NeverOne rs
 
-pub record Explained (t : List ℕ) (qs : List (Call (List ℕ))) : Type 0 where
+pub record Explained (t : List ℕ) (single : Bool) (qs : List (Call (List ℕ))) : Type 0 where
   -- "Fresh accepts any content of the right length, starts a new day and gives 0."
-  pub fresh-code : freshOut t .code ≡ 0
-  pub fresh-value : freshOut t .value ≡ 0
+  pub fresh-code : freshOut t single .code ≡ 0
+  pub fresh-value : freshOut t single .value ≡ 0
   -- "Each call's code and all that it answers with, and the entries a taken list writes, are this day's."
-  pub agreement : repliesOn (freshOut t .lent) qs ≡ replies qs (answers (calls qs))
+  pub agreement : repliesOn (freshOut t single .lent) qs ≡ replies qs (answers single (calls qs))
   -- "A table made fresh and then used only through the calls never meets 1."
-  pub sound : NeverOne (repliesOn (freshOut t .lent) qs)
+  pub sound : NeverOne (repliesOn (freshOut t single .lent) qs)
   -- "a single claim about the whole list of calls, with one line-up for it"
-  pub line-up : LineUp (calls qs)
+  pub line-up : LineUp single (calls qs)
 
 abbrev pub DemandThree : Type 0
-DemandThree = (t : List ℕ) → length t ≡ tableBytes → (qs : List (Call (List ℕ))) → Explained t qs
+DemandThree = (t : List ℕ) → length t ≡ tableBytes → (single : Bool) (qs : List (Call (List ℕ))) → Explained t single qs

@@ -1,18 +1,21 @@
 -- 01, "Edges of a race day", and those of 02, at a table.
 use Prim.Native.Nat.{ℕ}
+use mathlib.Core.Bool.{Bool, true, false}
 use mathlib.Core.Path.{_≡_}
 use mathlib.Core.List.{List, [], _∷_}
 use lib.ListN.{length, replicate}
 use Rattle.desk.specs.Calls.{callsOn}
-use Rattle.plain.specs.Edges.{Edge, Said, edges, codes, reused, expected, said}
+use Rattle.plain.specs.Edges.{Edge, Said, edges, codes, reused, onLine, expected, said}
 use Rattle.table.specs.Out.{tableBytes}
 use Rattle.table.specs.Calls.{freshOut}
 use Rattle.consistency.specs.Table.{repliesOn}
 
 -- the starred edges at a table; a list is given a sheet of zeros
-abbrev pub computedOn : List ℕ → List Edge → List (List Said)
-computedOn t [] = []
-computedOn t (e ∷ es) = said (repliesOn (freshOut t .lent) (callsOn (λ room. replicate room 0) (e .calls))) ∷ computedOn t es
+abbrev pub computedOn : List ℕ → Bool → List Edge → List (List Said)
+computedOn t single [] = []
+computedOn t single (e ∷ es) = said (repliesOn (freshOut t single .lent) (callsOn (λ room. replicate room 0) (e .calls))) ∷ computedOn t single es
 
 abbrev pub EdgesHold : Type 0
-EdgesHold = (t : List ℕ) → length t ≡ tableBytes → (computedOn t edges ≡ expected edges) × (computedOn t codes ≡ expected codes) × (computedOn t reused ≡ expected reused)
+EdgesHold =
+    (t : List ℕ) → length t ≡ tableBytes
+    → (computedOn t false edges ≡ expected edges) × (computedOn t false codes ≡ expected codes) × (computedOn t false reused ≡ expected reused) × (computedOn t true onLine ≡ expected onLine)

@@ -1,6 +1,7 @@
 -- 02, U1, at a table: "show that on a day as in demand 3 own updates, summed over all boxes out, always equal the updates
 -- accepted since fresh, that number being counted from the history". Always: after every list of calls.
 use Prim.Native.Nat.{ℕ}
+use mathlib.Core.Bool.{Bool}
 use mathlib.Core.Path.{_≡_}
 use mathlib.Core.List.{List}
 use lib.ListN.{length}
@@ -20,11 +21,11 @@ fillSum t = sumBelow revisions (λ n. fillOut t n .own)
 abbrev pub acceptedUpdates : List (Call (List ℕ)) → List (Answer (List ℕ)) → ℕ
 acceptedUpdates qs rs = acceptedIn (calls qs) (codesOf rs)
 
-pub record FillsAddUp (t : List ℕ) (qs : List (Call (List ℕ))) : Type 0 where
-  pub sum : fillSum (tableAfter (freshOut t .lent) qs) ≡ acceptedUpdates qs (repliesOn (freshOut t .lent) qs)
+pub record FillsAddUp (t : List ℕ) (single : Bool) (qs : List (Call (List ℕ))) : Type 0 where
+  pub sum : fillSum (tableAfter (freshOut t single .lent) qs) ≡ acceptedUpdates qs (repliesOn (freshOut t single .lent) qs)
   -- "the number taken by the whole table" is the same number, whichever box is asked
-  pub total : (n : ℕ) → fillOut (tableAfter (freshOut t .lent) qs) n .code ≡ 0
-      → fillOut (tableAfter (freshOut t .lent) qs) n .total ≡ acceptedUpdates qs (repliesOn (freshOut t .lent) qs)
+  pub total : (n : ℕ) → fillOut (tableAfter (freshOut t single .lent) qs) n .code ≡ 0
+      → fillOut (tableAfter (freshOut t single .lent) qs) n .total ≡ acceptedUpdates qs (repliesOn (freshOut t single .lent) qs)
 
 abbrev pub FillsAddUpOnDays : Type 0
-FillsAddUpOnDays = (t : List ℕ) → length t ≡ tableBytes → (qs : List (Call (List ℕ))) → FillsAddUp t qs
+FillsAddUpOnDays = (t : List ℕ) → length t ≡ tableBytes → (single : Bool) (qs : List (Call (List ℕ))) → FillsAddUp t single qs

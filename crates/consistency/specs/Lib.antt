@@ -7,3 +7,4 @@ pub mod Demand
 pub mod Edges
 pub mod Fills
 pub mod Previews
+pub mod Syncs

@@ -1,5 +1,6 @@
 -- Demand 1: 00, "A refused call gives its number from the list with value 0 and changes no byte." Of every buffer, also one that is no table, and of every call.
 use Prim.Native.Nat.{ℕ}
+use mathlib.Core.Bool.{Bool}
 use mathlib.Core.Path.{_≡_}
 use mathlib.Core.List.{List}
 use Rattle.table.specs.Calls.{freshOut}
@@ -18,4 +19,4 @@ RefusalsChangeNothing = (t : List ℕ) (q : Call (List ℕ)) → (served t q .re
 
 -- of fresh: 1, for the length only
 abbrev pub FreshRefused : Type 0
-FreshRefused = (t : List ℕ) → (freshOut t .code ≡ 0 → ⊥) → (freshOut t .code ≡ 1) × (freshOut t .value ≡ 0) × (freshOut t .lent ≡ t)
+FreshRefused = (t : List ℕ) (single : Bool) → (freshOut t single .code ≡ 0 → ⊥) → (freshOut t single .code ≡ 1) × (freshOut t single .value ≡ 0) × (freshOut t single .lent ≡ t)

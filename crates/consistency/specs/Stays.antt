@@ -1,6 +1,6 @@
 -- A call leaves a table a table, and 1 says that there was none: of every buffer, also one in range that no day made, and of every call.
 use Prim.Native.Nat.{ℕ}
-use mathlib.Core.Bool.{true, false}
+use mathlib.Core.Bool.{Bool, true, false}
 use mathlib.Core.Path.{_≡_}
 use mathlib.Core.Logic.{_↔_}
 use mathlib.Core.List.{List}
@@ -21,4 +21,4 @@ StaysTable = (t : List ℕ) (q : Call (List ℕ)) → LeavesTable t q
 
 -- fresh makes one of any bytes, if they have the length
 abbrev pub FreshMakesTable : Type 0
-FreshMakesTable = (t : List ℕ) → length t ≡ tableBytes → isTable (freshOut t .lent) ≡ true
+FreshMakesTable = (t : List ℕ) → length t ≡ tableBytes → (single : Bool) → isTable (freshOut t single .lent) ≡ true

@@ -3,11 +3,11 @@ use Prim.Native.Nat.{ℕ, _*_}
 use mathlib.Core.List.{List, [], _∷_, _++_}
 use lib.ListN.{length, drop}
 use Rattle.updates.specs.declared.standing.State.the-variants.{Neither}
-use Rattle.desk.specs.Calls.{Call, Update, Query, Yield, Fork, Join, Bundle, Looks, Look, Show, Fill, Preview, Records, Entries, Answer, answerOn, callsOn}
+use Rattle.desk.specs.Calls.{Call, Update, Query, Yield, Fork, Join, Sync, Bundle, Looks, Look, Show, Fill, Preview, Records, Entries, Answer, answerOn, callsOn}
 use Rattle.sheets.specs.Lines.{line}
 use Rattle.plain.specs.Record.{Line}
 use Rattle.table.specs.Out.{Out}
-use Rattle.table.specs.Calls.{updateOut, queryOut, yieldOut, forkOut, joinOut, listOut, fillOut, bundleOut, entriesOut, previewOut}
+use Rattle.table.specs.Calls.{updateOut, queryOut, yieldOut, forkOut, joinOut, syncOut, listOut, fillOut, bundleOut, entriesOut, previewOut}
 use Rattle.table.specs.declared.answer.Level.{Level}
 use Rattle.table.specs.declared.answer.Prospect.{Prospect}
 
@@ -45,6 +45,7 @@ served t (Query c n bib) = onTable (queryOut t c n bib)
 served t (Yield c) = onTable (yieldOut t c)
 served t (Fork n) = onTable (forkOut t n)
 served t (Join n m) = onTable (joinOut t n m)
+served t (Sync m) = onTable (syncOut t m)
 served t (Bundle c n (Records bytes)) = onTable (bundleOut t c n bytes)
 served t (Bundle c n (Entries es)) = onTable (entriesOut t c n es)
 served t (Looks l) = record { reply = looked t l; table = t }
@@ -76,6 +77,7 @@ sheetOf (Query c n bib) = []
 sheetOf (Yield c) = []
 sheetOf (Fork n) = []
 sheetOf (Join n m) = []
+sheetOf (Sync m) = []
 sheetOf (Bundle c n batch) = []
 sheetOf (Looks l) = sheetIn l
 

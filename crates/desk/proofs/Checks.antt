@@ -12,7 +12,7 @@ use Rattle.lists.specs.Lists.{_∈_}
 use Rattle.lists.specs.Arranged.{member}
 use Rattle.lists.proofs.Cases.{and-true, cases, either, or-false}
 use Rattle.lists.proofs.Keep.{in-member, member-in}
-use Rattle.desk.specs.Calls.{Call, Update, Query, Yield, Fork, Join, Bundle, Looks, Show, Fill, Preview}
+use Rattle.desk.specs.Calls.{Call, Update, Query, Yield, Fork, Join, Sync, Bundle, Looks, Show, Fill, Preview}
 use Rattle.desk.specs.Checks.{Check, Tests, _if_, checks, settle, codesFor}
 
 -- no check of a row applies
@@ -59,7 +59,7 @@ module _ {A : Type 0} (refusal : ℕ → A) (end : A) where
 
 -- a code is given exactly if its check applies and none before it does, where the row has it once and the end has another
 module _ {A : Type 0} (codeOf : A → ℕ) (refusal : ℕ → A) (own : (k : ℕ) → codeOf (refusal k) ≡ k) (end : A) (k : Check) (other : codeOf end ≡ k .code → ⊥) where
-  stops-after : (js : List Check) → member (k .code) (numbersOf js) ≡ false → codeOf (settle js refusal end) ≡ k .code → ⊥
+  pub stops-after : (js : List Check) → member (k .code) (numbersOf js) ≡ false → codeOf (settle js refusal end) ≡ k .code → ⊥
   stops-after js h e = by (settled refusal end js) e
     where
       by : {a : A} → Settled js refusal end a → codeOf a ≡ k .code → ⊥
@@ -95,6 +95,7 @@ rows q (Query c n bib) = begins _ [] refl refl
 rows q (Yield c) = begins _ [] refl refl
 rows q (Fork n) = begins _ [] refl refl
 rows q (Join n m) = begins _ [] refl refl
+rows q (Sync m) = begins _ [] refl refl
 rows q (Bundle c n batch) = begins _ (2 ∷ 3 ∷ 4 ∷ 5 ∷ 6 ∷ 7 ∷ 8 ∷ 9 ∷ []) refl refl
 rows q (Looks (Show n room)) = begins _ [] refl refl
 rows q (Looks (Fill n)) = begins _ [] refl refl
@@ -153,12 +154,12 @@ module _ {A : Type 0} (codeOf : A → ℕ) (refusal : ℕ → A) (own : (k : ℕ
   pub is-refusal : (listed : List ℕ) (k : ℕ) → k ∈ listed → Refused codeOf refusal listed (refusal k)
   is-refusal listed k h = record { number = subst (λ n. n ∈ listed) (sym (own k)) h; is = ap refusal (sym (own k)) }
 
-  refused-by : (q : Tests) (c : Call ℕ) (end : A) → ((codeOf end ≡ 0 → ⊥) → Refused codeOf refusal (codesFor c) end) → {a : A} → Settled (checks q c) refusal end a → (codeOf a ≡ 0 → ⊥) → Refused codeOf refusal (codesFor c) a
+  refused-by : (q : Tests) (c : Call ℕ) (end : A) → (Passed (checks q c) → (codeOf end ≡ 0 → ⊥) → Refused codeOf refusal (codesFor c) end) → {a : A} → Settled (checks q c) refusal end a → (codeOf a ≡ 0 → ⊥) → Refused codeOf refusal (codesFor c) a
   refused-by q c end f (stops k i) n = is-refusal (codesFor c) k (in-list q c k i .1)
-  refused-by q c end f (goes P) n = f n
+  refused-by q c end f (goes P) n = f P n
 
   -- a call that is not taken is refused so, if its end is taken or refused so
-  pub refused-only : (q : Tests) (c : Call ℕ) (end : A) → ((codeOf end ≡ 0 → ⊥) → Refused codeOf refusal (codesFor c) end)
+  pub refused-only : (q : Tests) (c : Call ℕ) (end : A) → (Passed (checks q c) → (codeOf end ≡ 0 → ⊥) → Refused codeOf refusal (codesFor c) end)
       → (codeOf (settle (checks q c) refusal end) ≡ 0 → ⊥) → Refused codeOf refusal (codesFor c) (settle (checks q c) refusal end)
   refused-only q c end f = refused-by q c end f (settled refusal end (checks q c))
 

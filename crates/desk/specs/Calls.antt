@@ -1,4 +1,4 @@
--- The calls and what they answer with: 01, "Codes of the desk" and "Listing a box"; 02, U1, U2, U4 and U6. On paper a sheet is told by its
+-- The calls and what they answer with: 01, "Codes of the desk" and "Listing a box"; 02, U1, U2, U4, U6 and U8. On paper a sheet is told by its
 -- length, at a table it is bytes.
 use Prim.Native.Nat.{ℕ}
 use mathlib.Core.Bool.{Bool, _||_}
@@ -39,6 +39,8 @@ pub data Call (Sheet : Type 0) : Type 0 where
   Yield : (client : ℕ) → Call Sheet
   Fork : (revision : ℕ) → Call Sheet
   Join : (joiner joinee : ℕ) → Call Sheet
+  -- 02, U8: "names a box", the joinee
+  Sync : (joinee : ℕ) → Call Sheet
   Bundle : (client revision : ℕ) (batch : Batch) → Call Sheet
   Looks : Look Sheet → Call Sheet
 
@@ -54,6 +56,7 @@ callOn f (Query c n bib) = Query c n bib
 callOn f (Yield c) = Yield c
 callOn f (Fork n) = Fork n
 callOn f (Join n m) = Join n m
+callOn f (Sync m) = Sync m
 callOn f (Bundle c n batch) = Bundle c n batch
 callOn f (Looks l) = Looks (lookOn f l)
 

@@ -10,6 +10,7 @@ pub mod History
 pub mod Theorem
 pub mod Constructed
 pub mod Rules
+pub mod Single
 pub mod Reuse
 pub mod Witness
 pub mod Latest

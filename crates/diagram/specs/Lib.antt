@@ -16,6 +16,7 @@ pub mod Counts
 pub mod Summed
 pub mod Arbitration
 pub mod Witness
+pub mod Single
 pub mod Lawful
 pub mod Accepted
 pub mod Examples

@@ -2,7 +2,7 @@
 use crate::say;
 
 pub fn fresh(t: &mut [u8]) {
-    say::answer(b"fresh", forking::fresh::fresh(t));
+    say::answer(b"fresh", forking::fresh::fresh(t, false));
 }
 
 pub fn update(t: &mut [u8], client: u8, revision: u8, kind: u8, bib: u16, v: u32) {

@@ -1,8 +1,10 @@
 // The calls of the table for C and Rust: numbers and byte slices alone, the answer packed into one number
 // (specs/Packed.antt). A slice is passed as a pointer and a length.
+ghost use mathlib.Core.Bool.{not};
 ghost use mathlib.Core.Path.{_≡_};
+ghost use lib.Dec.{eqb};
 ghost use Prim.Native.Nat.{_≤_};
-ghost use Rattle.table.specs.Calls.{bundleOut, fillOut, forkOut, freshOut, joinOut, listOut, previewOut, queryOut, updateOut, yieldOut};
+ghost use Rattle.table.specs.Calls.{bundleOut, fillOut, forkOut, freshOut, joinOut, listOut, previewOut, queryOut, syncOut, updateOut, yieldOut};
 ghost use Rattle.exports.specs.Packed.{exported, exportedLevel, exportedProspect, returned, packed, packedGain, packedState, stateNumber};
 use updates::standing::State;
 
@@ -39,10 +41,10 @@ fn pack_gain(code: u8, state: State, value: u32, gain: u16) -> u64
 }
 
 #[no_mangle]
-pub extern "C" fn silttongs_fresh(t: &mut [u8]) -> u64
-    ensures { λ r. ⌜ returned r (now (t .exit)) ≡ exported (freshOut (now (t .entry))) ⌝ }
+pub extern "C" fn silttongs_fresh(t: &mut [u8], single: u8) -> u64
+    ensures { λ r. ⌜ returned r (now (t .exit)) ≡ exported (freshOut (now (t .entry)) (not (eqb single 0))) ⌝ }
 {
-    let a = forking::fresh::fresh(t);
+    let a = forking::fresh::fresh(t, single != 0);
     pack(a.code, a.value)
 }
 
@@ -99,6 +101,14 @@ pub extern "C" fn silttongs_join(t: &mut [u8], joiner: u8, joinee: u8) -> u64
     ensures { λ r. ⌜ returned r (now (t .exit)) ≡ exported (joinOut (now (t .entry)) joiner joinee) ⌝ }
 {
     let a = forking::join::join(t, joiner, joinee);
+    pack(a.code, a.value)
+}
+
+#[no_mangle]
+pub extern "C" fn silttongs_sync(t: &mut [u8], joinee: u8) -> u64
+    ensures { λ r. ⌜ returned r (now (t .exit)) ≡ exported (syncOut (now (t .entry)) joinee) ⌝ }
+{
+    let a = forking::sync::sync(t, joinee);
     pack(a.code, a.value)
 }
 

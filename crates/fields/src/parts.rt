@@ -29,7 +29,7 @@ pub const OPENED: usize = 39808;
 
 pub const COUNTERS: usize = 39824;
 
-// The next four are 0 until a request uses them.
+// Names, closed and started are 0 until a request uses them.
 pub const NAMES: usize = 39828;
 
 pub const SINGLE: usize = 40084;

@@ -11,6 +11,7 @@ use crate::numbers::half_at;
 use crate::numbers::word_at;
 use crate::parts::BASE;
 use crate::parts::CAUGHT;
+use crate::parts::CLOSED_UPDATES;
 use crate::parts::COUNT;
 use crate::parts::COUNTERS;
 use crate::parts::FIRST;
@@ -22,6 +23,7 @@ use crate::parts::NAMES;
 use crate::parts::OPENED;
 use crate::parts::QUEUE;
 use crate::parts::SEEN;
+use crate::parts::SINGLE;
 use crate::parts::STATE;
 use crate::parts::USED;
 use sizes::numbers::Client;
@@ -168,4 +170,12 @@ pub fn updates(d: &[u8]) -> usize
     ensures { λ v. ⌜ (v ≡ cells (now (d .entry)) .updates) × (v < 65536) ⌝ }
 {
     word_at(&d[COUNTERS..NAMES], Table::UPDATES_TAKEN)
+}
+
+// The choice given to fresh: whether the day is a single-main day (02, U8).
+pub fn single(d: &[u8]) -> bool
+    requires { ⌜ length (now d) ≡ lowerBytes ⌝ }
+    ensures { λ on. ⌜ on ≡ cells (now (d .entry)) .single ⌝ }
+{
+    byte_at(&d[SINGLE..CLOSED_UPDATES], 0) == 1
 }

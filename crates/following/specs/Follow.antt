@@ -2,7 +2,7 @@
 -- The cells agree with the plain day: each check answers as the day's, each order is the day's, each value is the day's.
 -- The day's diagram decides; the cells have no diagram. Codes and values are those of 01, "Codes of the desk".
 use Prim.Native.Nat.{ℕ, _<_, _≤_}
-use mathlib.Core.Bool.{true, false, not}
+use mathlib.Core.Bool.{Bool, true, false, not}
 use mathlib.Core.Path.{_≡_}
 use mathlib.Core.List.{List}
 use lib.ListN.{length}
@@ -57,10 +57,14 @@ pub record BytesFollow (y : Day) (d : List ℕ) : Type 0 where
   pub ranged : inRange d ≡ true
   pub follow : CellsFollow y (cells d)
 
--- for every run of accepted steps of the day, the cells reached from fresh agree with it
+-- for every choice given to fresh and every run of accepted steps of the day, the cells reached from fresh agree with it
 abbrev pub CellsFollowDays : Type 0
-CellsFollowDays = (ss : List Step) → Accepted ss → CellsFollow (run ss) (cellsAfter ss)
+CellsFollowDays = (single : Bool) (ss : List Step) → Accepted ss → CellsFollow (run ss) (cellsAfter single ss)
 
 -- and so do the bytes
 abbrev pub BytesFollowDays : Type 0
-BytesFollowDays = (ss : List Step) → Accepted ss → BytesFollow (run ss) (bytesAfter ss)
+BytesFollowDays = (single : Bool) (ss : List Step) → Accepted ss → BytesFollow (run ss) (bytesAfter single ss)
+
+-- 02, U8: the choice given to fresh is kept, so that 15 is `Asked.offLine` of the bytes
+abbrev pub ChoiceIsKept : Type 0
+ChoiceIsKept = (single : Bool) (ss : List Step) → Accepted ss → cells (bytesAfter single ss) .single ≡ single

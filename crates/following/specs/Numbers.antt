@@ -1,7 +1,7 @@
 -- No claim rests on this file: it serves the proof of the agreement (crate consistency).
 -- The same agreement over box numbers, as a table is asked: `Means` says which revision a number means on the day.
 use Prim.Native.Nat.{ℕ, _<_}
-use mathlib.Core.Bool.{false, not}
+use mathlib.Core.Bool.{Bool, false, not}
 use mathlib.Core.Path.{_≡_}
 use mathlib.Core.List.{List}
 use lib.ListN.{length}
@@ -38,4 +38,4 @@ pub record NumbersFollow (y : Day) (k : Cells) : Type 0 where
       → Asked.joinable k n m ≡ not (Checks.notJoinable y a b)
 
 abbrev pub NumbersFollowDays : Type 0
-NumbersFollowDays = (ss : List Step) → Accepted ss → NumbersFollow (run ss) (cells (bytesAfter ss))
+NumbersFollowDays = (single : Bool) (ss : List Step) → Accepted ss → NumbersFollow (run ss) (cells (bytesAfter single ss))

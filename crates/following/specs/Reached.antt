@@ -1,7 +1,7 @@
 -- No claim rests on this file: it serves the proof of the agreement (crate consistency).
 -- The cells, and the bytes, that a list of accepted steps makes of a fresh table.
 use Prim.Native.Nat.{ℕ}
-use mathlib.Core.Bool.{true, false}
+use mathlib.Core.Bool.{Bool, true, false}
 use mathlib.Core.List.{List, [], _∷_}
 use Rattle.diagram.specs.Day.{Day, fresh, numberOf}
 use Rattle.diagram.specs.Steps.{Step, Event, Yield, Fork, Join, after}
@@ -29,8 +29,9 @@ unfoldable pub cellsFrom : Day → Cells → List Step → Cells
 cellsFrom y k [] = k
 cellsFrom y k (s ∷ ss) = cellsFrom (after y s) (stepCells k (byNumber y s)) ss
 
-unfoldable pub cellsAfter : List Step → Cells
-cellsAfter ss = cellsFrom fresh freshCells ss
+-- from a table made fresh with either choice (02, U8)
+unfoldable pub cellsAfter : Bool → List Step → Cells
+cellsAfter single ss = cellsFrom fresh (freshCells single) ss
 
 -- the same on the bytes
 unfoldable pub stepBytes : List ℕ → Step → List ℕ
@@ -44,5 +45,5 @@ unfoldable pub bytesFrom : Day → List ℕ → List Step → List ℕ
 bytesFrom y d [] = d
 bytesFrom y d (s ∷ ss) = bytesFrom (after y s) (stepBytes d (byNumber y s)) ss
 
-unfoldable pub bytesAfter : List Step → List ℕ
-bytesAfter ss = bytesFrom fresh freshBytes ss
+unfoldable pub bytesAfter : Bool → List Step → List ℕ
+bytesAfter single ss = bytesFrom fresh (freshBytes single) ss

@@ -2,3 +2,4 @@
 pub mod Checks
 pub mod Cleared
 pub mod Calls
+pub mod Syncs

@@ -19,6 +19,8 @@ use checks::given::GivenCheck;
 use checks::given::check_given;
 use checks::joined::JoinedCheck;
 use checks::joined::check_joined;
+use checks::line::LineCheck;
+use checks::line::check_line;
 use checks::next::NextCheck;
 use checks::next::check_next;
 use sizes::numbers::Revision;
@@ -29,14 +31,14 @@ use table::sound;
 use table::sound::TableCheck;
 
 // p forks c, a number that is not the main revision's.
-fn start(t: &mut [u8], p: Revision, c: Revision)
+pub fn start(t: &mut [u8], p: Revision, c: Revision)
     requires { ⌜ (length (now t) ≡ tableBytes) × (inRange (low (now t)) ≡ true) × (p .0 < revisions) × (0 < c .0) × (c .0 < revisions) ⌝ }
     ensures { λ _. ⌜ now (t .exit) ≡ forkBytes (low (now (t .entry))) (p .0) (c .0) ++ high (now (t .entry)) ⌝ }
 {
     revisions::fork::fork(&mut t[0..Table::LOWER], p, c);
 }
 
-// Checks 3, 4, 7, 10: the revision, and the number of the new one.
+// Checks 3, 4, 15, 7, 10: the revision, and the number of the new one.
 fn check_fork(d: &[u8], revision: u8) -> PairCheck
     requires { ⌜ (length (now d) ≡ Lower.lowerBytes) × (inRange (now d) ≡ true) ⌝ }
     ensures { λ a. ⌜ (a ≡ forkCheck (now (d .entry)) revision) × forkIn a ⌝ }
@@ -46,6 +48,9 @@ fn check_fork(d: &[u8], revision: u8) -> PairCheck
     };
     let JoinedCheck::Out = check_joined(d, p) else {
         return PairCheck::Refused(4);
+    };
+    let LineCheck::On = check_line(d, p) else {
+        return PairCheck::Refused(15);
     };
     let UseCheck::Free = check_use(d, p) else {
         return PairCheck::Refused(7);

@@ -20,7 +20,7 @@ use table::sound;
 use table::sound::TableCheck;
 
 // b is joined into a. How many updates a gained is the answer.
-fn join_lower(t: &mut [u8], a: Revision, b: Revision) -> u32
+pub fn join_lower(t: &mut [u8], a: Revision, b: Revision) -> u32
     requires { ⌜ (length (now t) ≡ tableBytes) × (inRange (low (now t)) ≡ true) × (a .0 < revisions) × (b .0 < revisions) ⌝ }
     ensures { λ n. ⌜ (n ≡ cellsOf (now (t .entry)) .count (b .0)) × (now (t .exit) ≡ joinBytes (low (now (t .entry))) (a .0) (b .0) ++ high (now (t .entry))) ⌝ }
 {

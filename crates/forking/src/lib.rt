@@ -2,3 +2,4 @@
 pub mod fork; // fork.rt: the call fork
 pub mod fresh; // fresh.rt: the call fresh
 pub mod join; // join.rt: the call join
+pub mod sync; // sync.rt: the call sync

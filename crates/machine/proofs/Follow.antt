@@ -3,3 +3,4 @@ pub mod Agrees
 pub mod Steps
 pub mod Shown
 pub mod Pool
+pub mod Single

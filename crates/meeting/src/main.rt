@@ -35,6 +35,6 @@ fn meeting(t: &mut [u8], sheet: &mut [u8]) {
 fn main() {
     let mut t = io::large_buffer();
     let mut sheet = io::large_buffer();
-    forking::fresh::fresh(&mut t);
+    forking::fresh::fresh(&mut t, false);
     meeting(&mut t, &mut sheet);
 }

@@ -19,13 +19,13 @@ use Rattle.plain.specs.Answers.{Outcome, afterTaken, asked, bundled, cal
 use Rattle.plain.specs.Bundles.{AllTaken, parts}
 
 -- no call has code 1: of those whose end is taken
-not-one : (p : PlainDay) (c : Call ℕ) {o : Outcome} → ending p c .answer .code ≡ 0 → Ends (checks (asked (p .day)) c) (refused p) (ending p c) o → o .answer .code ≡ 1 → ⊥
+not-one : (p : PlainDay) (c : Call ℕ) {o : Outcome} → ending p c .answer .code ≡ 0 → Ends (checks (asked p) c) (refused p) (ending p c) o → o .answer .code ≡ 1 → ⊥
 not-one p c z (no k h) e = omega arith
 not-one p c z (yes P) e = omega arith
 
-one-never : (p : PlainDay) (c : Call ℕ) → ending p c .answer .code ≡ 0 → called p c .answer .code ≡ 1 → ⊥
+pub one-never : (p : PlainDay) (c : Call ℕ) → ending p c .answer .code ≡ 0 → called p c .answer .code ≡ 1 → ⊥
 unfolding called
-one-never p c z = not-one p c z (ends (refused p) (ending p c) (asked (p .day)) refl c)
+one-never p c z = not-one p c z (ends (refused p) (ending p c) (asked p) refl c)
 
 -- what goes on after a call that was taken
 after-code : (o : Outcome) (rest : PlainDay → Outcome) → (o .answer .code ≡ 1 → ⊥) → ((q : PlainDay) → rest q .answer .code ≡ 1 → ⊥) → afterTaken o rest .answer .code ≡ 1 → ⊥

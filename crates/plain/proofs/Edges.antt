@@ -1,6 +1,7 @@
 -- Every row of the tables of edges, codes and reused numbers holds, by computing the plain day; so do a full log, all boxes
 -- sent, the lines of a list, and fills.
 use Prim.Native.Nat.{ℕ}
+use mathlib.Core.Bool.{false, true}
 use mathlib.Core.Path.{_≡_, refl}
 use mathlib.Core.List.{List, [], _∷_, _++_}
 use lib.ListN.{replicate}
@@ -22,23 +23,27 @@ use Rattle.desk.specs.Calls.{Call, Update, Query, Yield, Fork, Join, Bundle, En
 use Rattle.entries.specs.declared.entry.Entry.{Entry}
 use Rattle.plain.specs.Record.{Line, PlainDay, freshDay}
 use Rattle.plain.specs.Answers.{called, sent, dayFrom, dayAfter, answersFrom, answers}
-use Rattle.plain.specs.Edges.{edges, codes, reused, said, expected, computed, ok, refusal, neither, filled, list, fill, lent, sends, small, unknownBib}
+use Rattle.plain.specs.Edges.{edges, codes, reused, onLine, said, expected, computed, ok, refusal, neither, filled, list, fill, lent, sends, small, unknownBib}
 
-pub edges-hold : computed edges ≡ expected edges
+pub edges-hold : computed false edges ≡ expected edges
 unfolding called answersFrom answers after leads tabulate isGiven meant nextNumber unknownClient openElsewhere busyByOther busy anyBelow stale logFull noneLeft notJoinable revisionLimit clientLimit updateLimit kindCheck effect earliest penalized stateOf valueIn applied sent entriesIn entriesFrom isWrong number
 edges-hold = refl
 
-pub codes-hold : computed codes ≡ expected codes
+pub codes-hold : computed false codes ≡ expected codes
 unfolding called answersFrom answers after leads tabulate isGiven meant nextNumber unknownClient openElsewhere busyByOther busy anyBelow stale logFull noneLeft notJoinable revisionLimit clientLimit updateLimit kindCheck effect earliest penalized stateOf valueIn applied sent entriesIn entriesFrom isWrong number
 codes-hold = refl
 
-pub reused-hold : computed reused ≡ expected reused
+pub reused-hold : computed false reused ≡ expected reused
 unfolding called answersFrom answers after leads tabulate isGiven meant nextNumber unknownClient openElsewhere busyByOther busy anyBelow stale logFull noneLeft notJoinable revisionLimit clientLimit updateLimit kindCheck effect earliest penalized stateOf valueIn applied sent entriesIn entriesFrom isWrong number
 reused-hold = refl
 
+pub on-line-hold : computed true onLine ≡ expected onLine
+unfolding called answersFrom answers after leads tabulate isGiven meant nextNumber unknownClient openElsewhere busyByOther busy anyBelow stale logFull noneLeft notJoinable revisionLimit clientLimit updateLimit kindCheck effect earliest penalized stateOf valueIn applied sent entriesIn entriesFrom isWrong number
+on-line-hold = refl
+
 -- the fresh day, but with this many updates taken and boxes sent
 abbrev counted : ℕ → ℕ → PlainDay
-counted updates revisions = record { day = withCounts updates revisions; entries = freshDay .entries }
+counted updates revisions = record { single = false; day = withCounts updates revisions; entries = freshDay false .entries }
 
 -- 9 once 4,096 updates are taken, after 8; and not before
 log-full : said (answersFrom (counted 4095 1) (Fork 0 ∷ Update 0 0 1 7 5 ∷ Yield 0 ∷ Update 0 1 1 7 5 ∷ Update 0 0 1 7 5 ∷ Query 0 0 8 ∷ []))
@@ -62,7 +67,7 @@ joining = apart ++ (Join 0 1 ∷ [])
 abbrev entered : Entry → ℕ → Line
 entered e n = record { entry = e; number = n }
 
-lines-listed : called (dayAfter joining) (list 0 36) .answer .sheet
+lines-listed : called (dayAfter false joining) (list 0 36) .answer .sheet
     ≡ entered (record { kind = Time; client = 2; bib = 7; v = 61000 }) 0
     ∷ entered (record { kind = Strike; client = 3; bib = 8; v = 6 }) 2
     ∷ entered (record { kind = Penalty; client = 1; bib = 999; v = 5 }) 1
@@ -71,8 +76,8 @@ unfolding called answersFrom answers after leads tabulate isGiven meant nextNumb
 lines-listed = refl
 
 -- before that join: each box's own updates, and those of the whole table
-fills-told : (called (dayAfter apart) (fill 0) .answer ≡ level 2 3 [])
-    × (called (dayAfter apart) (fill 1) .answer ≡ level 1 3 [])
+fills-told : (called (dayAfter false apart) (fill 0) .answer ≡ level 2 3 [])
+    × (called (dayAfter false apart) (fill 1) .answer ≡ level 1 3 [])
 unfolding called answersFrom answers after leads tabulate isGiven meant nextNumber unknownClient openElsewhere busyByOther busy anyBelow stale logFull noneLeft notJoinable revisionLimit clientLimit updateLimit kindCheck effect earliest penalized stateOf valueIn applied dayFrom dayAfter
 fills-told = (refl, refl)
 
@@ -83,13 +88,13 @@ unfolding called answersFrom answers after leads tabulate isGiven meant nextNumb
 bundle-fills-log = refl
 
 -- 64 records are taken, 65 are 14, and so are bytes that are not a multiple of 12
-most-records : said (answersFrom freshDay (sends 0 0 (replicate 780 1) ∷ sends 0 0 (replicate 767 1) ∷ sends 0 0 (replicate 768 1) ∷ fill 0 ∷ []))
+most-records : said (answersFrom (freshDay false) (sends 0 0 (replicate 780 1) ∷ sends 0 0 (replicate 767 1) ∷ sends 0 0 (replicate 768 1) ∷ fill 0 ∷ []))
     ≡ refusal 14 ∷ refusal 14 ∷ ok 0 ∷ filled 64 64 ∷ []
 unfolding called answersFrom answers after leads tabulate isGiven meant nextNumber unknownClient openElsewhere busyByOther busy anyBelow stale logFull noneLeft notJoinable revisionLimit clientLimit updateLimit kindCheck effect earliest penalized stateOf valueIn applied sent entriesIn entriesFrom isWrong number
 most-records = refl
 
 -- and so are 65 entries of a lent list
-most-entries : said (answersFrom freshDay (Bundle 0 0 (Entries (replicate 65 (lent 1 7 5))) ∷ Bundle 0 0 (Entries (replicate 64 (lent 1 7 5))) ∷ fill 0 ∷ []))
+most-entries : said (answersFrom (freshDay false) (Bundle 0 0 (Entries (replicate 65 (lent 1 7 5))) ∷ Bundle 0 0 (Entries (replicate 64 (lent 1 7 5))) ∷ fill 0 ∷ []))
     ≡ refusal 14 ∷ ok 0 ∷ filled 64 64 ∷ []
 unfolding called answersFrom answers after leads tabulate isGiven meant nextNumber unknownClient openElsewhere busyByOther busy anyBelow stale logFull noneLeft notJoinable revisionLimit clientLimit updateLimit kindCheck effect earliest penalized stateOf valueIn applied sent entriesIn entriesFrom isWrong number
 most-entries = refl

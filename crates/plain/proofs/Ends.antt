@@ -1,8 +1,9 @@
 -- What a call that is taken showed: no check of its row applies, it ended as it does, and its steps are accepted.
 use Prim.Native.Nat.{ℕ}
-use mathlib.Core.Bool.{true, false, not, _||_, true≢false}
+use mathlib.Core.Bool.{true, false, not, _&&_, _||_, true≢false}
 use mathlib.Core.Path.{_≡_, refl}
 use mathlib.Core.Option.{some}
+use lib.Dec.{eqb}
 use borrow.Author.Tests.{not-false}
 use Rattle.lists.proofs.Cases.{or-false}
 use Rattle.updates.specs.declared.kind.KindCheck.{KindCheck}
@@ -25,11 +26,11 @@ use Rattle.plain.specs.Answers.{Outcome, refused, asked, ending, called}
 
 -- the row of a call on the day
 abbrev pub Passes : PlainDay → Call ℕ → Type 0
-Passes p c = Passed (checks (asked (p .day)) c)
+Passes p c = Passed (checks (asked p) c)
 
 pub was-taken : (p : PlainDay) (c : Call ℕ) → called p c .answer .code ≡ 0 → Passes p c × (called p c ≡ ending p c)
 unfolding called
-was-taken p c e = let t = took (λ (o : Outcome). o .answer .code) (refused p) (λ k. refl) (asked (p .day)) c (ending p c) e in (t .passed, t .is)
+was-taken p c e = let t = took (λ (o : Outcome). o .answer .code) (refused p) (λ k. refl) (asked p) c (ending p c) e in (t .passed, t .is)
 
 -- a byte that is no unknown kind is its kind
 is-kind : (k : KindCheck) → isUnknown k ≡ false → k ≡ Known (kindIn k)
@@ -66,25 +67,26 @@ module _ (p : PlainDay) where
   yield-accepts c (e1 also e2 also Rows.none) = accept-yield y c e2
 
   pub fork-accepts : (n : ℕ) → Passes p (Fork n) → accepted y (Steps.Fork (meant y n)) ≡ true
-  fork-accepts n (e1 also e3 also e4 also e7 also e10 also Rows.none) = accept-fork y (meant y n) (known n e3) e4 e7 e10
+  fork-accepts n (e1 also e3 also e4 also e15 also e7 also e10 also Rows.none) = accept-fork y (meant y n) (known n e3) e4 e7 e10
 
-  -- of a join, and so of a preview
+  -- of a join, and so of a preview and a sync
   pub record Joins (n m : ℕ) : Type 0 where
     pub joiner : isGiven y n ≡ true
     pub joinee : isGiven y m ≡ true
+    pub on-line : (p .single && not (eqb n 0)) ≡ false
     pub accepts : accepted y (Steps.Join (meant y n) (meant y m)) ≡ true
 
-  joins-by : (n m : ℕ) → (not (isGiven y n) || not (isGiven y m)) ≡ false → (y .joined (meant y n) || y .joined (meant y m)) ≡ false
+  joins-by : (n m : ℕ) → (not (isGiven y n) || not (isGiven y m)) ≡ false → (y .joined (meant y n) || y .joined (meant y m)) ≡ false → (p .single && not (eqb n 0)) ≡ false
       → (busy y (meant y n) || busy y (meant y m)) ≡ false → notJoinable y (meant y n) (meant y m) ≡ false → Joins n m
-  joins-by n m e3 e4 e7 e11 =
+  joins-by n m e3 e4 e15 e7 e11 =
       let g = or-false (not (isGiven y n)) (not (isGiven y m)) e3 in
       let o = or-false (y .joined (meant y n)) (y .joined (meant y m)) e4 in
       let i = or-false (busy y (meant y n)) (busy y (meant y m)) e7 in
-      record { joiner = not-false (isGiven y n) (g .0); joinee = not-false (isGiven y m) (g .1); accepts = accept-join y (meant y n) (meant y m) (known n (g .0)) (known m (g .1)) (o .0) (o .1) (i .0) (i .1) e11 }
+      record { joiner = not-false (isGiven y n) (g .0); joinee = not-false (isGiven y m) (g .1); on-line = e15; accepts = accept-join y (meant y n) (meant y m) (known n (g .0)) (known m (g .1)) (o .0) (o .1) (i .0) (i .1) e11 }
 
   pub join-passes : (n m : ℕ) → Passes p (Join n m) → Joins n m
-  join-passes n m (e1 also e3 also e4 also e7 also e11 also Rows.none) = joins-by n m e3 e4 e7 e11
+  join-passes n m (e1 also e3 also e4 also e15 also e7 also e11 also Rows.none) = joins-by n m e3 e4 e15 e7 e11
 
   -- a preview's row has the join's
   pub preview-passes : (n m bib : ℕ) → Passes p (Looks (Preview n m bib)) → Passes p (Join n m) × (badBib bib ≡ false)
-  preview-passes n m bib (e1 also e3 also e4 also e7 also e11 also e5 also Rows.none) = (e1 also e3 also e4 also e7 also e11 also Rows.none, e5)
+  preview-passes n m bib (e1 also e3 also e4 also e15 also e7 also e11 also e5 also Rows.none) = (e1 also e3 also e4 also e15 also e7 also e11 also Rows.none, e5)

@@ -1,6 +1,6 @@
 -- A call is taken exactly if the rules of 002 and the limits of 01 and 02 allow it.
 use Prim.Native.Nat.{ℕ, _<_, _/_, _%_}
-use mathlib.Core.Bool.{Bool, true, false, not, _||_}
+use mathlib.Core.Bool.{Bool, true, false, not, _&&_, _||_, and-false}
 use mathlib.Core.Path.{_≡_, refl, sym, _∙_, ap, subst}
 use mathlib.Core.Logic.{_↔_}
 use mathlib.Core.List.{List, [], _∷_, _++_}
@@ -15,11 +15,12 @@ use Rattle.updates.specs.declared.kind.KindCheck.the-variants.{Known, Unknown}
 use Rattle.updates.specs.Kinds.{badBib, badKind, isUnknown, kindCheck}
 use Rattle.bundles.specs.declared.entry.Entry.{Entry}
 use Rattle.bundles.specs.Records.{isWrong}
-use Rattle.desk.specs.Calls.{Batch, Call, Update, Query, Yield, Fork, Join, Bundle, Looks, Show, Fill, Preview, Entries, Records, entriesOf, isWrongBatch}
+use Rattle.desk.specs.Calls.{Batch, Call, Update, Query, Yield, Fork, Join, Sync, Bundle, Looks, Show, Fill, Preview, Entries, Records, entriesOf, isWrongBatch}
 use Rattle.desk.specs.Checks.{checks}
 use Rattle.desk.proofs.Checks as Rows
 use Rattle.desk.proofs.Checks.{_also_, goes-on, passed-both}
-use Rattle.diagram.specs.Day.{Day, fresh, isGiven, meant}
+use Rattle.diagram.specs.Day.{Day, Means, fresh, isGiven, meant}
+use Rattle.diagram.specs.Steps as Steps
 use Rattle.diagram.specs.Steps.{Event, Step, after, run}
 use Rattle.diagram.specs.Accepted.{Accepted, AcceptedFrom, accepted}
 use Rattle.diagram.specs.Lawful.{MayFollow}
@@ -27,15 +28,17 @@ use Rattle.diagram.proofs.Days.Accepting.{event-tests, fork-tests, join-tests, 
 use Rattle.diagram.proofs.Days.Naming.{meant-low}
 use Rattle.diagram.proofs.Order.Growth.{Fine, busy-idle}
 use Rattle.diagram.proofs.Order.Lawful.{runs-exactly, taken-exactly}
+use Rattle.diagram.proofs.Order.Reuse.{by-numbers}
+use Rattle.diagram.proofs.Order.Single.{main-run, syncs-go-on}
 use Rattle.diagram.proofs.Order.Runs.{accepted-both, accepted-rest, fine-run}
 use Rattle.plain.specs.Record.{PlainDay}
-use Rattle.plain.specs.Answers.{Outcome, asked, called, dayAfter, ending, refused, sent}
+use Rattle.plain.specs.Answers.{Outcome, asOne, asked, called, dayAfter, ending, joined, refused, sent}
 use Rattle.plain.specs.Bundles.{AllTaken, parts}
 use Rattle.plain.specs.Taken.{bundleSteps, endOf, stepsAfter}
-use Rattle.plain.specs.Allowed.{Allowed, AreEntries, IsBatch, IsBib, IsKind, JoinAllowed, Meaning}
+use Rattle.plain.specs.Allowed.{Allowed, AreEntries, IsBatch, IsBib, IsKind, JoinAllowed, Meaning, OnLine}
 use Rattle.plain.proofs.Ends.{Joins, Passes, fork-accepts, given, join-passes, known-kind, means, preview-passes, query-accepts, update-accepts, was-taken, yield-accepts}
 use Rattle.plain.proofs.Bundles.{after-bundled, first-of, parts-sent, sent-parts}
-use Rattle.plain.proofs.Steps.{all-accepted, same-day, sent-ran}
+use Rattle.plain.proofs.Steps.{all-accepted, same-choice, same-day, sent-ran}
 
 -- the limits: 5
 good-bib : (bib : ℕ) → badBib bib ≡ false → IsBib bib
@@ -88,7 +91,7 @@ batch-good (Entries es) (a, b) = rw (ne-eqb (length es) 0 (λ e. omega arith), l
 -- where no check applies the call ends as it does
 pub passed-is : (p : PlainDay) (c : Call ℕ) → Passes p c → called p c ≡ ending p c
 unfolding called
-passed-is p c P = goes-on (refused p) (ending p c) (checks (asked (p .day)) c) P
+passed-is p c P = goes-on (refused p) (ending p c) (checks (asked p) c) P
 
 passed-on : (p : PlainDay) (c : Call ℕ) → Passes p c → called p c .answer .code ≡ ending p c .answer .code
 passed-on p c P = ap (λ (o : Outcome). o .answer .code) (passed-is p c P)
@@ -125,33 +128,33 @@ all-taken (e ∷ es) p c n g G A =
     let is = passed-is p (Update c n (e .kind) (e .bib) (e .v)) (update-row p c n (e .kind) (e .bib) (e .v) g (G .0, G .1) (A .0)) in
     (ap (λ (o : Outcome). o .answer .code) is, subst (λ (o : Outcome). AllTaken (o .next) (parts c n es)) (sym is) (all-taken es _ c n g (G .2) (A .1)))
 
-module _ (before : List (Call ℕ)) where
+module _ (single : Bool) (before : List (Call ℕ)) where
   abbrev p : PlainDay
-  p = dayAfter before
+  p = dayAfter single before
 
   abbrev y : Day
-  y = endOf before
+  y = endOf single before
 
   abbrev ss : List Step
-  ss = stepsAfter before
+  ss = stepsAfter single before
 
   -- a step is accepted exactly if it may follow
   follows : (s : Step) → accepted y s ≡ true → MayFollow ss s
-  follows s e = taken-exactly ss (all-accepted before) s .0 (subst (λ y. accepted y s ≡ true) (same-day before) e)
+  follows s e = taken-exactly ss (all-accepted single before) s .0 (subst (λ y. accepted y s ≡ true) (same-day single before) e)
 
   passes : (s : Step) → MayFollow ss s → accepted y s ≡ true
-  passes s M = subst (λ y. accepted y s ≡ true) (sym (same-day before)) (taken-exactly ss (all-accepted before) s .1 M)
+  passes s M = subst (λ y. accepted y s ≡ true) (sym (same-day single before)) (taken-exactly ss (all-accepted single before) s .1 M)
 
   -- and so do some steps after one another
   longer : (more : List Step) → AcceptedFrom y more → Accepted (ss ++ more)
   unfolding run
-  longer more A = accepted-both ss more fresh (all-accepted before) (subst (λ y. AcceptedFrom y more) (same-day before) A)
+  longer more A = accepted-both ss more fresh (all-accepted single before) (subst (λ y. AcceptedFrom y more) (same-day single before) A)
 
   shorter : (more : List Step) → Accepted (ss ++ more) → AcceptedFrom y more
-  shorter more A = subst (λ y. AcceptedFrom y more) (sym (same-day before)) (accepted-rest ss more A)
+  shorter more A = subst (λ y. AcceptedFrom y more) (sym (same-day single before)) (accepted-rest ss more A)
 
   fine : Fine y
-  fine = subst Fine (sym (same-day before)) (fine-run ss (all-accepted before))
+  fine = subst Fine (sym (same-day single before)) (fine-run ss (all-accepted single before))
 
   -- a call that is taken is allowed
   meaning : {P : ℕ → Type 0} (n : ℕ) → not (isGiven y n) ≡ false → P (meant y n) → Meaning y n P
@@ -160,10 +163,21 @@ module _ (before : List (Call ℕ)) where
   is-out : (n : ℕ) → not (isGiven y n) ≡ false → meant y n < y .revisions
   is-out n e = meant-low y n (meant y n) (means p n e)
 
-  join-means : (n m : ℕ) → Joins p n m → JoinAllowed before n m
-  join-means n m J = record { given = J .joiner; holds = record { given = J .joinee; holds = follows _ (J .accepts) } }
+  -- 15: on a single-main day, box 0
+  pub on-line : (n : ℕ) → (p .single && not (eqb n 0)) ≡ false → OnLine single n
+  on-line n e t = eqb-true n 0 (not-false _ (rw (same-choice single before, t) at e))
 
-  bundle-means : (c n : ℕ) (batch : Batch) → isWrongBatch batch ≡ false → sent p c n (entriesOf batch) .answer .code ≡ 0 → Allowed before (Bundle c n batch)
+  pub line-on : (n : ℕ) → OnLine single n → (p .single && not (eqb n 0)) ≡ false
+  line-on n f = by single (same-choice single before) f
+    where
+      by : (b : Bool) → p .single ≡ b → (b ≡ true → n ≡ 0) → (p .single && not (eqb n 0)) ≡ false
+      by true q g = rw (q, g refl)
+      by false q g = rw q
+
+  join-means : (n m : ℕ) → Joins p n m → JoinAllowed single before n m
+  join-means n m J = (record { given = J .joiner; holds = record { given = J .joinee; holds = follows _ (J .accepts) } }, on-line n (J .on-line))
+
+  bundle-means : (c n : ℕ) (batch : Batch) → isWrongBatch batch ≡ false → sent p c n (entriesOf batch) .answer .code ≡ 0 → Allowed single before (Bundle c n batch)
   bundle-means c n batch e z =
       let es = entriesOf batch in
       let T = sent-parts c n es p z .0 in
@@ -172,34 +186,59 @@ module _ (before : List (Call ℕ)) where
       let A = sent-ran c n (meant y n) es p refl z .accepts in
       (good-batch batch e, good-entries es p c n T, meaning n (update-given p c n (f .0 .kind) (f .0 .bib) (f .0 .v) g) (runs-exactly (ss ++ bundleSteps c (meant y n) es) .0 (longer (bundleSteps c (meant y n) es) A)))
 
-  passed-allowed : (c : Call ℕ) → Passes p c → ending p c .answer .code ≡ 0 → Allowed before c
+  passed-allowed : (c : Call ℕ) → Passes p c → ending p c .answer .code ≡ 0 → Allowed single before c
   passed-allowed (Update c n k bib v) P z = let i = update-entry p c n k bib v P in (meaning n (update-given p c n k bib v P) (follows _ (update-accepts p c n k bib v P)), i .0, i .1)
   passed-allowed (Query c n bib) (e1 also e2 also e3 also e4 also e5 also P) z = (meaning n e3 (follows _ (query-accepts p c n bib (e1 also e2 also e3 also e4 also e5 also P))), good-bib bib e5)
   passed-allowed (Yield c) P z = follows _ (yield-accepts p c P)
-  passed-allowed (Fork n) (e1 also e3 also P) z = meaning n e3 (follows _ (fork-accepts p n (e1 also e3 also P)))
+  passed-allowed (Fork n) (e1 also e3 also e4 also e15 also P) z = (meaning n e3 (follows _ (fork-accepts p n (e1 also e3 also e4 also e15 also P))), on-line n e15)
   passed-allowed (Join n m) P z = join-means n m (join-passes p n m P)
+  passed-allowed (Sync m) P z = join-means 0 m (join-passes p 0 m P)
   passed-allowed (Bundle c n batch) (e1 also e14 also Rows.none) z = bundle-means c n batch e14 (after-bundled p (sent p c n (entriesOf batch)) z .0)
   passed-allowed (Looks (Show n room)) (e1 also e3 also e4 also e7 also e12 also Rows.none) z = meaning n e3 (record { out = (is-out n e3, e4); idle = busy-idle y fine (meant y n) .0 e7; fits = ltb-false room _ e12 })
   passed-allowed (Looks (Fill n)) (e1 also e3 also e4 also Rows.none) z = meaning n e3 (is-out n e3, e4)
   passed-allowed (Looks (Preview n m bib)) P z = let q = preview-passes p n m bib P in (join-means n m (join-passes p n m (q .0)), good-bib bib (q .1))
 
-  taken-allowed : (c : Call ℕ) → called p c .answer .code ≡ 0 → Allowed before c
+  taken-allowed : (c : Call ℕ) → called p c .answer .code ≡ 0 → Allowed single before c
   taken-allowed c e = let w = was-taken p c e in passed-allowed c (w .0) (rw (w .1) at e)
 
   -- a call that is allowed is taken
-  join-row : (n m : ℕ) → JoinAllowed before n m → Passes p (Join n m)
+  join-row : (n m : ℕ) → JoinAllowed single before n m → Passes p (Join n m)
   join-row n m A =
-      let t = join-tests y (meant y n) (meant y m) (passes _ (A .holds .holds)) in
-      refl also neither (given A) (given (A .holds)) also neither (t .0) (t .1) also neither (t .2) (t .3) also t .4 also Rows.none
+      let t = join-tests y (meant y n) (meant y m) (passes _ (A .0 .holds .holds)) in
+      refl also neither (given (A .0)) (given (A .0 .holds)) also neither (t .0) (t .1) also line-on n (A .1) also neither (t .2) (t .3) also t .4 also Rows.none
 
-  allowed-taken : (c : Call ℕ) → Allowed before c → called p c .answer .code ≡ 0
+  -- box 0 is the main revision, after every list of calls
+  pub main-means : Means y 0 0
+  main-means =
+      let N = by-numbers ss (all-accepted single before) in
+      let m = N .out 0 (main-run ss (all-accepted single before)) in
+      subst (λ y. Means y 0 0) (sym (same-day single before)) (subst (λ n. Means (run ss) n 0) (N .main) m)
+
+  -- where a join into box 0 passes, so does a fork of box 0 after it
+  fork-after : (b : ℕ) → accepted y (Steps.Join 0 b) ≡ true → accepted (after y (Steps.Join 0 b)) (Steps.Fork 0) ≡ true
+  fork-after b = subst (λ y. accepted y (Steps.Join 0 b) ≡ true → accepted (after y (Steps.Join 0 b)) (Steps.Fork 0) ≡ true) (sym (same-day single before)) (syncs-go-on ss (all-accepted single before) b)
+
+  pub sync-forks : (m : ℕ) → Passes p (Join 0 m) → Passes (joined p 0 m .next) (Fork 0)
+  unfolding isGiven meant after
+  sync-forks m P =
+      let a = join-passes p 0 m P .accepts in
+      let f = fork-after (meant y m) (subst (λ r. accepted y (Steps.Join r (meant y m)) ≡ true) (main-means .1) a) in
+      let t = fork-tests _ (meant y 0) (subst (λ r. accepted (after y (Steps.Join r (meant y m))) (Steps.Fork r) ≡ true) (sym (main-means .1)) f) in
+      refl also ap not (main-means .0) also t .0 also and-false (p .single) also t .1 also t .2 also Rows.none
+
+  pub sync-ends : (m : ℕ) → Passes p (Join 0 m) → ending p (Sync m) ≡ called (joined p 0 m .next) (Fork 0)
+  unfolding called
+  sync-ends m P = let is = passed-is (joined p 0 m .next) (Fork 0) (sync-forks m P) in ap (asOne p) is ∙ sym is
+
+  allowed-taken : (c : Call ℕ) → Allowed single before c → called p c .answer .code ≡ 0
   allowed-taken (Update c n k bib v) A = passed-on p (Update c n k bib v) (update-row p c n k bib v (given (A .0)) (A .1, A .2) (passes _ (A .0 .holds)))
   allowed-taken (Query c n bib) A =
       let t = event-tests y c (meant y n) false (passes _ (A .0 .holds)) in
       passed-on p (Query c n bib) (refl also t .0 also given (A .0) also t .1 also bib-good bib (A .1) also t .2 also t .3 also t .4 also Rows.none)
   allowed-taken (Yield c) A = passed-on p (Yield c) (refl also yield-test y c (passes _ A) also Rows.none)
-  allowed-taken (Fork n) A = let t = fork-tests y (meant y n) (passes _ (A .holds)) in passed-on p (Fork n) (refl also given A also t .0 also t .1 also t .2 also Rows.none)
+  allowed-taken (Fork n) A = let t = fork-tests y (meant y n) (passes _ (A .0 .holds)) in passed-on p (Fork n) (refl also given (A .0) also t .0 also line-on n (A .1) also t .1 also t .2 also Rows.none)
   allowed-taken (Join n m) A = passed-on p (Join n m) (join-row n m A)
+  allowed-taken (Sync m) A = let P = join-row 0 m A in passed-on p (Sync m) P ∙ ap (λ o. o .answer .code) (sync-ends m P ∙ passed-is _ (Fork 0) (sync-forks m P))
   allowed-taken (Bundle c n batch) A =
       let steps = bundleSteps c (meant y n) (entriesOf batch) in
       let T = all-taken (entriesOf batch) p c n (given (A .2)) (A .1) (shorter steps (runs-exactly (ss ++ steps) .1 (A .2 .holds))) in
@@ -210,5 +249,5 @@ module _ (before : List (Call ℕ)) where
   allowed-taken (Looks (Fill n)) A = passed-on p (Looks (Fill n)) (refl also given A also A .holds .1 also Rows.none)
   allowed-taken (Looks (Preview n m bib)) A = passed-on p (Looks (Preview n m bib)) (passed-both (join-row n m (A .0)) (bib-good bib (A .1) also Rows.none))
 
-  pub exactly : (c : Call ℕ) → (called p c .answer .code ≡ 0) ↔ Allowed before c
+  pub exactly : (c : Call ℕ) → (called p c .answer .code ≡ 0) ↔ Allowed single before c
   exactly c = (taken-allowed c, allowed-taken c)

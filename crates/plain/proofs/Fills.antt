@@ -11,7 +11,7 @@ use Rattle.lists.proofs.Cases.{cases}
 use Rattle.lists.specs.Sums.{sumBelow}
 use Rattle.lists.proofs.Sums.{sum-same}
 use Rattle.bundles.specs.declared.entry.Entry.{Entry}
-use Rattle.desk.specs.Calls.{Call, Update, Query, Yield, Fork, Join, Bundle, Looks, Fill, entriesOf, level}
+use Rattle.desk.specs.Calls.{Call, Update, Query, Yield, Fork, Join, Sync, Bundle, Looks, Fill, entriesOf, level}
 use Rattle.desk.specs.Checks.{_if_, settle}
 use Rattle.diagram.specs.Summed.{OwnAddsUp, ownIfOut}
 use Rattle.diagram.specs.Day.{Day}
@@ -26,8 +26,7 @@ use Rattle.plain.specs.Answers.{answers, answersFrom, called, dayAfter, 
 use Rattle.plain.specs.Fills.{FillsAddUp, acceptedIn, codesOf, enters}
 use Rattle.plain.specs.Taken.{bundleSteps, stepOf, stepsAfter, stepsOf}
 use Rattle.plain.proofs.Ends.{was-taken}
-use Rattle.plain.proofs.LineUp.{named}
-use Rattle.plain.proofs.Steps.{all-accepted, did, same-day}
+use Rattle.plain.proofs.Steps.{all-accepted, did, named, same-day}
 
 -- the updates among some steps
 abbrev one : Step → ℕ
@@ -65,6 +64,7 @@ steps-enter p (Query c n bib) = refl
 steps-enter p (Yield c) = refl
 steps-enter p (Fork n) = refl
 steps-enter p (Join n m) = refl
+steps-enter p (Sync m) = refl
 steps-enter p (Bundle c n batch) = bundle-enters c _ (entriesOf batch)
 steps-enter p (Looks l) = refl
 
@@ -85,9 +85,9 @@ counted-from (c ∷ cs) p = let a = adds p c in let b = counted-from cs (called 
 nothing-before : (n : ℕ) → 0 + n ≡ n
 nothing-before n = omega arith
 
-counted : (cs : List (Call ℕ)) → dayAfter cs .day .updates ≡ acceptedIn cs (codesOf (answers cs))
+counted : (single : Bool) (cs : List (Call ℕ)) → dayAfter single cs .day .updates ≡ acceptedIn cs (codesOf (answers single cs))
 unfolding dayAfter answers
-counted cs = counted-from cs freshDay ∙ nothing-before (acceptedIn cs (codesOf (answersFrom freshDay cs)))
+counted single cs = counted-from cs (freshDay single) ∙ nothing-before (acceptedIn cs (codesOf (answersFrom (freshDay single) cs)))
 
 -- a fill tells what the revision that the number means, if it is out, has of its own; of a number not given out nothing
 abbrev toldBy : PlainDay → Bool → ℕ → ℕ
@@ -109,14 +109,14 @@ over-numbers : (y : Day) → Named y → sumBelow (y .numbering .given) (λ n. c
 unfolding found
 over-numbers y N = sum-latest (y .numbering .of) (ownIfOut y) (y .numbering .given) (y .revisions) (N .low) (λ s r k l e. rw (earlier-in y N s r k l e))
 
-adds-up : (cs : List (Call ℕ)) → OwnAddsUp (dayAfter cs .day)
-adds-up cs = rw (same-day cs) (own-adds-up (stepsAfter cs) (all-accepted cs))
+adds-up : (single : Bool) (cs : List (Call ℕ)) → OwnAddsUp (dayAfter single cs .day)
+adds-up single cs = rw (same-day single cs) (own-adds-up (stepsAfter single cs) (all-accepted single cs))
 
-pub fills-add-up : (cs : List (Call ℕ)) → FillsAddUp cs
-fills-add-up cs = record {
-  sum = sum-same (p .day .numbering .given) _ _ (λ n l. fill-is p n) ∙ over-numbers (p .day) (named cs) ∙ adds-up cs ∙ counted cs;
-  total = λ n e. ap (λ o. o .answer .total) (was-taken p (Looks (Fill n)) e .1) ∙ counted cs;
+pub fills-add-up : (single : Bool) (cs : List (Call ℕ)) → FillsAddUp single cs
+fills-add-up single cs = record {
+  sum = sum-same (p .day .numbering .given) _ _ (λ n l. fill-is p n) ∙ over-numbers (p .day) (named single cs) ∙ adds-up single cs ∙ counted single cs;
+  total = λ n e. ap (λ o. o .answer .total) (was-taken p (Looks (Fill n)) e .1) ∙ counted single cs;
 }
   where
     p : PlainDay
-    p = dayAfter cs
+    p = dayAfter single cs

@@ -1,4 +1,4 @@
--- The starred edges by computing, code 1, which does not arise, one line-up for every list of calls, previews, and own updates that add up.
+-- The starred edges by computing, code 1, which does not arise, one line-up for every list of calls, previews, syncs, and own updates that add up.
 pub mod Edges
 pub mod Ends
 pub mod Bundles
@@ -6,5 +6,6 @@ pub mod Steps
 pub mod Exactly
 pub mod Values
 pub mod Previews
+pub mod Syncs
 pub mod LineUp
 pub mod Fills

@@ -1,46 +1,45 @@
 -- The theorem: every list of calls has one line-up.
 use Prim.Native.Nat.{_<_, ℕ}
-use mathlib.Core.Bool.{cond, false, true}
+use mathlib.Core.Bool.{Bool, false}
 use mathlib.Core.Path.{_∙_, _≡_, ap, refl, subst, sym}
 use mathlib.Core.Option.{none, some}
 use mathlib.Core.List.{List, List·Memᴰ·head, List·Memᴰ·tail, [], _++_, _∷_, append-assoc, append-nil}
 use native.Mathlib.Omega.{arith}
-use lib.Dec.{eqb}
 use lib.ListN.{length}
-use Rattle.desk.specs.Calls.{Bundle, Call, Fork, Looks, Query, Show, Update, Batch, entriesOf, isWrongBatch}
+use Rattle.desk.specs.Calls.{Bundle, Call, Fork, Join, Looks, Query, Show, Sync, Update, Batch, entriesOf, isWrongBatch}
 use Rattle.desk.proofs.Checks.{_also_}
-use Rattle.diagram.proofs.Days.Naming.{Named, meant-low}
+use Rattle.diagram.proofs.Days.Naming.{meant-low}
 use Rattle.diagram.proofs.Graph.Tables.{tabulate-newest}
 use Rattle.diagram.proofs.Order.Growth.{Fine, busy-idle, fine-fresh, tabulate-stays}
 use Rattle.diagram.proofs.Order.Inherited.{entry-is}
 use Rattle.diagram.proofs.Order.Rules.{by-rules}
 use Rattle.diagram.proofs.Order.Reuse.{by-numbers, takes}
 use Rattle.machine.proofs.Follow.Pool.{by-pool}
-use Rattle.diagram.proofs.Order.Runs.{accepted-first, along, extends-run, fine-run, fine-step, older-from, run-step, named-run}
+use Rattle.diagram.proofs.Order.Runs.{accepted-first, along, extends-run, fine-run, fine-step, older-from, run-step}
 use Rattle.diagram.proofs.Order.Lawful.{runs-exactly}
 use Rattle.diagram.proofs.Order.Theorem.{Arbitration, arbitration}
 use Rattle.diagram.proofs.Order.Witness.{witness}
 use Rattle.diagram.specs.Arbitration.{Explains, Extends, Shows, WholeAt}
 use Rattle.diagram.specs.Checks.{busy}
 use Rattle.diagram.specs.Day.{Day, IsOut, meant}
-use Rattle.diagram.specs.Reuse.{Takes}
 use Rattle.diagram.specs.Effects.{entry, number, numberStep, view}
 use Rattle.diagram.specs.Steps as Steps
 use Rattle.diagram.specs.Steps.{Event, Step, after, run}
-use Rattle.diagram.specs.Accepted.{Accepted, accepted}
+use Rattle.diagram.specs.Accepted.{Accepted}
 use Rattle.lists.proofs.Blocks.{flat-from}
 use Rattle.lists.proofs.Changed.{changed-same}
 use Rattle.lists.specs.Lists.{_∈_}
 use Rattle.plain.proofs.Bundles.{after-bundled, first-of, sent-parts}
-use Rattle.plain.proofs.Ends.{Passes, fork-accepts, means, was-taken}
+use Rattle.plain.proofs.Ends.{Passes, means, was-taken}
 use Rattle.plain.proofs.Exactly.{exactly}
-use Rattle.plain.proofs.Values.{fill-value, fork-none, fork-value, join-value}
+use Rattle.plain.proofs.Values.{fill-value, fork-none, fork-takes, fork-value, join-value}
 use Rattle.plain.proofs.Previews.{foresees}
-use Rattle.plain.proofs.Steps.{all-accepted, day-both, did, ran, same-day, steps-both}
-use Rattle.plain.specs.Taken.{endOf, stepOf, stepsAfter, stepsFrom, stepsOf}
+use Rattle.plain.proofs.Syncs.{never-ten, on-single-main, sync-is}
+use Rattle.plain.proofs.Steps.{after-steps, all-accepted, day-both, did, named, ran, same-day, taken-steps}
+use Rattle.plain.specs.Taken.{Taken, endOf, stepsAfter, stepsFrom, stepsOf}
 use Rattle.plain.specs.Answers.{called, dayAfter, dayFrom, ending, sent, shownAt, stepped}
 use Rattle.plain.specs.Bundles.{AllTaken, Bundled, parts}
-use Rattle.plain.specs.LineUp.{AnsweredBy, GrowsEach, LineUp, ListedBy, Taken}
+use Rattle.plain.specs.LineUp.{AnsweredBy, GrowsEach, LineUp, ListedBy}
 use Rattle.entries.specs.declared.entry.Entry.{Entry}
 use Rattle.plain.specs.Record.{PlainDay, freshDay, linesOf, noted, ofBib, pathResult, standingOf}
 use Rattle.updates.specs.Applied.{applied, freshStanding}
@@ -71,16 +70,6 @@ grows-from (c ∷ cs) p F =
     let d = did p c in
     (subst (λ y. Extends (p .day) y) (sym (d .same)) (extends-run (stepsOf p c) (p .day) F (d .accepts)), grows-from cs (called p c .next) (subst Fine (sym (d .same)) (along Fine fine-step (stepsOf p c) (p .day) (d .accepts) F)))
 
--- the numbers of the revisions out are apart, after every list of calls
-pub named : (cs : List (Call ℕ)) → Named (endOf cs)
-named cs = rw (same-day cs) (named-run (stepsAfter cs) (all-accepted cs))
-
-taken-number : (before : List (Call ℕ)) (n : ℕ) → called (dayAfter before) (Fork n) .answer .code ≡ 0 → Takes (stepsAfter before) (called (dayAfter before) (Fork n) .answer .value)
-taken-number before n e =
-    let w = was-taken (dayAfter before) (Fork n) e in
-    let r = meant (endOf before) n in
-    rw (w .1, same-day before) (takes (stepsAfter before) (all-accepted before) r (subst (λ y. accepted y (Steps.Fork r) ≡ true) (same-day before) (fork-accepts (dayAfter before) n (w .0))))
-
 -- what the rows of a list and of a bundle say
 show-idle : (p : PlainDay) (n room : ℕ) → Passes p (Looks (Show n room)) → IsOut (p .day) (meant (p .day) n) × (busy (p .day) (meant (p .day) n) ≡ false)
 show-idle p n room (e1 also e3 also e4 also e7 also P) = ((meant-low (p .day) n (meant (p .day) n) (means p n e3), e4), e7)
@@ -88,40 +77,32 @@ show-idle p n room (e1 also e3 also e4 also e7 also P) = ((meant-low (p .day) n 
 bundle-right : (p : PlainDay) (c n : ℕ) (batch : Batch) → Passes p (Bundle c n batch) → isWrongBatch batch ≡ false
 bundle-right p c n batch (e1 also e14 also P) = e14
 
-module _ (cs : List (Call ℕ)) where
-  abbrev A : Arbitration (stepsAfter cs)
-  A = arbitration (stepsAfter cs) (all-accepted cs)
+module _ (single : Bool) (cs : List (Call ℕ)) where
+  abbrev A : Arbitration (stepsAfter single cs)
+  A = arbitration (stepsAfter single cs) (all-accepted single cs)
 
-  e : endOf cs ≡ run (stepsAfter cs)
-  e = same-day cs
+  e : endOf single cs ≡ run (stepsAfter single cs)
+  e = same-day single cs
 
   -- a call c within the list, and the day before it
-  module _ (before : List (Call ℕ)) (c : Call ℕ) (rest : List (Call ℕ)) (T : Taken cs before c rest) where
+  module _ (before : List (Call ℕ)) (c : Call ℕ) (rest : List (Call ℕ)) (T : Taken single cs before c rest) where
     abbrev p : PlainDay
-    p = dayAfter before
+    p = dayAfter single before
 
-    after-steps : stepsAfter cs ≡ stepsAfter before ++ (stepsOf p c ++ stepsFrom (called p c .next) rest)
-    unfolding stepsFrom dayAfter
-    after-steps = ap stepsAfter (T .place) ∙ steps-both before (c ∷ rest) freshDay
-
-    -- where the call was taken its steps are there
-    taken-steps : (ss : List Step) → stepOf p c ≡ ss → stepsAfter cs ≡ stepsAfter before ++ (ss ++ stepsFrom (called p c .next) rest)
-    taken-steps ss q = after-steps ∙ ap (λ k. stepsAfter before ++ (cond (eqb k 0) (stepOf p c) [] ++ stepsFrom (called p c .next) rest)) (T .code) ∙ ap (λ z. stepsAfter before ++ (z ++ stepsFrom (called p c .next) rest)) q
-
-    day-is : dayAfter cs ≡ dayFrom p (c ∷ rest)
+    day-is : dayAfter single cs ≡ dayFrom p (c ∷ rest)
     unfolding dayAfter
-    day-is = ap (dayFrom freshDay) (T .place) ∙ day-both before (c ∷ rest) freshDay
+    day-is = ap (dayFrom (freshDay single)) (T .place) ∙ day-both before (c ∷ rest) (freshDay single)
 
     -- the entries that were there are there at the end
-    entries-stay : (n : ℕ) → n < p .day .updates → p .entries n ≡ dayAfter cs .entries n
+    entries-stay : (n : ℕ) → n < p .day .updates → p .entries n ≡ dayAfter single cs .entries n
     entries-stay n h = sym (ap (λ z. z .entries n) day-is ∙ ran (c ∷ rest) p .kept n h)
 
-  queries : (before rest : List (Call ℕ)) (c n bib : ℕ) → Taken cs before (Query c n bib) rest → AnsweredBy cs (A .order) (length (endOf before .diagram)) bib (called (dayAfter before) (Query c n bib) .answer)
+  queries : (before rest : List (Call ℕ)) (c n bib : ℕ) → Taken single cs before (Query c n bib) rest → AnsweredBy single cs (A .order) (length (endOf single before .diagram)) bib (called (dayAfter single before) (Query c n bib) .answer)
   unfolding after
   queries before rest c n bib T = record { updates = shown; shown = seen; state = ap (λ o. o .answer .state) is ∙ ap stateOf stands; value = ap (λ o. o .answer .value) is ∙ ap valueIn stands }
     where
       q : PlainDay
-      q = dayAfter before
+      q = dayAfter single before
 
       is : called q (Query c n bib) ≡ ending q (Query c n bib)
       is = was-taken q (Query c n bib) (T .code) .1
@@ -130,7 +111,7 @@ module _ (cs : List (Call ℕ)) where
       r = meant (q .day) n
 
       y1 : Day
-      y1 = run (stepsAfter before)
+      y1 = run (stepsAfter single before)
 
       shown : List ℕ
       shown = view (after y1 (Event c r false) .diagram) (length (y1 .diagram))
@@ -138,66 +119,71 @@ module _ (cs : List (Call ℕ)) where
       more : List Step
       more = stepsFrom (called q (Query c n bib) .next) rest
 
-      place : stepsAfter cs ≡ stepsAfter before ++ (Event c r false ∷ more)
-      place = taken-steps before (Query c n bib) rest T (Event c r false ∷ []) refl
+      place : stepsAfter single cs ≡ stepsAfter single before ++ (Event c r false ∷ more)
+      place = taken-steps single cs before (Query c n bib) rest T (Event c r false ∷ []) refl
 
-      seen : Shows (endOf cs) (A .order) (length (q .day .diagram)) shown
-      seen = subst (λ y. Shows y (A .order) (length (q .day .diagram)) shown) (sym e) (subst (λ z. Shows (run (stepsAfter cs)) (A .order) (length (z .diagram)) shown) (sym (same-day before)) (A .queries (stepsAfter before) more c r place))
+      seen : Shows (endOf single cs) (A .order) (length (q .day .diagram)) shown
+      seen =
+          subst (λ y. Shows y (A .order) (length (q .day .diagram)) shown) (sym e)
+          (subst (λ z. Shows (run (stepsAfter single cs)) (A .order) (length (z .diagram)) shown) (sym (same-day single before)) (A .queries (stepsAfter single before) more c r place))
 
-      through : Accepted (stepsAfter before ++ (Event c r false ∷ []))
-      through = accepted-first (stepsAfter before ++ (Event c r false ∷ [])) more (subst Accepted (place ∙ sym (append-assoc (stepsAfter before) (Event c r false ∷ []) more)) (all-accepted cs))
+      through : Accepted (stepsAfter single before ++ (Event c r false ∷ []))
+      through = accepted-first (stepsAfter single before ++ (Event c r false ∷ [])) more (subst Accepted (place ∙ sym (append-assoc (stepsAfter single before) (Event c r false ∷ []) more)) (all-accepted single cs))
 
       low : (n : ℕ) → n ∈ shown → n < y1 .updates
       low n i =
           let x = length (y1 .diagram) in
-          let step = run-step (stepsAfter before) (Event c r false) in
-          let there : x < length (run (stepsAfter before ++ (Event c r false ∷ [])) .diagram) = subst (λ z. x < length (z .diagram)) (sym step) (omega arith) in
+          let step = run-step (stepsAfter single before) (Event c r false) in
+          let there : x < length (run (stepsAfter single before ++ (Event c r false ∷ [])) .diagram) = subst (λ z. x < length (z .diagram)) (sym step) (omega arith) in
           subst (λ z. n < z .updates) step (view-low _ through x n there (subst (λ z. n ∈ view (z .diagram) x) (sym step) i))
 
-      kept : (n : ℕ) → n ∈ shown → q .entries n ≡ dayAfter cs .entries n
-      kept n i = entries-stay before (Query c _ bib) rest T n (rw (same-day before) (low n i))
+      kept : (n : ℕ) → n ∈ shown → q .entries n ≡ dayAfter single cs .entries n
+      kept n i = entries-stay before (Query c _ bib) rest T n (rw (same-day single before) (low n i))
 
-      stands : pathResult (stepped q (Event c r false)) (length (q .day .diagram)) bib ≡ standingOf (dayAfter cs .entries) bib shown
-      stands = ap (λ y. standingOf (q .entries) bib (view (after y (Event c r false) .diagram) (length (y .diagram)))) (same-day before) ∙ ap (λ us. applied us freshStanding) (ofBib-same (q .entries) (dayAfter cs .entries) bib shown kept)
+      stands : pathResult (stepped q (Event c r false)) (length (q .day .diagram)) bib ≡ standingOf (dayAfter single cs .entries) bib shown
+      stands =
+          ap (λ y. standingOf (q .entries) bib (view (after y (Event c r false) .diagram) (length (y .diagram)))) (same-day single before)
+          ∙ ap (λ us. applied us freshStanding) (ofBib-same (q .entries) (dayAfter single cs .entries) bib shown kept)
 
   -- a list that was taken: of a revision that is out and idle
-  listed : (before rest : List (Call ℕ)) (n room : ℕ) → Taken cs before (Looks (Show n room)) rest → ListedBy cs (A .order) (endOf before .terminal (meant (endOf before) n)) (called (dayAfter before) (Looks (Show n room)) .answer)
+  listed : (before rest : List (Call ℕ)) (n room : ℕ) → Taken single cs before (Looks (Show n room)) rest
+      → ListedBy single cs (A .order) (endOf single before .terminal (meant (endOf single before) n)) (called (dayAfter single before) (Looks (Show n room)) .answer)
   listed before rest n room T = record {
     updates = shownAt (q .day) r;
-    shown = rw (e, same-day before) (A .ever (stepsAfter before) _ (after-steps before (Looks (Show n room)) rest T) (y1 .terminal (meant y1 n)) (low (meant y1 n)));
+    shown = rw (e, same-day single before) (A .ever (stepsAfter single before) _ (after-steps single cs before (Looks (Show n room)) rest T) (y1 .terminal (meant y1 n)) (low (meant y1 n)));
     count = ap (λ o. o .answer .value) is;
-    are = ap (λ o. o .answer .sheet) is ∙ linesOf-same (q .entries) (dayAfter cs .entries) (shownAt (q .day) r) (λ k i. entries-stay before (Looks (Show n room)) rest T k (taken-then k i));
+    are = ap (λ o. o .answer .sheet) is ∙ linesOf-same (q .entries) (dayAfter single cs .entries) (shownAt (q .day) r) (λ k i. entries-stay before (Looks (Show n room)) rest T k (taken-then k i));
   }
     where
       q : PlainDay
-      q = dayAfter before
+      q = dayAfter single before
 
       r : ℕ
       r = meant (q .day) n
 
       y1 : Day
-      y1 = run (stepsAfter before)
+      y1 = run (stepsAfter single before)
 
       is : called q (Looks (Show n room)) ≡ ending q (Looks (Show n room))
       is = was-taken q (Looks (Show n room)) (T .code) .1
 
       low : (r : ℕ) → y1 .terminal r < length (y1 .diagram)
-      low = fine-run (stepsAfter before) (all-accepted before) .sound .real .linked .bound
+      low = fine-run (stepsAfter single before) (all-accepted single before) .sound .real .linked .bound
 
       -- what is listed was taken before the list
       taken-then : (k : ℕ) → k ∈ shownAt (q .day) r → k < q .day .updates
-      taken-then k i = rw (same-day before) (view-low (stepsAfter before) (all-accepted before) (y1 .terminal (meant y1 n)) k (low (meant y1 n)) (rw (same-day before) at i))
+      taken-then k i = rw (same-day single before) (view-low (stepsAfter single before) (all-accepted single before) (y1 .terminal (meant y1 n)) k (low (meant y1 n)) (rw (same-day single before) at i))
 
-  lists : (before rest : List (Call ℕ)) (n room : ℕ) → Taken cs before (Looks (Show n room)) rest
-      → (t : ℕ) → t < endOf before .transactions → WholeAt (endOf before) t (endOf before .terminal (meant (endOf before) n)) (length (endOf before .diagram))
+  lists : (before rest : List (Call ℕ)) (n room : ℕ) → Taken single cs before (Looks (Show n room)) rest
+      → (t : ℕ) → t < endOf single before .transactions → WholeAt (endOf single before) t (endOf single before .terminal (meant (endOf single before) n)) (length (endOf single before .diagram))
   lists before rest n room T =
-      let s = show-idle (dayAfter before) n room (was-taken (dayAfter before) (Looks (Show n room)) (T .code) .0) in
-      let y1 = run (stepsAfter before) in
-      let idle = busy-idle y1 (fine-run (stepsAfter before) (all-accepted before)) (meant y1 n) .0 (rw (same-day before) at (s .1)) in
-      rw (same-day before) (A .lists (stepsAfter before) _ (after-steps before (Looks (Show n room)) rest T) (meant y1 n) (rw (same-day before) at (s .0)) idle)
+      let s = show-idle (dayAfter single before) n room (was-taken (dayAfter single before) (Looks (Show n room)) (T .code) .0) in
+      let y1 = run (stepsAfter single before) in
+      let idle = busy-idle y1 (fine-run (stepsAfter single before) (all-accepted single before)) (meant y1 n) .0 (rw (same-day single before) at (s .1)) in
+      rw (same-day single before) (A .lists (stepsAfter single before) _ (after-steps single cs before (Looks (Show n room)) rest T) (meant y1 n) (rw (same-day single before) at (s .0)) idle)
 
-  number-at : (before rest : List (Call ℕ)) (c r k bib v : ℕ) → Taken cs before (Update c r k bib v) rest
-      → number (endOf cs .diagram) (length (endOf before .diagram)) ≡ some (called (dayAfter before) (Update c r k bib v) .answer .value)
+  number-at : (before rest : List (Call ℕ)) (c r k bib v : ℕ) → Taken single cs before (Update c r k bib v) rest
+      → number (endOf single cs .diagram) (length (endOf single before .diagram)) ≡ some (called (dayAfter single before) (Update c r k bib v) .answer .value)
   unfolding dayFrom after
   number-at before rest c r k bib v T =
       ap (λ z. number (z .day .diagram) x) (day-is before (Update c r k bib v) rest T)
@@ -208,7 +194,7 @@ module _ (cs : List (Call ℕ)) where
       ∙ ap some (sym (ap (λ o. o .answer .value) is))
     where
       q : PlainDay
-      q = dayAfter before
+      q = dayAfter single before
 
       x : ℕ
       x = length (q .day .diagram)
@@ -219,15 +205,15 @@ module _ (cs : List (Call ℕ)) where
       next : PlainDay
       next = noted q c (meant (q .day) r) (kindOf k) bib v
 
-  noted-is : (before rest : List (Call ℕ)) (c r k bib v : ℕ) → Taken cs before (Update c r k bib v) rest
-      → dayAfter cs .entries (called (dayAfter before) (Update c r k bib v) .answer .value) ≡ record { kind = kindOf k; client = c; bib = bib; v = v }
+  noted-is : (before rest : List (Call ℕ)) (c r k bib v : ℕ) → Taken single cs before (Update c r k bib v) rest
+      → dayAfter single cs .entries (called (dayAfter single before) (Update c r k bib v) .answer .value) ≡ record { kind = kindOf k; client = c; bib = bib; v = v }
   unfolding dayFrom after
   noted-is before rest c r k bib v T =
-      ap (dayAfter cs .entries) (ap (λ o. o .answer .value) is) ∙ ap (λ z. z .entries n) (day-is before (Update c r k bib v) rest T)
+      ap (dayAfter single cs .entries) (ap (λ o. o .answer .value) is) ∙ ap (λ z. z .entries n) (day-is before (Update c r k bib v) rest T)
       ∙ ap (λ o. dayFrom (o .next) rest .entries n) is ∙ ran rest next .kept n (omega arith) ∙ changed-same (q .entries) n _
     where
       q : PlainDay
-      q = dayAfter before
+      q = dayAfter single before
 
       is : called q (Update c r k bib v) ≡ ending q (Update c r k bib v)
       is = was-taken q (Update c r k bib v) (T .code) .1
@@ -238,9 +224,9 @@ module _ (cs : List (Call ℕ)) where
       next : PlainDay
       next = noted q c (meant (q .day) r) (kindOf k) bib v
 
-  bundles : (before rest : List (Call ℕ)) (c n : ℕ) (batch : Batch) → Taken cs before (Bundle c n batch) rest → Bundled before c n batch
+  bundles : (before rest : List (Call ℕ)) (c n : ℕ) (batch : Batch) → Taken single cs before (Bundle c n batch) rest → Bundled single before c n batch
   bundles before rest c n batch T =
-      let q = dayAfter before in
+      let q = dayAfter single before in
       let w = was-taken q (Bundle c n batch) (T .code) in
       let right = bundle-right q c n batch (w .0) in
       let b = after-bundled q (sent q c n (entriesOf batch)) (rw (w .1) at (T .code)) in
@@ -257,36 +243,47 @@ module _ (cs : List (Call ℕ)) where
         value = ap (λ o. o .answer .value) (w .1 ∙ b .1) ∙ sym (ap (λ o. o .answer .value) (was-taken q (Update c n (f .0 .kind) (f .0 .bib) (f .0 .v)) first .1));
       }
 
-  unbundled : (before rest : List (Call ℕ)) (c n : ℕ) (batch : Batch) → Taken cs before (Bundle c n batch) rest → dayAfter cs ≡ dayAfter (before ++ (parts c n (entriesOf batch) ++ rest))
+  unbundled : (before rest : List (Call ℕ)) (c n : ℕ) (batch : Batch) → Taken single cs before (Bundle c n batch) rest → dayAfter single cs ≡ dayAfter single (before ++ (parts c n (entriesOf batch) ++ rest))
   unfolding dayFrom dayAfter
   unbundled before rest c n batch T =
       day-is before (Bundle c n batch) rest T
       ∙ ap (λ p. dayFrom p rest) (bundles before rest c n batch T .day)
-      ∙ sym (day-both before (parts c n (entriesOf batch) ++ rest) freshDay ∙ day-both (parts c n (entriesOf batch)) rest (dayAfter before))
+      ∙ sym (day-both before (parts c n (entriesOf batch) ++ rest) (freshDay single) ∙ day-both (parts c n (entriesOf batch)) rest (dayAfter single before))
 
-  pub lined-up : LineUp cs
+  unsynced : (before rest : List (Call ℕ)) (m : ℕ) → Taken single cs before (Sync m) rest → dayAfter single cs ≡ dayAfter single (before ++ (Join 0 m ∷ Fork 0 ∷ rest))
+  unfolding dayFrom dayAfter
+  unsynced before rest m T =
+      day-is before (Sync m) rest T
+      ∙ ap (λ o. dayFrom (o .next) rest) (sync-is single before m (T .code) .is)
+      ∙ sym (ap (dayAfter single) (sym (append-assoc before (Join 0 m ∷ []) (Fork 0 ∷ rest))) ∙ day-both (before ++ (Join 0 m ∷ [])) (Fork 0 ∷ rest) (freshDay single))
+
+  pub lined-up : LineUp single cs
   lined-up = record {
-    steps = same-day cs;
-    lawful = runs-exactly (stepsAfter cs) .0 (all-accepted cs);
-    witness = witness (stepsAfter cs) (all-accepted cs);
-    rules = by-rules (stepsAfter cs) (all-accepted cs);
-    exactly = λ before rest c place. exactly before c;
-    pool = λ before rest place. by-pool (stepsAfter before) (all-accepted before);
-    numbers-used = by-numbers (stepsAfter cs) (all-accepted cs);
-    takes = λ before rest n T. taken-number before n (T .code);
-    none-left = λ before rest n place. fork-none before n (named before);
+    steps = same-day single cs;
+    lawful = runs-exactly (stepsAfter single cs) .0 (all-accepted single cs);
+    witness = witness (stepsAfter single cs) (all-accepted single cs);
+    rules = by-rules (stepsAfter single cs) (all-accepted single cs);
+    exactly = λ before rest c place. exactly single before c;
+    pool = λ before rest place. by-pool (stepsAfter single before) (all-accepted single before);
+    numbers-used = by-numbers (stepsAfter single cs) (all-accepted single cs);
+    takes = λ before rest n T. fork-takes single before n (T .code);
+    none-left = λ before rest n place. fork-none single before n (named single before);
     order = A .order;
     explains = subst (λ y. Explains y (A .order)) (sym e) (A .explains);
     number-at = number-at;
     noted = noted-is;
-    forked = λ before rest n T. fork-value before n (named before) (T .code);
-    gained = λ before rest n m T. join-value before n m (T .code);
-    filled = λ before rest n T. fill-value before n (T .code);
+    forked = λ before rest n T. fork-value single before n (named single before) (T .code);
+    gained = λ before rest n m T. join-value single before n m (T .code);
+    filled = λ before rest n T. fill-value single before n (T .code);
     unbundled = unbundled;
     bundles = bundles;
     queries = queries;
     listed = listed;
-    grows = grows-from cs freshDay fine-fresh;
+    grows = grows-from cs (freshDay single) fine-fresh;
     lists = lists;
-    previews = λ before rest n m bib T. foresees before n m bib (T .code);
+    previews = λ before rest n m bib T. foresees single before n m bib (T .code);
+    unsynced = unsynced;
+    syncs = λ before rest m T. sync-is single before m (T .code);
+    never-ten = λ before rest m place. never-ten single before m;
+    single-main = λ e. on-single-main cs;
   }

@@ -1,6 +1,6 @@
 -- A taken preview answers what a join taken there and then would show (02, U6).
 use Prim.Native.Nat.{ℕ}
-use mathlib.Core.Bool.{false}
+use mathlib.Core.Bool.{Bool, false}
 use mathlib.Core.Path.{_≡_, _∙_, ap, sym}
 use mathlib.Core.Option.{none}
 use mathlib.Core.List.{List, [], _∷_, append-nil}
@@ -23,9 +23,9 @@ use Rattle.plain.proofs.Steps.{day-both}
 use Rattle.plain.proofs.Values.{join-value}
 
 -- the day with the join is the day that the join leaves
-joined-is : (before : List (Call ℕ)) (n m : ℕ) → joinedDay before n m ≡ called (dayAfter before) (Join n m) .next
+pub joined-is : (single : Bool) (before : List (Call ℕ)) (n m : ℕ) → joinedDay single before n m ≡ called (dayAfter single before) (Join n m) .next
 unfolding dayAfter dayFrom
-joined-is before n m = day-both before (Join n m ∷ []) freshDay
+joined-is single before n m = day-both before (Join n m ∷ []) (freshDay single)
 
 -- a query reads what its revision's terminal shows
 pub reads-terminal : (q : PlainDay) (c r bib : ℕ) → pathResult (stepped q (Steps.Event c r false)) (length (q .day .diagram)) bib ≡ pathResult q (q .day .terminal r) bib
@@ -43,15 +43,15 @@ query-reads q c n bib e =
 pub preview-join : (p : PlainDay) (n m bib : ℕ) → called p (Looks (Preview n m bib)) .answer .code ≡ 0 → called p (Join n m) ≡ joined p n m
 preview-join p n m bib e = passed-is p (Join n m) (preview-passes p n m bib (was-taken p (Looks (Preview n m bib)) e .0) .0)
 
-pub foresees : (before : List (Call ℕ)) (n m bib : ℕ) → called (dayAfter before) (Looks (Preview n m bib)) .answer .code ≡ 0 → Foresees before n m bib (called (dayAfter before) (Looks (Preview n m bib)) .answer)
+pub foresees : (single : Bool) (before : List (Call ℕ)) (n m bib : ℕ) → called (dayAfter single before) (Looks (Preview n m bib)) .answer .code ≡ 0 → Foresees single before n m bib (called (dayAfter single before) (Looks (Preview n m bib)) .answer)
 unfolding after isGiven meant
-foresees before n m bib e = record {
+foresees single before n m bib e = record {
   joins = ap (λ o. o .answer .code) taken;
   gain = ap (λ o. o .answer .gain) is ∙ sym (ap (λ o. o .answer .value) taken);
   terminal = ends;
   state = state-is;
   value = value-is;
-  gained = join-value before n m (ap (λ o. o .answer .code) taken);
+  gained = join-value single before n m (ap (λ o. o .answer .code) taken);
   query = λ c f.
       let g = query-reads q c n bib f in
       let there = ap (λ r. q .day .terminal r) (ap (λ z. meant (z .day) n) left) ∙ ends in
@@ -59,10 +59,10 @@ foresees before n m bib e = record {
 }
   where
     p : PlainDay
-    p = dayAfter before
+    p = dayAfter single before
 
     q : PlainDay
-    q = joinedDay before n m
+    q = joinedDay single before n m
 
     x : ℕ
     x = length (p .day .diagram)
@@ -74,7 +74,7 @@ foresees before n m bib e = record {
     taken = preview-join p n m bib e
 
     left : q ≡ joined p n m .next
-    left = joined-is before n m ∙ ap (λ o. o .next) taken
+    left = joined-is single before n m ∙ ap (λ o. o .next) taken
 
     ends : q .day .terminal (meant (p .day) n) ≡ x
     ends = ap (λ z. z .day .terminal (meant (p .day) n)) left ∙ changed-same (p .day .terminal) (meant (p .day) n) x

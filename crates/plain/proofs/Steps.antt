@@ -1,27 +1,28 @@
 -- The calls that are taken are a run of accepted steps of the day of revisions, and no entry changes once it is noted.
 use Prim.Native.Nat.{_<_, _≤_, ℕ}
-use mathlib.Core.Bool.{cond, false, true}
+use mathlib.Core.Bool.{Bool, cond, false, true}
 use mathlib.Core.Path.{_∙_, _≡_, ap, refl, subst, sym}
 use mathlib.Core.List.{List, [], _++_, _∷_, append-assoc}
 use native.Mathlib.Omega.{arith}
 use lib.Dec.{eqb}
-use borrow.Author.Tests.{eqb-false, ne-eqb}
+use borrow.Author.Tests.{eqb-false, eqb-true, ne-eqb}
 use Rattle.lists.proofs.Cases.{cases}
 use Rattle.lists.proofs.Changed.{changed-other}
 use Rattle.bundles.specs.declared.entry.Entry.{Entry}
-use Rattle.desk.specs.Calls.{Bundle, Call, Fill, Fork, Join, Looks, Preview, Query, Show, Update, Yield, entriesOf}
+use Rattle.desk.specs.Calls.{Bundle, Call, Fill, Fork, Join, Looks, Preview, Query, Show, Sync, Update, Yield, entriesOf}
 use Rattle.desk.specs.Checks.{checks}
 use Rattle.desk.proofs.Checks.{Ends, no, yes, ends}
-use Rattle.diagram.proofs.Order.Runs.{accepted-both, run-both}
+use Rattle.diagram.proofs.Order.Runs.{accepted-both, named-run, run-both}
 use Rattle.diagram.proofs.Days.Moves.{yield-updates}
+use Rattle.diagram.proofs.Days.Naming.{Named}
 use Rattle.diagram.specs.Day.{Day, meant, isGiven}
 use Rattle.diagram.specs.Steps as Steps
 use Rattle.diagram.specs.Steps.{Event, Step, after, run, runFrom}
 use Rattle.diagram.specs.Accepted.{Accepted, AcceptedFrom, accepted}
 use Rattle.plain.proofs.Ends.{fork-accepts, join-passes, query-accepts, update-accepts, was-taken, yield-accepts}
-use Rattle.plain.proofs.Bundles.{after-bundled, sent-first, sent-never}
-use Rattle.plain.specs.Answers.{Outcome, asked, bundled, called, dayAfter, dayFrom, ending, refused, sent, stepped}
-use Rattle.plain.specs.Taken.{bundleSteps, endOf, stepOf, stepsAfter, stepsFrom, stepsOf}
+use Rattle.plain.proofs.Bundles.{after-bundled, one-never, sent-first, sent-never}
+use Rattle.plain.specs.Answers.{Outcome, asOne, asked, bundled, called, dayAfter, dayFrom, ending, joined, refused, sent, stepped}
+use Rattle.plain.specs.Taken.{Taken, bundleSteps, endOf, stepOf, stepsAfter, stepsFrom, stepsOf}
 use Rattle.plain.specs.Record.{PlainDay, freshDay}
 
 -- how a call ends: taken, or refused with a code above 1 and the day as it was
@@ -33,12 +34,18 @@ bundled-fair : (p : PlainDay) (o : Outcome) → (o .answer .code ≡ 1 → ⊥) 
 bundled-fair p o h =
     cases (eqb (o .answer .code) 0) (λ q. good {o = bundled p o} (rw q)) (λ q. rw q (bad (o .answer .code) (let z = eqb-false (o .answer .code) 0 q in omega arith)))
 
+one-fair : (p : PlainDay) (o : Outcome) → (o .answer .code ≡ 1 → ⊥) → Fair p (asOne p o)
+one-fair p o h =
+    cases (eqb (o .answer .code) 0) (λ q. good {o = asOne p o} (rw q (eqb-true (o .answer .code) 0 q))) (λ q. rw q (bad (o .answer .code) (let z = eqb-false (o .answer .code) 0 q in omega arith)))
+
 ending-fair : (p : PlainDay) (c : Call ℕ) → Fair p (ending p c)
+unfolding called
 ending-fair p (Update c n k bib v) = good refl
 ending-fair p (Query c n bib) = good refl
 ending-fair p (Yield c) = good refl
 ending-fair p (Fork n) = good refl
 ending-fair p (Join n m) = good refl
+ending-fair p (Sync m) = let q = joined p 0 m .next in one-fair p (called q (Fork 0)) (one-never q (Fork 0) refl)
 ending-fair p (Bundle c n batch) = bundled-fair p (sent p c n (entriesOf batch)) (sent-never c n (entriesOf batch) p)
 ending-fair p (Looks (Show n room)) = good refl
 ending-fair p (Looks (Fill n)) = good refl
@@ -46,9 +53,9 @@ ending-fair p (Looks (Preview n m bib)) = good refl
 
 pub called-fair : (p : PlainDay) (c : Call ℕ) → Fair p (called p c)
 unfolding called
-called-fair p c = by (ends (refused p) (ending p c) (asked (p .day)) refl c)
+called-fair p c = by (ends (refused p) (ending p c) (asked p) refl c)
   where
-    by : {o : Outcome} → Ends (checks (asked (p .day)) c) (refused p) (ending p c) o → Fair p o
+    by : {o : Outcome} → Ends (checks (asked p) c) (refused p) (ending p c) o → Fair p o
     by (no k h) = bad k h
     by (yes P) = ending-fair p c
 
@@ -60,16 +67,17 @@ not-one (bad k h) e = omega arith
 pub never-one : (p : PlainDay) (c : Call ℕ) → called p c .answer .code ≡ 1 → ⊥
 never-one p c = not-one (called-fair p c)
 
--- a run of accepted steps from one day to another; no entry changes once it is noted
+-- a run of accepted steps from one day to another; no entry changes once it is noted, and the choice given to fresh stays
 pub record RanTo (p q : PlainDay) (ss : List Step) : Type 0 where
   pub accepts : AcceptedFrom (p .day) ss
   pub same : q .day ≡ runFrom (p .day) ss
   pub more : p .day .updates ≤ q .day .updates
   pub kept : (i : ℕ) → i < p .day .updates → q .entries i ≡ p .entries i
+  pub choice : q .single ≡ p .single
 
 ran-none : (p : PlainDay) → RanTo p p []
 unfolding runFrom
-ran-none p = record { accepts = tt; same = refl; more = omega arith; kept = λ i l. refl }
+ran-none p = record { accepts = tt; same = refl; more = omega arith; kept = λ i l. refl; choice = refl }
 
 ran-both : (p q x : PlainDay) (ss ts : List Step) → RanTo p q ss → RanTo q x ts → RanTo p x (ss ++ ts)
 ran-both p q x ss ts R T = record {
@@ -77,6 +85,7 @@ ran-both p q x ss ts R T = record {
   same = T .same ∙ ap (λ y. runFrom y ts) (R .same) ∙ sym (run-both ss ts (p .day));
   more = (let a = R .more in let b = T .more in omega arith);
   kept = λ i l. T .kept i (let a = R .more in omega arith) ∙ R .kept i l;
+  choice = T .choice ∙ R .choice;
 }
 
 -- one step
@@ -88,17 +97,17 @@ more-after y (Steps.Yield c) = let z = yield-updates y c (y .openBy c) in omega 
 more-after y (Steps.Fork r) = omega arith
 more-after y (Steps.Join a b) = omega arith
 
-ran-one : (p q : PlainDay) (s : Step) → accepted (p .day) s ≡ true → q .day ≡ after (p .day) s → ((i : ℕ) → i < p .day .updates → q .entries i ≡ p .entries i) → RanTo p q (s ∷ [])
+ran-one : (p q : PlainDay) (s : Step) → accepted (p .day) s ≡ true → q .day ≡ after (p .day) s → ((i : ℕ) → i < p .day .updates → q .entries i ≡ p .entries i) → q .single ≡ p .single → RanTo p q (s ∷ [])
 unfolding runFrom
-ran-one p q s a e k = record { accepts = (a, tt); same = e; more = rw e (more-after (p .day) s); kept = k }
+ran-one p q s a e k f = record { accepts = (a, tt); same = e; more = rw e (more-after (p .day) s); kept = k; choice = f }
 
 ran-step : (p : PlainDay) (s : Step) → accepted (p .day) s ≡ true → RanTo p (stepped p s) (s ∷ [])
-ran-step p s a = ran-one p (stepped p s) s a refl (λ i l. refl)
+ran-step p s a = ran-one p (stepped p s) s a refl (λ i l. refl) refl
 
 update-ran : (p : PlainDay) (c n k bib v : ℕ) → called p (Update c n k bib v) .answer .code ≡ 0 → RanTo p (called p (Update c n k bib v) .next) (Event c (meant (p .day) n) true ∷ [])
 update-ran p c n k bib v e =
     let w = was-taken p (Update c n k bib v) e in
-    rw (w .1) (ran-one p _ (Event c (meant (p .day) n) true) (update-accepts p c n k bib v (w .0)) refl (λ i l. changed-other (p .entries) (p .day .updates) _ i (λ q. omega arith)))
+    rw (w .1) (ran-one p _ (Event c (meant (p .day) n) true) (update-accepts p c n k bib v (w .0)) refl (λ i l. changed-other (p .entries) (p .day .updates) _ i (λ q. omega arith)) refl)
 
 update-bearer : (p : PlainDay) (c n k bib v m : ℕ) → called p (Update c n k bib v) .answer .code ≡ 0 → meant (called p (Update c n k bib v) .next .day) m ≡ meant (p .day) m
 unfolding isGiven meant after
@@ -115,13 +124,25 @@ sent-ran c n r (e ∷ es) p b z =
     let rest = sent-ran c n r es q (update-bearer p c n (e .kind) (e .bib) (e .v) n (f .0) ∙ b) (sym (ap (λ o. o .answer .code) (f .1)) ∙ z) in
     subst (λ o. RanTo p (o .next) (Event c r true ∷ bundleSteps c r es)) (sym (f .1)) (ran-both p q _ (Event c r true ∷ []) (bundleSteps c r es) (subst (λ i. RanTo p q (Event c i true ∷ [])) b one) rest)
 
+-- a call of two parts, where it is taken
+pub after-one : (p : PlainDay) (o : Outcome) → asOne p o .answer .code ≡ 0 → (o .answer .code ≡ 0) × (asOne p o ≡ o)
+after-one p o z = cases (eqb (o .answer .code) 0) (λ q. (eqb-true _ 0 q, rw q)) (λ q. absurd (eqb-false _ 0 q (rw q at z)))
+
 -- a call that is taken
 taken-ran : (p : PlainDay) (c : Call ℕ) → called p c .answer .code ≡ 0 → RanTo p (called p c .next) (stepOf p c)
+unfolding called isGiven meant after
 taken-ran p (Update c n k bib v) e = update-ran p c n k bib v e
 taken-ran p (Query c n bib) e = let w = was-taken p (Query c n bib) e in rw (w .1) (ran-step p _ (query-accepts p c n bib (w .0)))
 taken-ran p (Yield c) e = let w = was-taken p (Yield c) e in rw (w .1) (ran-step p _ (yield-accepts p c (w .0)))
 taken-ran p (Fork n) e = let w = was-taken p (Fork n) e in rw (w .1) (ran-step p _ (fork-accepts p n (w .0)))
 taken-ran p (Join n m) e = let w = was-taken p (Join n m) e in rw (w .1) (ran-step p _ (join-passes p n m (w .0) .accepts))
+taken-ran p (Sync m) e =
+    let w = was-taken p (Sync m) e in
+    let q = joined p 0 m .next in
+    let b = after-one p (called q (Fork 0)) (rw (w .1) at e) in
+    let f = was-taken q (Fork 0) (b .0) in
+    subst (λ o. RanTo p (o .next) (stepOf p (Sync m))) (sym (w .1 ∙ b .1 ∙ f .1))
+    (ran-both p q _ (Steps.Join (meant (p .day) 0) (meant (p .day) m) ∷ []) (Steps.Fork (meant (p .day) 0) ∷ []) (ran-step p _ (join-passes p 0 m (w .0) .accepts)) (ran-step q _ (fork-accepts q 0 (f .0))))
 taken-ran p (Bundle c n batch) e =
     let w = was-taken p (Bundle c n batch) e in
     let b = after-bundled p (sent p c n (entriesOf batch)) (rw (w .1) at e) in
@@ -143,12 +164,21 @@ ran [] p = ran-none p
 ran (c ∷ cs) p = ran-both p (called p c .next) _ (stepsOf p c) (stepsFrom (called p c .next) cs) (did p c) (ran cs (called p c .next))
 
 -- a list of calls as a run of accepted steps
-pub all-accepted : (cs : List (Call ℕ)) → Accepted (stepsAfter cs)
-all-accepted cs = ran cs freshDay .accepts
+pub all-accepted : (single : Bool) (cs : List (Call ℕ)) → Accepted (stepsAfter single cs)
+all-accepted single cs = ran cs (freshDay single) .accepts
 
-pub same-day : (cs : List (Call ℕ)) → endOf cs ≡ run (stepsAfter cs)
+pub same-day : (single : Bool) (cs : List (Call ℕ)) → endOf single cs ≡ run (stepsAfter single cs)
 unfolding dayAfter run
-same-day cs = ran cs freshDay .same
+same-day single cs = ran cs (freshDay single) .same
+
+-- the choice given to fresh is there after every list of calls
+pub same-choice : (single : Bool) (cs : List (Call ℕ)) → dayAfter single cs .single ≡ single
+unfolding dayAfter
+same-choice single cs = ran cs (freshDay single) .choice
+
+-- the numbers of the revisions out are apart
+pub named : (single : Bool) (cs : List (Call ℕ)) → Named (endOf single cs)
+named single cs = rw (same-day single cs) (named-run (stepsAfter single cs) (all-accepted single cs))
 
 -- in two parts
 pub day-both : (a b : List (Call ℕ)) (p : PlainDay) → dayFrom p (a ++ b) ≡ dayFrom (dayFrom p a) b
@@ -160,3 +190,17 @@ pub steps-both : (a b : List (Call ℕ)) (p : PlainDay) → stepsFrom p (a ++ b)
 unfolding stepsFrom dayFrom
 steps-both [] b p = refl
 steps-both (c ∷ a) b p = ap (λ ss. stepsOf p c ++ ss) (steps-both a b (called p c .next)) ∙ sym (append-assoc (stepsOf p c) (stepsFrom (called p c .next) a) (stepsFrom (dayFrom (called p c .next) a) b))
+
+-- the steps of a list in which a call c was taken
+module _ (single : Bool) (cs before : List (Call ℕ)) (c : Call ℕ) (rest : List (Call ℕ)) (T : Taken single cs before c rest) where
+  abbrev p : PlainDay
+  p = dayAfter single before
+
+  pub after-steps : stepsAfter single cs ≡ stepsAfter single before ++ (stepsOf p c ++ stepsFrom (called p c .next) rest)
+  unfolding stepsFrom dayAfter
+  after-steps = ap (stepsAfter single) (T .place) ∙ steps-both before (c ∷ rest) (freshDay single)
+
+  pub taken-steps : (ss : List Step) → stepOf p c ≡ ss → stepsAfter single cs ≡ stepsAfter single before ++ (ss ++ stepsFrom (called p c .next) rest)
+  taken-steps ss q =
+      after-steps ∙ ap (λ k. stepsAfter single before ++ (cond (eqb k 0) (stepOf p c) [] ++ stepsFrom (called p c .next) rest)) (T .code)
+      ∙ ap (λ z. stepsAfter single before ++ (z ++ stepsFrom (called p c .next) rest)) q

@@ -1,6 +1,6 @@
 -- What the values of a taken fork, join and fill are.
 use Prim.Native.Nat.{ℕ, _≤_}
-use mathlib.Core.Bool.{true, not, true≢false}
+use mathlib.Core.Bool.{Bool, true, not, true≢false}
 use mathlib.Core.Logic.{_↔_}
 use mathlib.Core.Path.{_≡_, refl, sym, _∙_, subst}
 use mathlib.Core.List.{List, [], _∷_}
@@ -19,20 +19,23 @@ use Rattle.diagram.specs.Checks.{noneLeft}
 use Rattle.diagram.specs.Steps as Steps
 use Rattle.diagram.specs.Steps.{after}
 use Rattle.diagram.specs.Accepted.{accepted}
+use Rattle.diagram.specs.Reuse.{Takes}
 use Rattle.diagram.specs.Arbitration.{Numbered}
 use Rattle.diagram.specs.Counts.{OwnUpdates, SeenSince}
 use Rattle.diagram.proofs.Days.Moves.{CanFork, can-fork, can-join}
 use Rattle.diagram.proofs.Days.Found.{found-means}
 use Rattle.diagram.proofs.Days.Naming.{Named, meant-low, meant-new, meant-number, meant-old, next-apart}
 use Rattle.diagram.proofs.Order.Growth.{Fine, busy-idle}
+use Rattle.diagram.proofs.Order.Reuse.{takes}
 use Rattle.diagram.proofs.Order.Runs.{fine-run, numbered-run}
 use Rattle.diagram.proofs.Order.Since.{fork-shows, join-gains, own-updates}
 use Rattle.plain.specs.Record.{PlainDay}
 use Rattle.plain.specs.Answers.{Outcome, asked, called, dayAfter, ending, ownAt, refused}
-use Rattle.plain.specs.Allowed.{Meaning}
+use Rattle.plain.specs.Allowed.{Meaning, OnLine}
 use Rattle.plain.specs.Taken.{endOf, stepsAfter}
 use Rattle.plain.specs.Values.{Filled, Forked, Gained}
 use Rattle.plain.proofs.Ends.{Passes, fork-accepts, given, join-passes, means, was-taken}
+use Rattle.plain.proofs.Exactly.{line-on, on-line}
 use Rattle.plain.proofs.Steps.{all-accepted, same-day}
 
 -- 10 of a fork
@@ -40,35 +43,39 @@ not-less : (n m : ℕ) → n ≤ m → (not (ltb n m) ≡ true) ↔ (n ≡ m)
 not-less n m h = (λ e. cases (ltb n m) (λ l. absurd (true≢false (sym (rw l at e)))) (λ l. let k = ltb-false n m l in omega arith), λ e. rw (le-ltb n m (omega arith)))
 
 abbrev idleChecks : Tests → ℕ → List Check
-idleChecks q n = 1 if q .noTable ∷ 3 if q .never n ∷ 4 if q .joined n ∷ 7 if q .busy n ∷ []
+idleChecks q n = 1 if q .noTable ∷ 3 if q .never n ∷ 4 if q .joined n ∷ 15 if q .offLine n ∷ 7 if q .busy n ∷ []
 
-module _ (before : List (Call ℕ)) where
+module _ (single : Bool) (before : List (Call ℕ)) where
   abbrev p : PlainDay
-  p = dayAfter before
+  p = dayAfter single before
 
   abbrev y : Day
-  y = endOf before
+  y = endOf single before
 
   fine : Fine y
-  fine = subst Fine (sym (same-day before)) (fine-run (stepsAfter before) (all-accepted before))
+  fine = subst Fine (sym (same-day single before)) (fine-run (stepsAfter single before) (all-accepted single before))
 
-  pub fork-none : (n : ℕ) → Named y → (called p (Fork n) .answer .code ≡ 10) ↔ (Meaning y n (λ r. IsOut y r × IsIdle y r) × (outCount y ≡ revisionLimit))
+  pub fork-none : (n : ℕ) → Named y → (called p (Fork n) .answer .code ≡ 10) ↔ (Meaning y n (λ r. IsOut y r × IsIdle y r) × OnLine single n × (outCount y ≡ revisionLimit))
   unfolding called noneLeft
-  fork-none n N = (λ e. let r = exact .0 e in (idle (r .0), all .0 (r .1)), λ (M, e). exact .1 (refl also given M also M .holds .0 .1 also busy-idle y fine (meant y n) .1 (M .holds .1) also Rows.none, all .1 e))
+  fork-none n N = (
+    λ e. let r = exact .0 e in let i = idle (r .0) in (i .0, i .1, all .0 (r .1)),
+    λ (M, f, e). exact .1 (refl also given M also M .holds .0 .1 also line-on single before n f also busy-idle y fine (meant y n) .1 (M .holds .1) also Rows.none, all .1 e),
+  )
     where
-      exact : (called p (Fork n) .answer .code ≡ 10) ↔ (Passed (idleChecks (asked y) n) × (noneLeft y ≡ true))
-      exact = code-exactly (λ (o : Outcome). o .answer .code) (refused p) (λ k. refl) (ending p (Fork n)) (10 if noneLeft y) (λ e. omega arith) (idleChecks (asked y) n) [] refl refl
+      exact : (called p (Fork n) .answer .code ≡ 10) ↔ (Passed (idleChecks (asked p) n) × (noneLeft y ≡ true))
+      exact = code-exactly (λ (o : Outcome). o .answer .code) (refused p) (λ k. refl) (ending p (Fork n)) (10 if noneLeft y) (λ e. omega arith) (idleChecks (asked p) n) [] refl refl
 
       all : (noneLeft y ≡ true) ↔ (outCount y ≡ revisionLimit)
       all = not-less (outCount y) revisionLimit (let a = N .counted in let b = N .few in omega arith)
 
-      idle : Passed (idleChecks (asked y) n) → Meaning y n (λ r. IsOut y r × IsIdle y r)
-      idle (e1 also e3 also e4 also e7 also P) = record { given = not-false (isGiven y n) e3; holds = ((meant-low y n (meant y n) (means p n e3), e4), busy-idle y fine (meant y n) .0 e7) }
+      idle : Passed (idleChecks (asked p) n) → Meaning y n (λ r. IsOut y r × IsIdle y r) × OnLine single n
+      idle (e1 also e3 also e4 also e15 also e7 also P) =
+          (record { given = not-false (isGiven y n) e3; holds = ((meant-low y n (meant y n) (means p n e3), e4), busy-idle y fine (meant y n) .0 e7) }, on-line single before n e15)
 
   shows : (r : ℕ) → accepted y (Steps.Fork r) ≡ true → SeenSince (y .diagram) (y .terminal r) (after y (Steps.Fork r) .diagram) (after y (Steps.Fork r) .terminal (y .revisions)) []
   shows r e =
-      subst (λ y. SeenSince (y .diagram) (y .terminal r) (after y (Steps.Fork r) .diagram) (after y (Steps.Fork r) .terminal (y .revisions)) []) (sym (same-day before))
-      (fork-shows (stepsAfter before) (all-accepted before) r (subst (λ y. accepted y (Steps.Fork r) ≡ true) (same-day before) e))
+      subst (λ y. SeenSince (y .diagram) (y .terminal r) (after y (Steps.Fork r) .diagram) (after y (Steps.Fork r) .terminal (y .revisions)) []) (sym (same-day single before))
+      (fork-shows (stepsAfter single before) (all-accepted single before) r (subst (λ y. accepted y (Steps.Fork r) ≡ true) (same-day single before) e))
 
   forks : (n : ℕ) → Named y → accepted y (Steps.Fork (meant y n)) ≡ true → Forked y n (ending p (Fork n))
   unfolding nextNumber after
@@ -86,14 +93,20 @@ module _ (before : List (Call ℕ)) where
   pub fork-value : (n : ℕ) → Named y → called p (Fork n) .answer .code ≡ 0 → Forked y n (called p (Fork n))
   fork-value n N e = let w = was-taken p (Fork n) e in subst (Forked y n) (sym (w .1)) (forks n N (fork-accepts p n (w .0)))
 
+  pub fork-takes : (n : ℕ) → called p (Fork n) .answer .code ≡ 0 → Takes (stepsAfter single before) (called p (Fork n) .answer .value)
+  fork-takes n e =
+      let w = was-taken p (Fork n) e in
+      let a = subst (λ y. accepted y (Steps.Fork (meant y n)) ≡ true) (same-day single before) (fork-accepts p n (w .0)) in
+      rw (w .1, same-day single before) (takes (stepsAfter single before) (all-accepted single before) _ a)
+
   -- the own updates of a revision that is out, by paths
   owns : (r : ℕ) → IsOut y r → OwnUpdates y r (ownAt y r)
-  owns r o = subst (λ y. OwnUpdates y r (ownAt y r)) (sym (same-day before)) (own-updates (stepsAfter before) (all-accepted before) r (rw (same-day before) at o))
+  owns r o = subst (λ y. OwnUpdates y r (ownAt y r)) (sym (same-day single before)) (own-updates (stepsAfter single before) (all-accepted single before) r (rw (same-day single before) at o))
 
   gains : (a b : ℕ) → accepted y (Steps.Join a b) ≡ true → SeenSince (y .diagram) (y .terminal a) (after y (Steps.Join a b) .diagram) (after y (Steps.Join a b) .terminal a) (ownAt y b)
   gains a b e =
-      subst (λ y. SeenSince (y .diagram) (y .terminal a) (after y (Steps.Join a b) .diagram) (after y (Steps.Join a b) .terminal a) (ownAt y b)) (sym (same-day before))
-      (join-gains (stepsAfter before) (all-accepted before) a b (subst (λ y. accepted y (Steps.Join a b) ≡ true) (same-day before) e))
+      subst (λ y. SeenSince (y .diagram) (y .terminal a) (after y (Steps.Join a b) .diagram) (after y (Steps.Join a b) .terminal a) (ownAt y b)) (sym (same-day single before))
+      (join-gains (stepsAfter single before) (all-accepted single before) a b (subst (λ y. accepted y (Steps.Join a b) ≡ true) (same-day single before) e))
 
   pub join-value : (n m : ℕ) → called p (Join n m) .answer .code ≡ 0 → Gained y (meant y n) (meant y m) (called p (Join n m))
   join-value n m e =
@@ -107,5 +120,5 @@ module _ (before : List (Call ℕ)) where
   pub fill-value : (n : ℕ) → called p (Looks (Fill n)) .answer .code ≡ 0 → Filled y (meant y n) (called p (Looks (Fill n)) .answer)
   fill-value n e =
       let w = was-taken p (Looks (Fill n)) e in
-      let all = subst (λ y. Numbered (y .diagram) (y .updates)) (sym (same-day before)) (numbered-run (stepsAfter before) (all-accepted before)) in
+      let all = subst (λ y. Numbered (y .diagram) (y .updates)) (sym (same-day single before)) (numbered-run (stepsAfter single before) (all-accepted single before)) in
       subst (λ (o : Outcome). Filled y (meant y n) (o .answer)) (sym (w .1)) (record { updates = _; own-updates = owns (meant y n) (fill-out n (w .0)); value = refl; all = all })

@@ -2,7 +2,7 @@
 -- stated limits allow it". No test and no code is named here. The rules are `MayFollow` (crate diagram, specs/Lawful): the run of the steps taken so
 -- far, with this one, keeps 002's rules within 01's sizes. The rest are limits of 01 and 02.
 use Prim.Native.Nat.{ℕ, _*_, _<_, _≤_}
-use mathlib.Core.Bool.{true, false}
+use mathlib.Core.Bool.{Bool, true, false}
 use mathlib.Core.Path.{_≡_}
 use mathlib.Core.List.{List, [], _∷_, _++_}
 use lib.ListN.{length}
@@ -11,7 +11,7 @@ use Rattle.diagram.specs.Day.{Day, IsOut, IsIdle, isGiven, meant}
 use Rattle.diagram.specs.Steps as Steps
 use Rattle.diagram.specs.Steps.{Event}
 use Rattle.diagram.specs.Lawful.{MayFollow, EachMayFollow}
-use Rattle.desk.specs.Calls.{Call, Update, Query, Yield, Fork, Join, Bundle, Looks, Show, Fill, Preview, Batch, Records, Entries, entriesOf}
+use Rattle.desk.specs.Calls.{Call, Update, Query, Yield, Fork, Join, Sync, Bundle, Looks, Show, Fill, Preview, Batch, Records, Entries, entriesOf}
 use Rattle.plain.specs.Answers.{shownAt}
 use Rattle.plain.specs.Taken.{endOf, stepsAfter, bundleSteps}
 
@@ -42,21 +42,27 @@ pub record CanShow (y : Day) (r room : ℕ) : Type 0 where
   pub idle : IsIdle y r
   pub fits : 12 * length (shownAt y r) ≤ room
 
-abbrev pub JoinAllowed : List (Call ℕ) → ℕ → ℕ → Type 0
-JoinAllowed before n m = Meaning (endOf before) n (λ a. Meaning (endOf before) m (λ b. MayFollow (stepsAfter before) (Steps.Join a b)))
+-- 15, 02, U8: on a single-main day, box 0
+abbrev pub OnLine : Bool → ℕ → Type 0
+OnLine single n = single ≡ true → n ≡ 0
+
+abbrev pub JoinAllowed : Bool → List (Call ℕ) → ℕ → ℕ → Type 0
+JoinAllowed single before n m = Meaning (endOf single before) n (λ a. Meaning (endOf single before) m (λ b. MayFollow (stepsAfter single before) (Steps.Join a b))) × OnLine single n
 
 -- what allows a call after the calls `before`
-abbrev pub Allowed : List (Call ℕ) → Call ℕ → Type 0
-Allowed before (Update c n k bib v) = Meaning (endOf before) n (λ r. MayFollow (stepsAfter before) (Event c r true)) × IsBib bib × IsKind k
-Allowed before (Query c n bib) = Meaning (endOf before) n (λ r. MayFollow (stepsAfter before) (Event c r false)) × IsBib bib
-Allowed before (Yield c) = MayFollow (stepsAfter before) (Steps.Yield c)
-Allowed before (Fork n) = Meaning (endOf before) n (λ r. MayFollow (stepsAfter before) (Steps.Fork r))
-Allowed before (Join n m) = JoinAllowed before n m
+abbrev pub Allowed : Bool → List (Call ℕ) → Call ℕ → Type 0
+Allowed single before (Update c n k bib v) = Meaning (endOf single before) n (λ r. MayFollow (stepsAfter single before) (Event c r true)) × IsBib bib × IsKind k
+Allowed single before (Query c n bib) = Meaning (endOf single before) n (λ r. MayFollow (stepsAfter single before) (Event c r false)) × IsBib bib
+Allowed single before (Yield c) = MayFollow (stepsAfter single before) (Steps.Yield c)
+Allowed single before (Fork n) = Meaning (endOf single before) n (λ r. MayFollow (stepsAfter single before) (Steps.Fork r)) × OnLine single n
+Allowed single before (Join n m) = JoinAllowed single before n m
+-- 02, U8: "has join's refusals for joiner 0": its fork may always follow
+Allowed single before (Sync m) = JoinAllowed single before 0 m
 -- 02, U4: its updates and its yield may follow, one after another
-Allowed before (Bundle c n batch) =
-    IsBatch batch × AreEntries (entriesOf batch) × Meaning (endOf before) n (λ r. EachMayFollow (stepsAfter before ++ bundleSteps c r (entriesOf batch)))
-Allowed before (Looks (Show n room)) = Meaning (endOf before) n (λ r. CanShow (endOf before) r room)
+Allowed single before (Bundle c n batch) =
+    IsBatch batch × AreEntries (entriesOf batch) × Meaning (endOf single before) n (λ r. EachMayFollow (stepsAfter single before ++ bundleSteps c r (entriesOf batch)))
+Allowed single before (Looks (Show n room)) = Meaning (endOf single before) n (λ r. CanShow (endOf single before) r room)
 -- 02, U1: of a box that is out, busy or not
-Allowed before (Looks (Fill n)) = Meaning (endOf before) n (IsOut (endOf before))
+Allowed single before (Looks (Fill n)) = Meaning (endOf single before) n (IsOut (endOf single before))
 -- 02, U6: where the join is allowed, and the bib is one
-Allowed before (Looks (Preview n m bib)) = JoinAllowed before n m × IsBib bib
+Allowed single before (Looks (Preview n m bib)) = JoinAllowed single before n m × IsBib bib

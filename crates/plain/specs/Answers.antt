@@ -1,13 +1,13 @@
 -- What each call answers and does to the day: 01, "The plain day and its line-up": "this record and the table of codes decide each call". The table of
 -- codes is `checks` of crate desk.
 use Prim.Native.Nat.{ℕ, _*_}
-use mathlib.Core.Bool.{false, cond, not}
+use mathlib.Core.Bool.{Bool, false, cond, not, _&&_}
 use mathlib.Core.List.{List, [], _∷_}
 use lib.ListN.{length}
 use lib.Dec.{eqb, ltb}
 use Rattle.updates.specs.Kinds.{kindOf}
 use Rattle.bundles.specs.declared.entry.Entry as Sent
-use Rattle.desk.specs.Calls.{Call, Update, Query, Yield, Fork, Join, Bundle, Looks, Look, Show, Fill, Preview, Answer, plainly, reading, level, entriesOf}
+use Rattle.desk.specs.Calls.{Call, Update, Query, Yield, Fork, Join, Sync, Bundle, Looks, Look, Show, Fill, Preview, Answer, plainly, reading, level, entriesOf}
 use Rattle.desk.specs.Checks.{Tests, checks, settle}
 use Rattle.diagram.specs.Effects.{own, view}
 use Rattle.diagram.specs.Day.{Day, isGiven, meant, nextNumber}
@@ -29,21 +29,24 @@ abbrev pub ownAt : Day → ℕ → List ℕ
 ownAt y r = own (y .diagram) (y .terminal r)
 
 -- the questions of the codes, asked of the day. "Code 1 doesn't arise on it"
-abbrev pub asked : Day → Tests
-asked y = record {
-  noTable = false;
-  strange = unknownClient;
-  never = λ n. not (isGiven y n);
-  joined = λ n. y .joined (meant y n);
-  elsewhere = λ c n. openElsewhere y c (meant y n);
-  byOther = λ c n. busyByOther y c (meant y n);
-  busy = λ n. busy y (meant y n);
-  stale = λ c n. stale y c (meant y n);
-  full = logFull y;
-  allOut = noneLeft y;
-  unjoinable = λ n m. notJoinable y (meant y n) (meant y m);
-  short = λ n room. ltb room (12 * length (shownAt y (meant y n)));
-}
+abbrev pub asked : PlainDay → Tests
+asked p =
+    let y = p .day in
+    record {
+      noTable = false;
+      strange = unknownClient;
+      never = λ n. not (isGiven y n);
+      joined = λ n. y .joined (meant y n);
+      offLine = λ n. p .single && not (eqb n 0);
+      elsewhere = λ c n. openElsewhere y c (meant y n);
+      byOther = λ c n. busyByOther y c (meant y n);
+      busy = λ n. busy y (meant y n);
+      stale = λ c n. stale y c (meant y n);
+      full = logFull y;
+      allOut = noneLeft y;
+      unjoinable = λ n m. notJoinable y (meant y n) (meant y m);
+      short = λ n room. ltb room (12 * length (shownAt y (meant y n)));
+    }
 
 -- "a refused one changes nothing" and "A refusal gives value 0"
 abbrev pub refused : PlainDay → ℕ → Outcome
@@ -53,11 +56,11 @@ abbrev pub taken : PlainDay → ℕ → Outcome
 taken p value = record { next = p; answer = plainly 0 value [] }
 
 abbrev pub settled : PlainDay → Call ℕ → Outcome → Outcome
-settled p c end = settle (checks (asked (p .day)) c) (refused p) end
+settled p c end = settle (checks (asked p) c) (refused p) end
 
 -- the day of revisions goes on, and no update was taken
 abbrev pub stepped : PlainDay → Steps.Step → PlainDay
-stepped p s = record { day = after (p .day) s; entries = p .entries }
+stepped p s = record { single = p .single; day = after (p .day) s; entries = p .entries }
 
 -- "Values when taken: update, the count of updates taken before it"
 abbrev pub updated : PlainDay → ℕ → ℕ → ℕ → ℕ → ℕ → Outcome
@@ -70,6 +73,17 @@ yielded p c = taken (stepped p (Steps.Yield c)) 0
 -- "join, the count of updates the joiner gained"
 abbrev pub joined : PlainDay → ℕ → ℕ → Outcome
 joined p n m = taken (stepped p (Steps.Join (meant (p .day) n) (meant (p .day) m))) (length (ownAt (p .day) (meant (p .day) m)))
+
+-- "fork, the new number"
+abbrev pub forked : PlainDay → ℕ → Outcome
+forked p n = taken (stepped p (Steps.Fork (meant (p .day) n))) (nextNumber (p .day))
+
+-- 02, U8: "joins it into box 0, then forks box 0; it is one step, answers the new number": where the fork is refused, nothing is done
+abbrev pub asOne : PlainDay → Outcome → Outcome
+asOne p o = cond (eqb (o .answer .code) 0) o (refused p (o .answer .code))
+
+abbrev pub synced : PlainDay → ℕ → Outcome
+synced p m = let q = joined p 0 m .next in asOne p (settled q (Fork 0) (forked q 0))
 
 -- 02, U4: "sending the updates one by one and then a yield"; the first that is refused ends it
 abbrev pub afterTaken : Outcome → (PlainDay → Outcome) → Outcome
@@ -101,26 +115,26 @@ ending p (Query c n bib) =
     let q = stepped p (Steps.Event c (meant (p .day) n) false) in
     record { next = q; answer = reading (pathResult q (length (p .day .diagram)) bib) 0 [] }
 ending p (Yield c) = yielded p c
--- "fork, the new number"
-ending p (Fork n) = taken (stepped p (Steps.Fork (meant (p .day) n))) (nextNumber (p .day))
+ending p (Fork n) = forked p n
 ending p (Join n m) = joined p n m
+ending p (Sync m) = synced p m
 ending p (Bundle c n batch) = bundled p (sent p c n (entriesOf batch))
 ending p (Looks l) = record { next = p; answer = told p l }
 
 unfoldable pub called : PlainDay → Call ℕ → Outcome
 called p c = settled p c (ending p c)
 
--- the day after a list of calls, each getting it "as the last one left it"; and what they answer
+-- the day after a list of calls from a fresh one, each getting it "as the last one left it"; and what they answer
 unfoldable pub dayFrom : PlainDay → List (Call ℕ) → PlainDay
 dayFrom p [] = p
 dayFrom p (c ∷ cs) = dayFrom (called p c .next) cs
 
-unfoldable pub dayAfter : List (Call ℕ) → PlainDay
-dayAfter cs = dayFrom freshDay cs
+unfoldable pub dayAfter : Bool → List (Call ℕ) → PlainDay
+dayAfter single cs = dayFrom (freshDay single) cs
 
 unfoldable pub answersFrom : PlainDay → List (Call ℕ) → List (Answer (List Line))
 answersFrom p [] = []
 answersFrom p (c ∷ cs) = called p c .answer ∷ answersFrom (called p c .next) cs
 
-unfoldable pub answers : List (Call ℕ) → List (Answer (List Line))
-answers cs = answersFrom freshDay cs
+unfoldable pub answers : Bool → List (Call ℕ) → List (Answer (List Line))
+answers single cs = answersFrom (freshDay single) cs

@@ -1,6 +1,6 @@
 -- 02, U4: "The outcome equals sending the updates one by one and then a yield."
 use Prim.Native.Nat.{ℕ}
-use mathlib.Core.Bool.{false}
+use mathlib.Core.Bool.{Bool, false}
 use mathlib.Core.Path.{_≡_}
 use mathlib.Core.List.{List, [], _∷_}
 use Rattle.bundles.specs.declared.entry.Entry.{Entry}
@@ -22,12 +22,12 @@ AllTaken p [] = Unit {0}
 AllTaken p (c ∷ cs) = (called p c .answer .code ≡ 0) × AllTaken (called p c .next) cs
 
 -- a bundle that is taken after some calls
-pub record Bundled (before : List (Call ℕ)) (c n : ℕ) (batch : Batch) : Type 0 where
+pub record Bundled (single : Bool) (before : List (Call ℕ)) (c n : ℕ) (batch : Batch) : Type 0 where
   pub right : isWrongBatch batch ≡ false
-  pub each : AllTaken (dayAfter before) (parts c n (entriesOf batch))
-  pub day : called (dayAfter before) (Bundle c n batch) .next ≡ dayFrom (dayAfter before) (parts c n (entriesOf batch))
+  pub each : AllTaken (dayAfter single before) (parts c n (entriesOf batch))
+  pub day : called (dayAfter single before) (Bundle c n batch) .next ≡ dayFrom (dayAfter single before) (parts c n (entriesOf batch))
   -- "The value is the first entry's number."
   pub first : Entry
   pub others : List Entry
   pub begins : entriesOf batch ≡ first ∷ others
-  pub value : called (dayAfter before) (Bundle c n batch) .answer .value ≡ called (dayAfter before) (part c n first) .answer .value
+  pub value : called (dayAfter single before) (Bundle c n batch) .answer .value ≡ called (dayAfter single before) (part c n first) .answer .value

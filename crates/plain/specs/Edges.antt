@@ -1,10 +1,11 @@
--- 01, "Edges of a race day": the starred edges E1 to E9 as one table of calls with what each gives; and 02, U1 to U4, U6 and U7.
+-- 01, "Edges of a race day": the starred edges E1 to E9 as one table of calls with what each gives; and 02, U1 to U4, U6, U7 and U8.
 use Prim.Native.Nat.{ℕ, zero, suc}
+use mathlib.Core.Bool.{Bool}
 use mathlib.Core.List.{List, [], _∷_, _++_}
 use lib.ListN.{replicate}
 use Rattle.updates.specs.declared.standing.Standing.the-variants.{At, Struck}
 use Rattle.bundles.specs.declared.entry.Entry as Sent
-use Rattle.desk.specs.Calls.{Call, Update, Query, Yield, Fork, Join, Bundle, Looks, Show, Fill, Preview, Entries, Records, Answer, plainly, reading, level, answerOn}
+use Rattle.desk.specs.Calls.{Call, Update, Query, Yield, Fork, Join, Sync, Bundle, Looks, Show, Fill, Preview, Entries, Records, Answer, plainly, reading, level, answerOn}
 use Rattle.plain.specs.Answers.{answers}
 
 -- what a call gives, the sheet apart
@@ -224,6 +225,22 @@ reused =
     ∷ edge
     (forks 63 ++ (Update 1 5 time 7 50 ∷ Yield 1 ∷ Join 0 5 ∷ Fork 0 ∷ Query 1 5 7 ∷ Update 1 5 penalty 7 5 ∷ Query 1 5 7 ∷ Yield 1 ∷ fill 5 ∷ list 5 24 ∷ Query 1 0 7 ∷ Join 0 5 ∷ Query 1 0 7 ∷ []))
     (upFrom 1 63 ++ (ok 0 ∷ ok 0 ∷ ok 1 ∷ ok 5 ∷ timed 50 ∷ ok 1 ∷ timed 55 ∷ ok 0 ∷ filled 1 2 ∷ ok 2 ∷ refusal 8 ∷ ok 1 ∷ timed 55 ∷ []))
+    -- 02, U8: a sync "on any day", of a box that another sent; no box is off the line
+    ∷ edge (Fork 0 ∷ Fork 1 ∷ Sync 2 ∷ Sync 1 ∷ Sync 2 ∷ []) (ok 1 ∷ ok 2 ∷ refusal 11 ∷ ok 3 ∷ ok 4 ∷ [])
+    ∷ []
+
+-- 02, U8, on a single-main day
+abbrev pub onLine : List Edge
+onLine =
+    -- 15 "for a fork of another box than 0 or a join into one", and for a preview of such a join: after 3 and 4, before 7 and 11. What was yielded on a
+    -- box is there in the box that its sync sends; "join's refusals for joiner 0"
+    edge
+    (Fork 0 ∷ Fork 1 ∷ Fork 5 ∷ Update 0 1 time 7 50 ∷ Fork 1 ∷ Join 1 0 ∷ preview 1 0 7 ∷ Join 0 1 ∷ Sync 1 ∷ Yield 0 ∷ Sync 1
+    ∷ Join 1 2 ∷ Fork 1 ∷ Query 1 2 7 ∷ Sync 2 ∷ Yield 1 ∷ Sync 0 ∷ Join 0 0 ∷ Sync 9 ∷ Sync 1 ∷ Sync 2 ∷ [])
+    (ok 1 ∷ refusal 15 ∷ refusal 3 ∷ ok 0 ∷ refusal 15 ∷ refusal 15 ∷ refusal 15 ∷ refusal 7 ∷ refusal 7 ∷ ok 0 ∷ ok 2
+    ∷ refusal 4 ∷ refusal 4 ∷ timed 50 ∷ refusal 7 ∷ ok 0 ∷ refusal 11 ∷ refusal 11 ∷ refusal 3 ∷ refusal 4 ∷ ok 3 ∷ [])
+    -- "sync never meets 10": with 64 boxes out it answers the number that it was given
+    ∷ edge (forks 63 ++ (Fork 0 ∷ Sync 5 ∷ Fork 0 ∷ [])) (upFrom 1 63 ++ (refusal 10 ∷ ok 5 ∷ refusal 10 ∷ []))
     ∷ []
 
 abbrev pub said : {S : Type 0} → List (Answer S) → List Said
@@ -234,6 +251,7 @@ abbrev pub expected : List Edge → List (List Said)
 expected [] = []
 expected (e ∷ es) = e .says ∷ expected es
 
-abbrev pub computed : List Edge → List (List Said)
-computed [] = []
-computed (e ∷ es) = said (answers (e .calls)) ∷ computed es
+-- on days of either choice
+abbrev pub computed : Bool → List Edge → List (List Said)
+computed single [] = []
+computed single (e ∷ es) = said (answers single (e .calls)) ∷ computed single es

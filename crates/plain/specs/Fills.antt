@@ -1,13 +1,13 @@
 -- 02, U1: "own updates, summed over all boxes out, always equal the updates accepted since fresh, that number being counted
 -- from the history". 02's "lids" are what fills tell.
 use Prim.Native.Nat.{ℕ, _+_}
-use mathlib.Core.Bool.{cond}
+use mathlib.Core.Bool.{Bool, cond}
 use mathlib.Core.Path.{_≡_}
 use mathlib.Core.List.{List, [], _∷_}
 use lib.Dec.{eqb}
 use lib.ListN.{length}
 use Rattle.lists.specs.Sums.{sumBelow}
-use Rattle.desk.specs.Calls.{Call, Update, Query, Yield, Fork, Join, Bundle, Looks, Fill, Answer, entriesOf}
+use Rattle.desk.specs.Calls.{Call, Update, Query, Yield, Fork, Join, Sync, Bundle, Looks, Fill, Answer, entriesOf}
 use Rattle.plain.specs.Record.{PlainDay}
 use Rattle.plain.specs.Answers.{called, dayAfter, answers}
 
@@ -22,6 +22,7 @@ enters (Query c n bib) = 0
 enters (Yield c) = 0
 enters (Fork n) = 0
 enters (Join n m) = 0
+enters (Sync m) = 0
 enters (Bundle c n batch) = length (entriesOf batch)
 enters (Looks l) = 0
 
@@ -35,7 +36,7 @@ abbrev pub codesOf : {S : Type 0} → List (Answer S) → List ℕ
 codesOf [] = []
 codesOf (a ∷ more) = a .code ∷ codesOf more
 
-pub record FillsAddUp (cs : List (Call ℕ)) : Type 0 where
-  pub sum : fillSum (dayAfter cs) ≡ acceptedIn cs (codesOf (answers cs))
+pub record FillsAddUp (single : Bool) (cs : List (Call ℕ)) : Type 0 where
+  pub sum : fillSum (dayAfter single cs) ≡ acceptedIn cs (codesOf (answers single cs))
   -- "the number taken by the whole table" is the same number
-  pub total : (n : ℕ) → called (dayAfter cs) (Looks (Fill n)) .answer .code ≡ 0 → called (dayAfter cs) (Looks (Fill n)) .answer .total ≡ acceptedIn cs (codesOf (answers cs))
+  pub total : (n : ℕ) → called (dayAfter single cs) (Looks (Fill n)) .answer .code ≡ 0 → called (dayAfter single cs) (Looks (Fill n)) .answer .total ≡ acceptedIn cs (codesOf (answers single cs))

@@ -1,6 +1,6 @@
 -- The day kept on paper: 01, "The plain day and its line-up". The day of revisions, with what each update was.
 use Prim.Native.Nat.{ℕ}
-use mathlib.Core.Bool.{true}
+use mathlib.Core.Bool.{Bool, true}
 use mathlib.Core.List.{List, [], _∷_}
 use Rattle.lists.specs.Lists.{changed}
 use Rattle.updates.specs.declared.kind.Kind.{Kind}
@@ -19,14 +19,16 @@ pub record Line : Type 0 where
   pub entry : Entry
   pub number : ℕ
 
--- "It keeps the diagram, .. the updates taken, numbered from 0, .."
+-- "It keeps the diagram, .. the updates taken, numbered from 0, .."; and "whatever a request's rules go by, such as .. a choice given to fresh, joins
+-- the record": 02, U8, whether it is a single-main day
 pub record PlainDay : Type 0 where
+  pub single : Bool
   pub day : Day
   pub entries : ℕ → Entry
 
--- "It begins with box 0 out, at the root": no update has been taken yet
-abbrev pub freshDay : PlainDay
-freshDay = record { day = Day.fresh; entries = λ n. record { kind = Time; client = 0; bib = 0; v = 0 } }
+-- "It begins with box 0 out, at the root": no update has been taken yet. "Fresh gains a choice of such a day."
+abbrev pub freshDay : Bool → PlainDay
+freshDay single = record { single = single; day = Day.fresh; entries = λ n. record { kind = Time; client = 0; bib = 0; v = 0 } }
 
 abbrev pub ofBib : (ℕ → Entry) → ℕ → List ℕ → List Update
 ofBib entries bib ns = Applied.ofBib (λ n. entries n .bib) (λ n. record { kind = entries n .kind; v = entries n .v }) bib ns
@@ -48,6 +50,7 @@ linesOf entries (n ∷ ns) = record { entry = entries n; number = n } ∷ linesO
 -- an update taken: its vertex, and what it was
 abbrev pub noted : PlainDay → ℕ → ℕ → Kind → ℕ → ℕ → PlainDay
 noted p c r kind bib v = record {
+  single = p .single;
   day = after (p .day) (Event c r true);
   entries = changed (p .entries) (p .day .updates) (record { kind = kind; client = c; bib = bib; v = v });
 }

@@ -1,10 +1,11 @@
 -- The calls that are taken, as steps of the day of revisions.
 use Prim.Native.Nat.{ℕ}
-use mathlib.Core.Bool.{cond, false, true}
+use mathlib.Core.Bool.{Bool, cond, false, true}
+use mathlib.Core.Path.{_≡_}
 use mathlib.Core.List.{List, [], _∷_, _++_}
 use lib.Dec.{eqb}
 use Rattle.bundles.specs.declared.entry.Entry.{Entry}
-use Rattle.desk.specs.Calls.{Call, Update, Query, Yield, Fork, Join, Bundle, Looks, entriesOf}
+use Rattle.desk.specs.Calls.{Call, Update, Query, Yield, Fork, Join, Sync, Bundle, Looks, entriesOf}
 use Rattle.diagram.specs.Day.{Day, meant}
 use Rattle.diagram.specs.Steps as Steps
 use Rattle.diagram.specs.Steps.{Step, Event}
@@ -23,6 +24,8 @@ stepOf p (Query c n bib) = Event c (meant (p .day) n) false ∷ []
 stepOf p (Yield c) = Steps.Yield c ∷ []
 stepOf p (Fork n) = Steps.Fork (meant (p .day) n) ∷ []
 stepOf p (Join n m) = Steps.Join (meant (p .day) n) (meant (p .day) m) ∷ []
+-- 02, U8: a sync is a join and a fork
+stepOf p (Sync m) = Steps.Join (meant (p .day) 0) (meant (p .day) m) ∷ Steps.Fork (meant (p .day) 0) ∷ []
 stepOf p (Bundle c n batch) = bundleSteps c (meant (p .day) n) (entriesOf batch)
 stepOf p (Looks l) = []
 
@@ -34,9 +37,14 @@ unfoldable pub stepsFrom : PlainDay → List (Call ℕ) → List Step
 stepsFrom p [] = []
 stepsFrom p (c ∷ cs) = stepsOf p c ++ stepsFrom (called p c .next) cs
 
-abbrev pub stepsAfter : List (Call ℕ) → List Step
-stepsAfter cs = stepsFrom freshDay cs
+abbrev pub stepsAfter : Bool → List (Call ℕ) → List Step
+stepsAfter single cs = stepsFrom (freshDay single) cs
 
 -- the day of revisions after a list of calls
-abbrev pub endOf : List (Call ℕ) → Day
-endOf cs = dayAfter cs .day
+abbrev pub endOf : Bool → List (Call ℕ) → Day
+endOf single cs = dayAfter single cs .day
+
+-- call c, taken between `before` and `rest`
+pub record Taken (single : Bool) (cs before : List (Call ℕ)) (c : Call ℕ) (rest : List (Call ℕ)) : Type 0 where
+  pub place : cs ≡ before ++ (c ∷ rest)
+  pub code : called (dayAfter single before) c .answer .code ≡ 0

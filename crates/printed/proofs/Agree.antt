@@ -1,5 +1,6 @@
 -- Record by record, the table stands for the day on paper, and each line is the same.
 use Prim.Native.Nat.{ℕ, zero, suc}
+use mathlib.Core.Bool.{false}
 use mathlib.Core.Path.{_≡_, refl, ap}
 use mathlib.Core.List.{List, _++_}
 use lib.ListN.{replicate, length-replicate}
@@ -30,7 +31,7 @@ step-same p t S Unknown = refused-same p t S 13
 
 stands : (f : List ℕ) (i : ℕ) → Stands (paperAfter f i) (tableAfter freshTable f i)
 unfolding paperAfter tableAfter freshTable
-stands f zero = fresh-stands (replicate tableBytes 0) (length-replicate {A = ℕ} tableBytes 0)
+stands f zero = fresh-stands (replicate tableBytes 0) (length-replicate {A = ℕ} tableBytes 0) false
 stands f (suc i) = step-same (paperAfter f i) (tableAfter freshTable f i) (stands f i) (stepAt f i) .stands
 
 lines-same : (f : List ℕ) (n : ℕ) → lines freshTable f n ≡ paperLines f n

@@ -1,6 +1,7 @@
 -- A day file printed from the day kept on paper: 01, "The plain day and its line-up" and "Day file and printed day". The
 -- records run on the plain day; no table is kept.
 use Prim.Native.Nat.{ℕ, zero, suc}
+use mathlib.Core.Bool.{false}
 use mathlib.Core.Path.{_≡_}
 use mathlib.Core.List.{List, [], _++_}
 use Rattle.text.specs.Placed.{ascii}
@@ -28,7 +29,7 @@ outcome p Unknown = refused p 13
 
 -- the day after the first i records
 unfoldable pub paperAfter : List ℕ → ℕ → PlainDay
-paperAfter f zero = freshDay
+paperAfter f zero = freshDay false
 paperAfter f (suc i) = outcome (paperAfter f i) (stepAt f i) .next
 
 abbrev pub answerAt : List ℕ → ℕ → Answer (List Line)

@@ -1,6 +1,6 @@
 -- A table made fresh is the same whatever the bytes were.
 use Prim.Native.Nat.{ℕ}
-use mathlib.Core.Bool.{Bool, not}
+use mathlib.Core.Bool.{Bool, not, false}
 use mathlib.Core.Path.{_≡_, sym, _∙_, ap}
 use mathlib.Core.List.{List, _++_}
 use lib.ListN.{length, replicate, length-replicate}
@@ -15,12 +15,12 @@ use Rattle.table.specs.Calls.{freshOut}
 use Rattle.report.specs.Printed.{freshTable}
 
 abbrev made : Out
-made = taken (freshBytes ++ replicate Upper.entryBytes 0) 0
+made = taken (freshBytes false ++ replicate Upper.entryBytes 0) 0
 
-fresh-made : (t : List ℕ) → length t ≡ tableBytes → freshOut t ≡ made
+fresh-made : (t : List ℕ) → length t ≡ tableBytes → freshOut t false ≡ made
 unfolding freshOut
 fresh-made t h = ap (λ (b : Bool). check (not b) 1 t made) (eq-eqb (length t) tableBytes h)
 
-pub fresh-table : (t : List ℕ) → length t ≡ tableBytes → freshOut t .lent ≡ freshTable
+pub fresh-table : (t : List ℕ) → length t ≡ tableBytes → freshOut t false .lent ≡ freshTable
 unfolding freshTable
 fresh-table t h = ap (λ (o : Out). o .lent) (fresh-made t h ∙ sym (fresh-made (replicate tableBytes 0) (length-replicate {A = ℕ} tableBytes 0)))

@@ -1,6 +1,6 @@
 -- The printed day: 01, "Day file and printed day". Every line ends in a line feed.
 use Prim.Native.Nat.{ℕ, zero, suc}
-use mathlib.Core.Bool.{cond}
+use mathlib.Core.Bool.{cond, false}
 use mathlib.Core.List.{List, [], _++_}
 use lib.Dec.{ltb}
 use lib.ListN.{length, replicate}
@@ -37,7 +37,7 @@ lines t f zero = []
 lines t f (suc i) = lines t f i ++ line i (outAt t f i .code) (outAt t f i .state) (outAt t f i .value)
 
 unfoldable pub freshTable : List ℕ
-freshTable = freshOut (replicate tableBytes 0) .lent
+freshTable = freshOut (replicate tableBytes 0) false .lent
 
 -- "Otherwise it makes a table fresh and prints `steps n`, then one line a record"
 unfoldable pub day : List ℕ → ℕ → List ℕ

@@ -23,7 +23,7 @@ fn put_day(f: &[u8], n: u32, out: &mut [u8]) -> usize
     ensures { λ r. ⌜ (r ≡ length (day (now (f .entry)) n)) × (now (out .exit) ≡ placed (now (out .entry)) 0 (day (now (f .entry)) n)) ⌝ }
 {
     let mut t = io::large_buffer();
-    forking::fresh::fresh(&mut t);
+    forking::fresh::fresh(&mut t, false);
     let a = put(out, 0, b"steps ");
     let b = number(out, a, n as u64, b'\n');
     lines(f, n, &mut t, out, b)

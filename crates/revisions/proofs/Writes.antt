@@ -12,9 +12,10 @@ use borrow.Author.Tests.{eq-eqb, eqb-true, le-ltb, lt-ltb, ne-eqb}
 use Rattle.lists.specs.Lists.{restOf}
 use Rattle.lists.specs.Arranged.{insertBefore, remove, replaced}
 use Rattle.lists.proofs.Cases.{cases}
-use Rattle.cells.specs.Sizes.{lowerBytes, revisions, clients, main, stateOut}
+use Rattle.cells.specs.Sizes.{lowerBytes, revisions, clients, closed, main, stateOut}
 use Rattle.cells.specs.Parts.{Parts, Sized, parts, offset, size, split, glue, wrote, _⟨_≔_⟩, rowsPart, lowPart, highPart, seenPart, caughtPart, statePart, usedPart, lastPart, firstPart}
-use Rattle.cells.specs.Parts.{countPart, basePart, layoutPart, queuePart, openedPart, countersPart}
+use Rattle.cells.specs.Parts.{countPart, basePart, layoutPart, queuePart, openedPart, countersPart, singlePart, signaturePart}
+use Rattle.cells.specs.Range.{signature}
 use Rattle.cells.specs.Words.{putWord, putHalf}
 use Rattle.cells.specs.Flags.{pack, putRow}
 use Rattle.cells.specs.Decode.{decode}
@@ -224,12 +225,18 @@ unfolding size
 fresh-revisions-sized h =
     sized-with (sized-with (sized-with h statePart (set (replicate revisions 0) main stateOut) refl) layoutPart (replicate revisions main) refl) queuePart (replicate revisions 1) refl
 
-pub fresh-done : (d₁ d₂ d₃ d₄ : List ℕ) → d₁ ≡ glue (λ i. replicate (size i) 0) → d₂ ≡ wrote d₁ caughtPart (pack clients (λ c r. true))
-    → d₃ ≡ glue (freshRevisions (split d₂)) → d₄ ≡ glue (freshCounts (split d₃)) → d₄ ≡ freshBytes
+fresh-counts-sized : {p : Parts} → Sized p → Sized (freshCounts p)
+unfolding size signature
+fresh-counts-sized h =
+    sized-with (sized-with (sized-with h openedPart (replicate clients closed) refl) countersPart (0 ∷ 0 ∷ 1 ∷ 1 ∷ []) refl) signaturePart signature refl
+
+pub fresh-done : (single : Bool) (d₁ d₂ d₃ d₄ d₅ : List ℕ) → d₁ ≡ glue (λ i. replicate (size i) 0) → d₂ ≡ wrote d₁ caughtPart (pack clients (λ c r. true))
+    → d₃ ≡ glue (freshRevisions (split d₂)) → d₄ ≡ glue (freshCounts (split d₃)) → d₅ ≡ wrote d₄ singlePart (cond single 1 0 ∷ []) → d₅ ≡ freshBytes single
 unfolding freshBytes
-fresh-done d₁ d₂ d₃ d₄ e₁ e₂ e₃ e₄ =
+fresh-done single d₁ d₂ d₃ d₄ d₅ e₁ e₂ e₃ e₄ e₅ =
     let z : Sized (λ i. replicate (size i) 0) = record { of = λ i. length-replicate (size i) 0 } in
     let h₁ : Holds d₁ (λ i. replicate (size i) 0) = record { eq = e₁; sized = z } in
     let h₂ = caught-wrote (λ f c r. true) h₁ e₂ in
     let h₃ = holds-step freshRevisions h₂ e₃ (fresh-revisions-sized (h₂ .sized)) in
-    e₄ ∙ ap (λ p. glue (freshCounts p)) (split-is h₃)
+    let h₄ = holds-step freshCounts h₃ e₄ (fresh-counts-sized (h₃ .sized)) in
+    e₅ ∙ ap (λ p. glue (p ⟨ singlePart ≔ cond single 1 0 ∷ [] ⟩)) (split-is h₄) ∙ ap glue (with-swap _ signaturePart singlePart signature (cond single 1 0 ∷ []) (λ e. absurd (omega arith)))

@@ -1,8 +1,10 @@
 // A new day: the main revision is out, and nothing has happened.
+ghost use mathlib.Core.Bool.{cond};
+ghost use mathlib.Core.List.{[], _∷_};
 ghost use mathlib.Core.Path.{_≡_};
 ghost use lib.ListN.{length};
 ghost use Rattle.cells.specs.Sizes.{lowerBytes};
-ghost use Rattle.cells.specs.Parts.{glue, split};
+ghost use Rattle.cells.specs.Parts.{glue, singlePart, split, wrote};
 ghost use Rattle.cells.specs.Steps.{freshBytes};
 ghost use Rattle.revisions.specs.Pieces.{freshCounts, freshRevisions};
 use buffers::clear::clear;
@@ -37,12 +39,22 @@ fn put_counts(d: &mut [u8])
     put(d, parts::SIGNATURE, &signature);
 }
 
-pub fn fresh(d: &mut [u8])
+// The choice of a single-main day (02, U8).
+fn put_choice(d: &mut [u8], single: bool)
     requires { ⌜ length (now d) ≡ lowerBytes ⌝ }
-    ensures { λ _. ⌜ now (d .exit) ≡ freshBytes ⌝ }
+    ensures { λ _. ⌜ now (d .exit) ≡ wrote (now (d .entry)) singlePart (cond single 1 0 ∷ []) ⌝ }
+{
+    let choice = Table::fresh_single(single);
+    put(d, parts::SINGLE, &choice);
+}
+
+pub fn fresh(d: &mut [u8], single: bool)
+    requires { ⌜ length (now d) ≡ lowerBytes ⌝ }
+    ensures { λ _. ⌜ now (d .exit) ≡ freshBytes single ⌝ }
 {
     clear(d);
     caught(d);
     put_revisions(d);
     put_counts(d);
+    put_choice(d, single);
 }

@@ -4,7 +4,7 @@ ghost use Prim.Native.Nat.{_<_};
 ghost use Rattle.sizes.specs.Numbers.{revisionCheck};
 use crate::table::Table;
 
-// A revision number: 0 to 63. Made by `check_revision`, and for the main revision by `Revision::main`.
+// A revision number: 0 to 63. Made by `check_revision`, for the main revision by `Revision::main`, and from the cells of a table in range.
 pub struct Revision(pub u8);
 
 // A client number: 0 to 15. Made only after its range check.

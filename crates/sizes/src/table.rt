@@ -1,4 +1,5 @@
 // The table's type: its sizes, and the parts of a fresh day (01: "64 boxes, 16 tablets, 1,000 bibs and 4,096 updates at most").
+ghost use mathlib.Core.Bool.{cond};
 ghost use mathlib.Core.Path.{_≡_};
 ghost use mathlib.Core.List.{[], _∷_};
 ghost use lib.ListN.{replicate, set};
@@ -91,6 +92,13 @@ impl Table {
         ensures { λ r. ⌜ r ≡ 0 ∷ 0 ∷ 1 ∷ 1 ∷ [] ⌝ }
     {
         [0, 0, 1, 1]
+    }
+
+    // 02, U8: "Fresh gains a choice of such a day."
+    pub fn fresh_single(single: bool) -> [u8; 1]
+        ensures { λ r. ⌜ r ≡ cond single 1 0 ∷ [] ⌝ }
+    {
+        if single { [1] } else { [0] }
     }
 
     // A client without events may start anywhere: every caught-up flag, eight to a byte.

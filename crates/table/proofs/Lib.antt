@@ -3,3 +3,4 @@ pub mod Halves
 pub mod Checks
 pub mod Buffer
 pub mod Calls
+pub mod Syncs

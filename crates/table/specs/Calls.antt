@@ -2,7 +2,7 @@
 -- of a day need not be read here: `Explained.agreement` (`consistency` specs/Demand, proved in proofs/Table/Follows) ties them to the plain day, for every
 -- buffer made fresh and every list of calls. Of other contents "answers .. follow from the cells alone". A list has its sheet lent, and only reads the table.
 use Prim.Native.Nat.{ℕ, _*_}
-use mathlib.Core.Bool.{not, cond}
+use mathlib.Core.Bool.{Bool, not, cond}
 use mathlib.Core.List.{List, [], _∷_, _++_}
 use lib.Dec.{eqb, ltb}
 use lib.ListN.{length, replicate}
@@ -11,11 +11,11 @@ use Rattle.updates.specs.Kinds.{kindOf}
 use Rattle.updates.specs.Effect.{stateOf, valueIn}
 use Rattle.updates.specs.declared.standing.Standing.{Standing}
 use Rattle.updates.specs.declared.standing.State.the-variants.{Neither}
-use Rattle.desk.specs.Calls.{Update, Query, Yield, Fork, Join, Bundle, Looks, Show, Fill, Preview, Batch, Records, Entries, entriesOf}
+use Rattle.desk.specs.Calls.{Update, Query, Yield, Fork, Join, Sync, Bundle, Looks, Show, Fill, Preview, Batch, Records, Entries, entriesOf}
 use Rattle.desk.specs.Checks.{Tests, _if_, checks, settle}
 use Rattle.cells.specs.Cells.{Cells, nextNumber}
 use Rattle.cells.specs.Order.{order}
-use Rattle.cells.specs.Checks.{isClient, givenOut, joined, openElsewhere, busy, busyByOther, stale, logFull, noneLeft, joinable}
+use Rattle.cells.specs.Checks.{isClient, givenOut, joined, offLine, openElsewhere, busy, busyByOther, stale, logFull, noneLeft, joinable}
 use Rattle.cells.specs.Steps.{freshBytes, updateBytes, queryBytes, closeBytes, forkBytes, joinBytes}
 use Rattle.entries.specs.Sizes as Upper
 use Rattle.entries.specs.Stored.{entry}
@@ -40,6 +40,7 @@ asked t = record {
   strange = λ c. not (isClient c);
   never = λ n. not (givenOut (cellsOf t) n);
   joined = joined (cellsOf t);
+  offLine = offLine (cellsOf t);
   elsewhere = openElsewhere (cellsOf t);
   byOther = busyByOther (cellsOf t);
   busy = busy (cellsOf t);
@@ -50,9 +51,9 @@ asked t = record {
   short = λ n room. ltb room (12 * length (order (cellsOf t) n));
 }
 
--- fresh: of 1, the length only
-unfoldable pub freshOut : List ℕ → Out
-freshOut t = settle (1 if not (eqb (length t) tableBytes) ∷ []) (refused t) (taken (freshBytes ++ replicate Upper.entryBytes 0) 0)
+-- fresh: of 1, the length only. 02, U8: "Fresh gains a choice of such a day."
+unfoldable pub freshOut : List ℕ → Bool → Out
+freshOut t single = settle (1 if not (eqb (length t) tableBytes) ∷ []) (refused t) (taken (freshBytes single ++ replicate Upper.entryBytes 0) 0)
 
 unfoldable pub updateOut : List ℕ → ℕ → ℕ → ℕ → ℕ → ℕ → Out
 updateOut t c n k bib v =
@@ -73,6 +74,13 @@ joinEnd t n m = taken (joinBytes (low t) n m ++ high t) (cellsOf t .count m)
 
 unfoldable pub joinOut : List ℕ → ℕ → ℕ → Out
 joinOut t n m = settle (checks (asked t) (Join n m)) (refused t) (joinEnd t n m)
+
+-- 02, U8: "joins it into box 0, then forks box 0; it is one step": where the fork is refused, the table keeps every byte. No day refuses it
+abbrev pub asOne : List ℕ → Out → Out
+asOne t o = cond (eqb (o .code) 0) o (refused t (o .code))
+
+unfoldable pub syncOut : List ℕ → ℕ → Out
+syncOut t m = settle (checks (asked t) (Sync m)) (refused t) (asOne t (forkOut (joinEnd t 0 m .lent) 0))
 
 unfoldable pub listOut : List ℕ → ℕ → List ℕ → Out
 listOut t n s =

@@ -1,9 +1,9 @@
-//! The calls on lent bytes: the checks of each in ascending order, then what it does.
+//! The calls on lent bytes: the checks of each in ascending order, 15 after 4, then what it does.
 
 use calls::Code;
 
 use crate::entry::Entry;
-use crate::numbers::{Bib, Client, LOG};
+use crate::numbers::{Bib, Client, Revision, LOG};
 use crate::range::checked;
 use crate::table::{self, Table};
 use crate::update::{Kind, Standing};
@@ -29,9 +29,10 @@ pub struct Preview {
     pub gain: u16,
 }
 
-/// A new day, whatever the bytes were.
-pub fn fresh(t: &mut [u8]) -> Result<u32, Code> {
-    table::fresh(t.try_into().map_err(|_| Code::NoTable)?);
+/// A new day, whatever the bytes were; on a single-main one, revisions come from the main one and go
+/// back to it alone.
+pub fn fresh(t: &mut [u8], single_main: bool) -> Result<u32, Code> {
+    table::fresh(t.try_into().map_err(|_| Code::NoTable)?, single_main);
     Ok(0)
 }
 
@@ -84,6 +85,7 @@ pub fn fork(t: &mut [u8], revision: u8) -> Result<u32, Code> {
     let mut t = checked(t)?;
     let parent = t.check_given(revision)?;
     t.check_out(parent)?;
+    t.check_line(parent)?;
     t.check_idle(parent)?;
     let child = t.check_left()?;
 
@@ -97,6 +99,17 @@ pub fn join(t: &mut [u8], joiner: u8, joinee: u8) -> Result<u32, Code> {
     let (joiner, joinee) = t.check_join(joiner, joinee)?;
 
     Ok(u32::from(t.join(joiner, joinee)))
+}
+
+/// The revision is joined into the main one, which then forks; the new number.
+pub fn sync(t: &mut [u8], revision: u8) -> Result<u32, Code> {
+    let mut t = checked(t)?;
+    let (main, joinee) = t.check_join(Revision::MAIN.0, revision)?;
+    t.join(main, joinee);
+    // The joinee's, if no other.
+    let child = t.next();
+    t.fork(main, child);
+    Ok(u32::from(child.0))
 }
 
 /// How a bib will stand at the joiner after a join, and how many updates that gains: the join is made

@@ -1,4 +1,4 @@
-//! The checks that look at cells: codes 3, 4 and 6 to 11.
+//! The checks that look at cells: codes 3, 4, 6 to 11 and 15.
 
 use calls::Code;
 
@@ -20,6 +20,11 @@ impl Table<'_> {
     /// Code 4.
     pub(crate) fn check_out(&self, revision: Revision) -> Result<(), Code> {
         refuse(self.state(revision) == IS_JOINED, Code::Joined)
+    }
+
+    /// Code 15 of a forker or a joiner.
+    pub(crate) fn check_line(&self, revision: Revision) -> Result<(), Code> {
+        refuse(self.is_single_main() && revision != Revision::MAIN, Code::OffTheLine)
     }
 
     /// Codes 6, 7 and 8 of update and query.
@@ -48,12 +53,16 @@ impl Table<'_> {
         refuse(usize::from(self.updates()) + more >= LOG, Code::LogFull)
     }
 
-    /// Code 10, or the next revision number: one that was never used, else the one handed in longest
-    /// ago.
+    /// Code 10, or the next revision number.
     pub(crate) fn check_left(&self) -> Result<Revision, Code> {
         refuse(usize::from(self.out()) >= REVISIONS, Code::NoneLeft)?;
+        Ok(self.next())
+    }
+
+    /// One that was never used, else the one handed in longest ago.
+    pub(crate) fn next(&self) -> Revision {
         let given = self.given();
-        Ok(Revision(if usize::from(given) < REVISIONS { given } else { self.queue()[0] }))
+        Revision(if usize::from(given) < REVISIONS { given } else { self.queue()[0] })
     }
 
     /// All checks of a join, and the two revisions.
@@ -61,6 +70,7 @@ impl Table<'_> {
         let (joiner, joinee) = (self.check_given(joiner)?, self.check_given(joinee)?);
         self.check_out(joiner)?;
         self.check_out(joinee)?;
+        self.check_line(joiner)?;
         self.check_idle(joiner)?;
         self.check_idle(joinee)?;
         self.check_joinable(joiner, joinee)?;

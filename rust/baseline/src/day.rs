@@ -3,7 +3,7 @@
 use calls::{Answer, Call, Code, Line, State};
 
 use crate::bundle::bundle;
-use crate::calls::{fill, fork, fresh, join, list, preview, query, update, yield_};
+use crate::calls::{fill, fork, fresh, join, list, preview, query, sync, update, yield_};
 use crate::calls::{Fill, Preview, LISTED};
 use crate::numbers::LOG;
 use crate::parts::BYTES;
@@ -14,10 +14,11 @@ use crate::update::Standing;
 pub struct Day(Vec<u8>);
 
 impl Day {
-    /// The main revision alone, every bib 0 and not struck.
+    /// The main revision alone, every bib 0 and not struck. An ordinary day; the call fresh has the
+    /// choice.
     pub fn fresh() -> Self {
         let mut table = vec![0; BYTES];
-        assert_eq!(fresh(&mut table), Ok(0));
+        assert_eq!(fresh(&mut table, false), Ok(0));
         Day(table)
     }
 
@@ -54,6 +55,8 @@ pub fn call(t: &mut [u8], call: &Call) -> Result<Answer, Code> {
             let Preview { standing, gain } = preview(t, joiner, joinee, bib)?;
             return Ok(Answer { gain: u32::from(gain), ..found(standing) });
         }
+        Call::Fresh { single_main } => fresh(t, single_main)?,
+        Call::Sync { revision } => sync(t, revision)?,
     };
     Ok(Answer::accepted(value))
 }

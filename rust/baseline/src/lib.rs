@@ -20,7 +20,7 @@ mod steps;
 mod table;
 mod update;
 
-pub use self::calls::{fill, fork, fresh, join, list, preview, query, update, yield_};
+pub use self::calls::{fill, fork, fresh, join, list, preview, query, sync, update, yield_};
 pub use self::calls::{Fill, Preview};
 pub use bundle::bundle;
 pub use day::{call, Day};

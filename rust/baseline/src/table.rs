@@ -4,14 +4,14 @@ use crate::marks::Marks;
 use crate::numbers::{Client, Revision, CLIENTS, REVISIONS};
 use crate::parts::{
     BASE, BYTES, CAUGHT, CLOSED, COUNT, ENTRIES, ENTRY, FIRST, GIVEN, HIGH, IS_OUT, LAST, LAYOUT,
-    LOW, OPENED, OUT, QUEUE, ROW, ROWS, SEEN, SIGNATURE, SIGNED, STATE, UPDATES, USED,
+    LOW, OPENED, OUT, QUEUE, ROW, ROWS, SEEN, SIGNATURE, SIGNED, SINGLE, STATE, UPDATES, USED,
 };
 
 /// A lent buffer that passed the check of code 1.
 pub(crate) struct Table<'a>(pub(crate) &'a mut [u8; BYTES]);
 
 /// The cells of a fresh table.
-pub(crate) fn fresh(t: &mut [u8; BYTES]) {
+pub(crate) fn fresh(t: &mut [u8; BYTES], single_main: bool) {
     t.fill(0);
     t[CAUGHT..STATE].fill(0xff);
     t[STATE] = IS_OUT;
@@ -19,6 +19,7 @@ pub(crate) fn fresh(t: &mut [u8; BYTES]) {
     t[OPENED..UPDATES].fill(CLOSED);
     t[OUT] = 1;
     t[GIVEN] = 1;
+    t[SINGLE] = u8::from(single_main);
     t[SIGNATURE..ENTRIES].copy_from_slice(&SIGNED);
 }
 
@@ -101,6 +102,11 @@ impl Table<'_> {
 
     pub(crate) fn set_given(&mut self, n: u8) {
         self.0[GIVEN] = n;
+    }
+
+    /// The choice given to fresh.
+    pub(crate) fn is_single_main(&self) -> bool {
+        self.0[SINGLE] == 1
     }
 
     /// The revisions of all clients' open transactions, by client.

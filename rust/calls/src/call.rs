@@ -79,6 +79,16 @@ pub enum Call {
         /// The bib that is looked up.
         bib: u16,
     },
+    /// A new day on the same table, whatever was before. No step of a day file.
+    Fresh {
+        /// Whether revisions come from the main one and go back to it alone.
+        single_main: bool,
+    },
+    /// A revision is joined into the main one, which is then forked: one call. No step of a day file.
+    Sync {
+        /// The joinee.
+        revision: u8,
+    },
 }
 
 /// The kinds of update by name, kind 1 first. What each makes of a bib, by 01 and 02's U2:
@@ -105,6 +115,8 @@ impl Call {
             Call::Fill { .. } => "fill",
             Call::Bundle { .. } => "bundle",
             Call::Preview { .. } => "preview",
+            Call::Fresh { .. } => "fresh",
+            Call::Sync { .. } => "sync",
         }
     }
 }
@@ -119,7 +131,9 @@ impl fmt::Display for Call {
             }
             Call::Query { client, revision, bib } => write!(f, "{client}/{revision} bib {bib}"),
             Call::Yield { client } => write!(f, "{client}"),
-            Call::Fork { revision } | Call::Fill { revision } => write!(f, "box {revision}"),
+            Call::Fork { revision } | Call::Fill { revision } | Call::Sync { revision } => {
+                write!(f, "box {revision}")
+            }
             Call::Join { joiner, joinee } => write!(f, "{joiner} with {joinee}"),
             Call::List { revision, room } => write!(f, "box {revision} room {room}"),
             Call::Bundle { client, revision, ref records } => {
@@ -127,6 +141,8 @@ impl fmt::Display for Call {
                 write_records(f, records)
             }
             Call::Preview { joiner, joinee, bib } => write!(f, "{joiner} with {joinee} bib {bib}"),
+            Call::Fresh { single_main: false } => f.write_str("ordinary"),
+            Call::Fresh { single_main: true } => f.write_str("single-main"),
         }
     }
 }
@@ -181,6 +197,9 @@ mod tests {
             (Call::List { revision: 2, room: 12 }, "list box 2 room 12"),
             (Call::Fill { revision: 63 }, "fill box 63"),
             (Call::Preview { joiner: 0, joinee: 1, bib: 7 }, "preview 0 with 1 bib 7"),
+            (Call::Fresh { single_main: false }, "fresh ordinary"),
+            (Call::Fresh { single_main: true }, "fresh single-main"),
+            (Call::Sync { revision: 5 }, "sync box 5"),
         ];
         for (call, text) in written {
             assert_eq!(call.to_string(), text);

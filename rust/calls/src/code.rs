@@ -21,7 +21,7 @@ pub enum Code {
     BadEntry = 5,
     /// The client's open transaction is on another revision.
     OpenElsewhere = 6,
-    /// Another client, or for fork, join and list any client, has an open transaction there.
+    /// Another client has an open transaction there; for fork, join, sync and list any client.
     InUse = 7,
     /// No path from the client's last event to the terminal.
     Stale = 8,
@@ -37,10 +37,12 @@ pub enum Code {
     UnknownStep = 13,
     /// 02, U4: the records of a bundle are none or above 64, or not whole.
     WrongBundle = 14,
+    /// 02, U8: on a single-main day, a fork of another revision than the main one, or a join into one.
+    OffTheLine = 15,
 }
 
 /// Each code with its name, in the order of their numbers.
-const NAMED: [(Code, &str); 15] = [
+const NAMED: [(Code, &str); 16] = [
     (Code::Accepted, "taken"),
     (Code::NoTable, "no table"),
     (Code::UnknownClient, "strange tablet"),
@@ -56,6 +58,7 @@ const NAMED: [(Code, &str); 15] = [
     (Code::SheetShort, "sheet short"),
     (Code::UnknownStep, "strange step"),
     (Code::WrongBundle, "wrong bundle"),
+    (Code::OffTheLine, "off the line"),
 ];
 
 impl Code {
@@ -87,9 +90,9 @@ mod tests {
 
     #[test]
     fn each_number_has_its_code() {
-        for number in 0..=14 {
+        for number in 0..=15 {
             assert_eq!(Code::of(number).map(Code::number), Some(number));
         }
-        assert_eq!(Code::of(15), None);
+        assert_eq!(Code::of(16), None);
     }
 }

@@ -122,6 +122,7 @@ impl Drawing {
             Call::Yield { .. } => {}
             // No steps of a day file.
             Call::List { .. } | Call::Fill { .. } | Call::Bundle { .. } | Call::Preview { .. } => {}
+            Call::Fresh { .. } | Call::Sync { .. } => {}
         }
     }
 

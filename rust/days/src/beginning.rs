@@ -7,6 +7,9 @@ use crate::generator::Generator;
 impl Generator<'_> {
     /// The calls before those that are picked at random.
     pub(crate) fn begin(&mut self) {
+        if self.profile.single_main {
+            self.make(Call::Fresh { single_main: true });
+        }
         for _ in 0..self.profile.first {
             let call = self.first();
             self.make(call);

@@ -45,12 +45,13 @@ pub struct Facts {
 }
 
 impl Facts {
-    /// The day of these calls, and its facts.
+    /// The day of these calls, and its facts; the last one, if a table is made fresh among them.
     pub fn of(calls: &[Call]) -> (Day, Facts) {
+        let fresh = calls.iter().rposition(|call| matches!(call, Call::Fresh { .. }));
         let mut day = Day::fresh();
         let mut views = vec![views_now(&day)];
         let mut steps = Vec::new();
-        for call in calls {
+        for call in &calls[fresh.unwrap_or(0)..] {
             let vertices = day.diagram().size();
             let closed = day.transactions().iter().map(|t| !t.is_open()).collect();
             let answer = day.call(call);

@@ -12,7 +12,7 @@ pub fn fault_of_fills<D>(
     calls: &[Call],
     make: impl Fn(&mut D, &Call) -> Answer,
 ) -> Option<String> {
-    let mut history = History { accepted: 0, out: BTreeSet::from([0]) };
+    let mut history = History::fresh();
     if let Some(fault) = history.fault(&mut day, &make) {
         return Some(format!("at the start: {fault}"));
     }
@@ -31,6 +31,10 @@ struct History {
 }
 
 impl History {
+    fn fresh() -> Self {
+        History { accepted: 0, out: BTreeSet::from([0]) }
+    }
+
     fn learn(&mut self, call: &Call, answer: &Answer) {
         if answer.code != Code::Accepted {
             return;
@@ -46,6 +50,11 @@ impl History {
             Call::Join { joinee, .. } => {
                 self.out.remove(&joinee);
             }
+            Call::Sync { revision } => {
+                self.out.remove(&revision);
+                self.out.insert(answer.value as u8);
+            }
+            Call::Fresh { .. } => *self = History::fresh(),
             _ => {}
         }
     }

@@ -25,18 +25,18 @@ pub(crate) struct Generator<'a> {
     day: baseline::Day,
     calls: Vec<Call>,
     /// The revisions that are out, in the order of their starts.
-    out: Vec<u8>,
+    pub(crate) out: Vec<u8>,
     /// How many numbers were given out.
     pub(crate) given: usize,
     /// Who forked the latest revision of each number, or took over the one that did.
-    forker: [u8; REVISIONS as usize],
+    pub(crate) forker: [u8; REVISIONS as usize],
     /// The revision of each client's open transaction.
     open: [Option<u8>; CLIENTS as usize],
     /// Where each client was last, or who took that over.
-    last: [u8; CLIENTS as usize],
+    pub(crate) last: [u8; CLIENTS as usize],
     pub(crate) updates: usize,
     /// What was picked together with the call before it.
-    next: Option<Call>,
+    pub(crate) next: Option<Call>,
 }
 
 impl<'a> Generator<'a> {
@@ -74,22 +74,18 @@ impl<'a> Generator<'a> {
             }
             Call::Query { client, revision, .. } => self.entered(client, revision),
             Call::Yield { client } => self.open[usize::from(client)] = None,
-            Call::Fork { revision } => {
-                let number = answer.value as u8;
-                self.out.push(number);
-                self.forker[usize::from(number)] = revision;
-                self.given = self.given.max(usize::from(number) + 1);
-            }
-            Call::Join { joiner, joinee } => {
-                self.out.retain(|&revision| revision != joinee);
-                let moved = self.last.iter_mut().chain(&mut self.forker);
-                moved.filter(|revision| **revision == joinee).for_each(|place| *place = joiner);
+            Call::Fork { revision } => self.forked(revision, answer.value as u8),
+            Call::Join { joiner, joinee } => self.joined(joiner, joinee),
+            Call::Sync { revision } => {
+                self.joined(0, revision);
+                self.forked(0, answer.value as u8);
             }
             Call::Bundle { client, revision, ref records } => {
                 self.entered(client, revision);
                 self.open[usize::from(client)] = None;
                 self.updates += records.len() / Line::BYTES;
             }
+            Call::Fresh { .. } => self.renewed(),
             Call::List { .. } | Call::Fill { .. } | Call::Preview { .. } => {}
         }
     }
@@ -99,9 +95,31 @@ impl<'a> Generator<'a> {
         self.last[usize::from(client)] = revision;
     }
 
+    fn forked(&mut self, forker: u8, number: u8) {
+        self.out.push(number);
+        self.forker[usize::from(number)] = forker;
+        self.given = self.given.max(usize::from(number) + 1);
+    }
+
+    fn joined(&mut self, joiner: u8, joinee: u8) {
+        self.out.retain(|&revision| revision != joinee);
+        let moved = self.last.iter_mut().chain(&mut self.forker);
+        moved.filter(|revision| **revision == joinee).for_each(|place| *place = joiner);
+    }
+
+    /// What the answers told was of the day before.
+    fn renewed(&mut self) {
+        let fresh = Generator::new(self.profile, 0);
+        (self.out, self.given, self.forker) = (fresh.out, fresh.given, fresh.forker);
+        (self.open, self.last, self.updates) = (fresh.open, fresh.last, fresh.updates);
+    }
+
     fn pick(&mut self) -> Call {
         if let Some(call) = self.next.take() {
             return call;
+        }
+        if self.profile.renewed > 0 && self.rng.percent(self.profile.renewed) {
+            return Call::Fresh { single_main: self.rng.percent(50) };
         }
         let call = self.likely();
         if self.rng.percent(self.profile.strange) {
@@ -115,7 +133,7 @@ impl<'a> Generator<'a> {
     fn likely(&mut self) -> Call {
         let w = self.profile.weights;
         let steps = w.update + w.query + w.yields + w.fork + w.join;
-        let mut at = self.rng.below(steps + w.list + w.fill + w.bundle + w.preview);
+        let mut at = self.rng.below(steps + w.list + w.fill + w.bundle + w.preview + w.sync);
         let mut falls = |weight: usize| {
             let here = at < weight;
             at = at.saturating_sub(weight);
@@ -131,6 +149,8 @@ impl<'a> Generator<'a> {
             self.fork()
         } else if falls(w.join) {
             self.join()
+        } else if falls(w.sync) && self.may_start() {
+            self.sync()
         } else if falls(w.list) {
             self.list()
         } else if falls(w.bundle) {
@@ -143,7 +163,11 @@ impl<'a> Generator<'a> {
     }
 
     fn may_fork(&self) -> bool {
-        self.given < self.profile.revisions && self.out.len() < self.profile.out
+        self.may_start() && self.out.len() < self.profile.out
+    }
+
+    fn may_start(&self) -> bool {
+        self.given < self.profile.revisions
     }
 
     pub(crate) fn client(&mut self) -> u8 {
@@ -151,7 +175,7 @@ impl<'a> Generator<'a> {
     }
 
     /// Any revision, or one of the newest, so that others stay out for long.
-    fn any_out(&mut self) -> u8 {
+    pub(crate) fn any_out(&mut self) -> u8 {
         let near = self.profile.recent > 0 && self.rng.percent(self.profile.recent);
         let from = if near { self.out.len().saturating_sub(5) } else { 0 };
         self.rng.pick(&self.out[from..])
@@ -172,7 +196,7 @@ impl<'a> Generator<'a> {
         }
     }
 
-    fn bib(&mut self) -> u16 {
+    pub(crate) fn bib(&mut self) -> u16 {
         self.rng.below(usize::from(self.profile.bibs)) as u16
     }
 
@@ -210,53 +234,6 @@ impl<'a> Generator<'a> {
             Some(client) if self.rng.percent(self.profile.settle) => Call::Yield { client },
             _ => call,
         }
-    }
-
-    pub(crate) fn fork(&mut self) -> Call {
-        let newest = self.out[self.out.len() - 1];
-        let any = self.any_out();
-        let mut revision = if self.rng.percent(self.profile.newest) { newest } else { any };
-        if self.profile.main > 0 && self.rng.percent(self.profile.main) {
-            revision = 0;
-        }
-        self.settled(None, &[revision], Call::Fork { revision })
-    }
-
-    fn join(&mut self) -> Call {
-        let (joiner, joinee) = self.pair();
-        self.settled(None, &[joiner, joinee], Call::Join { joiner, joinee })
-    }
-
-    /// A joiner and a joinee: in most cases a revision with its forker, else any two.
-    fn pair(&mut self) -> (u8, u8) {
-        let joinee = self.any_out();
-        let any = self.any_out();
-        let likely = self.rng.percent(self.profile.back);
-        (if likely { self.forker[usize::from(joinee)] } else { any }, joinee)
-    }
-
-    /// A join of a revision with its forker, which is accepted where neither is in use.
-    pub(crate) fn back(&mut self) -> Call {
-        let joinee = self.rng.pick(&self.out[1..]);
-        Call::Join { joiner: self.forker[usize::from(joinee)], joinee }
-    }
-
-    /// In many cases of a revision that some client entered on last, with its forker; and the join
-    /// comes next.
-    fn preview(&mut self) -> Call {
-        let entered = self.last[usize::from(self.client())];
-        let (joiner, joinee) = match self.rng.percent(50) && self.out.contains(&entered) {
-            true => (self.forker[usize::from(entered)], entered),
-            false => self.pair(),
-        };
-        let strange = self.rng.pick(&[BIBS, u16::MAX]);
-        let bib = if self.rng.percent(5) { strange } else { self.bib() };
-        let call = Call::Preview { joiner, joinee, bib };
-        let call = self.settled(None, &[joiner, joinee], call);
-        if matches!(call, Call::Preview { .. }) && self.rng.percent(40) {
-            self.next = Some(Call::Join { joiner, joinee });
-        }
-        call
     }
 
     fn list(&mut self) -> Call {
@@ -309,6 +286,7 @@ impl<'a> Generator<'a> {
             },
             Call::List { room, .. } => Call::List { revision: number, room },
             Call::Fill { .. } => Call::Fill { revision: number },
+            Call::Sync { .. } => Call::Sync { revision: number },
             Call::Bundle { client, revision, records } => match which {
                 0 => Call::Bundle { client: strange_client, revision, records },
                 _ => Call::Bundle { client, revision: number, records },
@@ -318,6 +296,7 @@ impl<'a> Generator<'a> {
                 1 => Call::Preview { joiner, joinee: number, bib },
                 _ => Call::Preview { joiner, joinee, bib: strange_bib },
             },
+            Call::Fresh { .. } => call,
         }
     }
 }

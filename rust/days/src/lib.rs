@@ -1,21 +1,25 @@
 //! Random days, and the checkers that judge them.
 //!
 //! Days are made from a seed, but for the short ones of [`late_days`]. A failed check prints the
-//! seed, and the shortest day found that still fails. There are six checks:
+//! seed, and the shortest day found that still fails. There are eight checks:
 //!
 //! - the literal replay and the baseline agree on every answer;
 //! - an arbitration order (01: line-up) has what demand 3 says of it, by brute force;
 //! - the fills of all revisions come to the updates accepted;
 //! - numbers are given, and mean a revision that is out, by the order of the hand-ins;
 //! - a bundle is its updates and a yield;
-//! - a preview is the join on a copy, as a list and a query there have it.
+//! - a preview is the join on a copy, as a list and a query there have it;
+//! - a sync is the join into the main revision and the fork of it;
+//! - single-main days have what 02's U8 asks to show of them.
 
 #![forbid(unsafe_code)]
 
 mod arbitration;
 mod beginning;
+mod branching;
 mod bundles;
 mod chains;
+mod clubs;
 mod compare;
 mod copies;
 mod facts;
@@ -32,6 +36,8 @@ mod reads;
 mod records;
 mod rng;
 mod sample;
+mod single_main;
+mod syncs;
 
 pub use arbitration::arbitration_order;
 pub use bundles::{fault_of_bundles, updates_of};
@@ -52,3 +58,5 @@ pub use profile::{Profile, Weights};
 pub use reads::{every_fill, every_list, every_preview};
 pub use rng::Rng;
 pub use sample::{days_of, one_in, seeds, Sample};
+pub use single_main::{strange_code, unseen_by_a_start};
+pub use syncs::fault_of_syncs;

@@ -23,6 +23,8 @@ pub struct Weights {
     pub bundle: usize,
     /// Previews.
     pub preview: usize,
+    /// Syncs.
+    pub sync: usize,
 }
 
 /// A kind of day.
@@ -30,6 +32,8 @@ pub struct Weights {
 pub struct Profile {
     /// Printed with the seed.
     pub name: &'static str,
+    /// A single-main day: it begins with a fresh of that choice.
+    pub single_main: bool,
     /// A day begins with so many bundles of 64 good entries on the main revision.
     pub first: usize,
     /// If it is not 0, every number is given out next, and then one of these revisions is handed in, or
@@ -37,13 +41,15 @@ pub struct Profile {
     pub handed_in: usize,
     /// Then it has so many calls at most, and at least half of them.
     pub calls: usize,
+    /// In so many of a hundred calls, the table is made fresh, with either choice.
+    pub renewed: u32,
     /// Clients that take part.
     pub clients: u8,
     /// Bibs that are entered.
     pub bibs: u16,
     /// The kinds of update, each as often as it stands here.
     pub kinds: &'static [u8],
-    /// No fork is tried with so many numbers given out.
+    /// No fork or sync is tried with so many numbers given out.
     pub revisions: usize,
     /// No fork is tried with so many revisions out.
     pub out: usize,
@@ -72,9 +78,11 @@ impl Profile {
     /// A bit of everything. The other kinds tell in what they differ from it.
     pub const MIXED: Profile = Profile {
         name: "mixed",
+        single_main: false,
         first: 0,
         handed_in: 0,
         calls: 200,
+        renewed: 0,
         clients: CLIENTS,
         bibs: 5,
         kinds: ALIKE,
@@ -90,6 +98,7 @@ impl Profile {
             fill: 6,
             bundle: 5,
             preview: 6,
+            sync: 5,
         },
         newest: 20,
         main: 0,
@@ -117,6 +126,7 @@ impl Profile {
             fill: 6,
             bundle: 4,
             preview: 8,
+            sync: 6,
         },
         newest: 30,
         settle: 80,
@@ -139,6 +149,7 @@ impl Profile {
             fill: 4,
             bundle: 4,
             preview: 8,
+            sync: 6,
         },
         newest: 75,
         settle: 90,
@@ -161,6 +172,7 @@ impl Profile {
             fill: 4,
             bundle: 5,
             preview: 6,
+            sync: 5,
         },
         settle: 15,
         roam: 90,
@@ -184,6 +196,7 @@ impl Profile {
             fill: 4,
             bundle: 2,
             preview: 6,
+            sync: 5,
         },
         newest: 30,
         settle: 80,
@@ -210,6 +223,7 @@ impl Profile {
             fill: 1,
             bundle: 3,
             preview: 12,
+            sync: 5,
         },
         newest: 30,
         settle: 95,
@@ -234,6 +248,7 @@ impl Profile {
             fill: 4,
             bundle: 2,
             preview: 6,
+            sync: 4,
         },
         newest: 40,
         settle: 95,
@@ -257,6 +272,7 @@ impl Profile {
             fill: 12,
             bundle: 12,
             preview: 15,
+            sync: 14,
         },
         roam: 50,
         strange: 40,
@@ -280,6 +296,7 @@ impl Profile {
             fill: 10,
             bundle: 4,
             preview: 4,
+            sync: 4,
         },
         newest: 30,
         settle: 90,
@@ -305,6 +322,7 @@ impl Profile {
             fill: 1,
             bundle: 60,
             preview: 4,
+            sync: 3,
         },
         newest: 30,
         settle: 80,
@@ -334,6 +352,7 @@ impl Profile {
             fill: 3,
             bundle: 3,
             preview: 4,
+            sync: 4,
         },
         newest: 40,
         main: 25,
@@ -359,7 +378,7 @@ impl Profile {
     pub const CROWDED: Profile = Profile {
         name: "crowded",
         out: REVISIONS as usize + 1,
-        weights: Weights { fork: 55, ..Profile::REUSED.weights },
+        weights: Weights { fork: 55, sync: 8, ..Profile::REUSED.weights },
         strange: 2,
         ..Profile::REUSED
     };
@@ -371,7 +390,7 @@ impl Profile {
         calls: 80,
         clients: CLIENTS,
         revisions: REVISIONS as usize + 1,
-        weights: Weights { fork: 20, join: 20, ..Profile::SMALL.weights },
+        weights: Weights { fork: 20, join: 20, sync: 3, ..Profile::SMALL.weights },
         newest: 40,
         main: 25,
         back: 80,

@@ -46,7 +46,7 @@ impl Profile {
 
 /// How many days of each kind are a thorough replay. Small days come besides: they are short enough
 /// to be looked at after each step.
-const KINDS: [(Profile, u64); 13] = [
+const KINDS: [(Profile, u64); 16] = [
     (Profile::MIXED, 600),
     (Profile::NESTED, 600),
     (Profile::STALE, 400),
@@ -60,6 +60,9 @@ const KINDS: [(Profile, u64); 13] = [
     (Profile::REUSED, 40),
     (Profile::REUSED_NESTED, 40),
     (Profile::CROWDED, 40),
+    (Profile::SINGLE_MAIN, 400),
+    (Profile::CROWDED_SINGLE_MAIN, 60),
+    (Profile::RENEWED, 300),
 ];
 
 /// The random days of a thorough replay, or one in so many of each kind.

@@ -31,6 +31,15 @@ fn small_days_on_reused_numbers_agree_after_every_step() {
     must_pass(Profile::SMALL_REUSED.days(0..2), |calls| disagreement_with_previews(calls, &[0]));
 }
 
+/// 02, U8: where 15 hides what a join would give, previews do too.
+#[test]
+fn small_single_main_days_agree_after_every_step() {
+    must_pass(Profile::SMALL_SINGLE_MAIN.days(seeds(400)), disagreement_with_reads);
+    must_pass(Profile::SMALL_SINGLE_MAIN.days(seeds(60)), |calls| {
+        disagreement_with_previews(calls, &[0, 1, BIBS])
+    });
+}
+
 #[test]
 fn days_of_all_kinds_agree() {
     must_pass(one_in(1), disagreement);
@@ -57,16 +66,18 @@ fn every_call_meets_each_of_its_codes() {
             *met.entry((call.name(), day.call(&call).code.number())).or_default() += 1;
         }
     }
-    let codes: [(&str, &[u8]); 9] = [
+    let codes: [(&str, &[u8]); 11] = [
         ("update", &[0, 2, 3, 4, 5, 6, 7, 8, 9]),
         ("query", &[0, 2, 3, 4, 5, 6, 7, 8]),
         ("yield", &[0, 2]),
-        ("fork", &[0, 3, 4, 7, 10]),
-        ("join", &[0, 3, 4, 7, 11]),
+        ("fork", &[0, 3, 4, 7, 10, 15]),
+        ("join", &[0, 3, 4, 7, 11, 15]),
         ("list", &[0, 3, 4, 7, 12]),
         ("fill", &[0, 3, 4]),
         ("bundle", &[0, 2, 3, 4, 5, 6, 7, 8, 9, 14]),
-        ("preview", &[0, 3, 4, 5, 7, 11]),
+        ("preview", &[0, 3, 4, 5, 7, 11, 15]),
+        ("fresh", &[0]),
+        ("sync", &[0, 3, 4, 7, 11]),
     ];
     for (call, codes) in codes {
         let of_call = met.iter().filter(|((name, _), _)| *name == call);

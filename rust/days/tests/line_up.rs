@@ -36,6 +36,13 @@ fn days_on_reused_numbers_have_a_line_up() {
     must_pass(Profile::SMALL_REUSED.days(seeds(120)), line_up);
 }
 
+/// 02, U8: single-main days, and several days on one table, of which the last is judged.
+#[test]
+fn single_main_days_have_a_line_up() {
+    let short = Profile { calls: 90, ..Profile::RENEWED };
+    must_pass(days_of(&[(Profile::SMALL_SINGLE_MAIN, 600), (short, 100)]), line_up);
+}
+
 /// A small day on which every sentence has something to say.
 fn day() -> (Vec<usize>, Facts) {
     let update = |client, revision, v| Call::Update { client, revision, kind: 1, bib: 7, v };

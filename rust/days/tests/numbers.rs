@@ -71,7 +71,13 @@ impl Met {
             Call::Fill { revision } => self.on("fills", day, accepted, revision),
             Call::Bundle { revision, .. } => self.on("bundles", day, accepted, revision),
             Call::Preview { joinee, .. } => self.on("previews", day, accepted, joinee),
+            Call::Sync { revision } => match code {
+                Code::Accepted => self.synced(day, revision, value as u8),
+                Code::NotJoinable => self.refused(day, 0, revision),
+                _ => {}
+            },
             Call::Yield { .. } => {}
+            Call::Fresh { .. } => unreachable!("a day on reused numbers is one day"),
         }
     }
 }
@@ -122,6 +128,15 @@ impl Met {
         self.note("a revision that was out for 100 forks", before.revisions().len() - meant > 100);
     }
 
+    fn synced(&mut self, before: &Day, revision: u8, number: u8) {
+        self.joined(before, revision);
+        let mut joined = before.clone();
+        joined.call(&Call::Join { joiner: 0, joinee: revision });
+        self.forked(&joined, 0, number);
+        self.note("a sync that gives the number it was given", number == revision);
+        self.note("a sync that gives another number", number != revision);
+    }
+
     /// A stale mark of the joiner would have let it join.
     fn refused(&mut self, before: &Day, joiner: u8, joinee: u8) {
         let terminal = before.revisions()[before.meant(joiner).unwrap()].terminal;
@@ -167,15 +182,15 @@ fn tally(days: impl Iterator<Item = Sample>, forks: usize) -> BTreeMap<&'static 
 /// that an earlier bearer could spoil.
 #[test]
 fn days_on_reused_numbers_meet_what_they_are_for() {
-    let times = tally(REUSED.into_iter().flat_map(|kind| kind.days(0..8)), 500);
-    assert_eq!(times.len(), 18);
+    let times = tally(REUSED.into_iter().flat_map(|kind| kind.days(0..12)), 500);
+    assert_eq!(times.len(), 20);
     assert!(times.values().all(|&met| met >= 80), "{times:#?}");
 }
 
 /// The small ones begin with all numbers given out.
 #[test]
 fn small_days_on_reused_numbers_meet_what_they_are_for() {
-    let mut times = tally(Profile::SMALL_REUSED.days(0..120), 63);
+    let mut times = tally(Profile::SMALL_REUSED.days(0..200), 63);
     for long in
         ["a never-used number while others are free", "a revision that was out for 100 forks"]
     {

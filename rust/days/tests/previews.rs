@@ -9,7 +9,7 @@ use days::{
 use literal::Day;
 
 /// How many days of each kind are replayed.
-const KINDS: [(Profile, u64); 10] = [
+const KINDS: [(Profile, u64); 11] = [
     (Profile::SMALL, 500),
     (Profile::MIXED, 200),
     (Profile::NESTED, 200),
@@ -20,6 +20,7 @@ const KINDS: [(Profile, u64); 10] = [
     (Profile::BUNDLES, 100),
     (Profile::REUSED_NESTED, 6),
     (Profile::CROWDED, 6),
+    (Profile::SINGLE_MAIN, 100),
 ];
 
 fn by_baseline(calls: &[Call]) -> Option<String> {

@@ -184,6 +184,16 @@ fn after_join(
     answer
 }
 
+/// Makes the call, wrongly; a sync by the wrong join and the wrong fork.
+fn made(table: &mut Table, call: &Call, wrong: Wrong) -> Answer {
+    let Call::Sync { revision } = *call else { return wrong(table, call) };
+    let joined = wrong(table, &Call::Join { joiner: 0, joinee: revision });
+    match joined.code {
+        Code::Accepted => wrong(table, &Call::Fork { revision: 0 }),
+        _ => joined,
+    }
+}
+
 #[test]
 fn wrong_numberings_are_found() {
     let kinds = [Profile::REUSED, Profile::REUSED_NESTED, Profile::CROWDED];
@@ -191,7 +201,7 @@ fn wrong_numberings_are_found() {
         let by_wrong = |calls: &[Call]| {
             let bytes = baseline::Day::fresh().bytes().to_vec();
             let mut table = Table { bytes, first: Vec::new() };
-            disagreement_by(calls, |call| wrong(&mut table, call))
+            disagreement_by(calls, |call| made(&mut table, call, wrong))
         };
         must_find(name, kinds.into_iter().flat_map(|kind| kind.days(0..8)), by_wrong);
     }

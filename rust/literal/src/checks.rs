@@ -1,4 +1,5 @@
-//! The checks behind codes 2 to 12 and 14, each by itself: 01, "Codes of the desk", and 02, U4 and U7.
+//! The checks behind codes 2 to 12, 14 and 15, each by itself: 01, "Codes of the desk", and 02, U4, U7
+//! and U8.
 
 use calls::Code;
 
@@ -55,6 +56,11 @@ impl Day {
     /// 4: "box already a joinee".
     pub(crate) fn still_out(&self, revision: usize) -> Result<(), Code> {
         refuse_if(self.revisions[revision].joined, Code::Joined)
+    }
+
+    /// 15: "for a fork of another box than 0 or a join into one on such a day".
+    pub(crate) fn on_the_line(&self, revision: usize) -> Result<(), Code> {
+        refuse_if(self.single_main && revision != 0, Code::OffTheLine)
     }
 
     /// 6: "the tablet's open transaction is on another box".

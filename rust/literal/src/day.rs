@@ -56,10 +56,12 @@ pub struct Day {
     pub(crate) clients: [Client; CLIENTS],
     pub(crate) updates: Vec<Update>,
     pub(crate) transactions: Vec<Transaction>,
+    /// The choice given to fresh.
+    pub(crate) single_main: bool,
 }
 
 impl Day {
-    /// "It begins with box 0 out, at the root."
+    /// "It begins with box 0 out, at the root." An ordinary day; the call fresh has the choice.
     pub fn fresh() -> Self {
         let (diagram, root) = Diagram::root();
         Day {
@@ -69,6 +71,7 @@ impl Day {
             clients: [Client::default(); CLIENTS],
             updates: Vec::new(),
             transactions: Vec::new(),
+            single_main: false,
         }
     }
 
@@ -101,6 +104,11 @@ impl Day {
     /// All updates accepted, by number.
     pub fn updates(&self) -> &[Update] {
         &self.updates
+    }
+
+    /// Whether "boxes only ever come from the main box and go back to it".
+    pub fn is_single_main(&self) -> bool {
+        self.single_main
     }
 
     /// The visible updates of a revision, busy or not, in the listing's order.

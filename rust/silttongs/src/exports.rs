@@ -2,13 +2,14 @@
 
 #![allow(unsafe_code)]
 
+use crate::day::Day;
 use crate::fill::Fill;
 use crate::preview::Preview;
 use crate::refusal::{answer, Refusal};
 use crate::standing::Standing;
 
 extern "C" {
-    fn silttongs_fresh(table: *mut u8, length: usize) -> u64;
+    fn silttongs_fresh(table: *mut u8, length: usize, single_main: u8) -> u64;
     fn silttongs_update(
         table: *mut u8,
         length: usize,
@@ -22,6 +23,7 @@ extern "C" {
     fn silttongs_yield(table: *mut u8, length: usize, client: u8) -> u64;
     fn silttongs_fork(table: *mut u8, length: usize, revision: u8) -> u64;
     fn silttongs_join(table: *mut u8, length: usize, joiner: u8, joinee: u8) -> u64;
+    fn silttongs_sync(table: *mut u8, length: usize, revision: u8) -> u64;
     fn silttongs_list(
         table: *const u8,
         length: usize,
@@ -45,9 +47,10 @@ extern "C" {
 // its slices, and keeps nothing of them. A slice that it writes is lent to it alone for as long as
 // it runs.
 
-pub(crate) fn fresh(t: &mut [u8]) -> Result<u32, Refusal> {
+pub(crate) fn fresh(t: &mut [u8], day: Day) -> Result<u32, Refusal> {
+    let single_main = u8::from(day == Day::SingleMain);
     // SAFETY: as above.
-    answer(unsafe { silttongs_fresh(t.as_mut_ptr(), t.len()) })
+    answer(unsafe { silttongs_fresh(t.as_mut_ptr(), t.len(), single_main) })
 }
 
 pub(crate) fn update(
@@ -75,13 +78,22 @@ pub(crate) fn yield_(t: &mut [u8], client: u8) -> Result<u32, Refusal> {
 
 pub(crate) fn fork(t: &mut [u8], revision: u8) -> Result<u8, Refusal> {
     // SAFETY: as above.
-    let number = answer(unsafe { silttongs_fork(t.as_mut_ptr(), t.len(), revision) })?;
-    Ok(u8::try_from(number).expect("a box number is 63 at most"))
+    number(unsafe { silttongs_fork(t.as_mut_ptr(), t.len(), revision) })
 }
 
 pub(crate) fn join(t: &mut [u8], joiner: u8, joinee: u8) -> Result<u32, Refusal> {
     // SAFETY: as above.
     answer(unsafe { silttongs_join(t.as_mut_ptr(), t.len(), joiner, joinee) })
+}
+
+pub(crate) fn sync(t: &mut [u8], revision: u8) -> Result<u8, Refusal> {
+    // SAFETY: as above.
+    number(unsafe { silttongs_sync(t.as_mut_ptr(), t.len(), revision) })
+}
+
+/// The number of a new box.
+fn number(packed: u64) -> Result<u8, Refusal> {
+    answer(packed).map(|number| u8::try_from(number).expect("a box number is 63 at most"))
 }
 
 pub(crate) fn list(t: &[u8], revision: u8, sheet: &mut [u8]) -> Result<u32, Refusal> {

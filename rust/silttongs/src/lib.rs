@@ -9,9 +9,9 @@
 //! What box 1 has comes behind when it is handed in.
 //!
 //! ```
-//! use silttongs::{Kind, Refusal, Standing, Table, BYTES};
+//! use silttongs::{Day, Kind, Refusal, Standing, Table, BYTES};
 //!
-//! let mut table = Table::fresh(vec![0; BYTES])?;
+//! let mut table = Table::fresh(vec![0; BYTES], Day::Ordinary)?;
 //! table.update(0, 0, Kind::Time, 7, 61_000)?;
 //! table.yield_(0)?;
 //! let sent = table.fork(0)?;
@@ -28,6 +28,7 @@
 #![no_std]
 #![deny(unsafe_code)]
 
+mod day;
 mod entry;
 mod exports;
 mod fill;
@@ -37,6 +38,7 @@ mod refusal;
 mod standing;
 mod table;
 
+pub use day::Day;
 pub use entry::{Entry, BUNDLE};
 pub use fill::Fill;
 pub use line::{lines, Line, SHEET};

@@ -26,7 +26,7 @@ pub enum Refusal {
     BadEntry = 5,
     /// The tablet's open transaction is on another box.
     OpenElsewhere = 6,
-    /// Another tablet, or for fork, join and list any tablet, has an open transaction on the box.
+    /// Another tablet has an open transaction on the box; for fork, join, sync and list any tablet.
     InUse = 7,
     /// The box has not seen the tablet's last event.
     Stale = 8,
@@ -40,10 +40,12 @@ pub enum Refusal {
     SheetShort = 12,
     /// A bundle of no update or of more than 64, or bytes that are not a multiple of 12.
     WrongBundle = 14,
+    /// On a [single-main day](crate::Day::SingleMain): a fork of another box than 0, or a join into one.
+    OffTheLine = 15,
 }
 
 /// In the order of their numbers. 13 is given by the program `day` alone.
-const ALL: [Refusal; 13] = [
+const ALL: [Refusal; 14] = [
     Refusal::NoTable,
     Refusal::UnknownClient,
     Refusal::NeverGiven,
@@ -57,6 +59,7 @@ const ALL: [Refusal; 13] = [
     Refusal::NotJoinable,
     Refusal::SheetShort,
     Refusal::WrongBundle,
+    Refusal::OffTheLine,
 ];
 
 impl Refusal {
@@ -81,6 +84,7 @@ impl Refusal {
             Refusal::NotJoinable => "not joinable",
             Refusal::SheetShort => "sheet short",
             Refusal::WrongBundle => "wrong bundle",
+            Refusal::OffTheLine => "off the line",
         }
     }
 }
@@ -113,7 +117,7 @@ mod tests {
 
     #[test]
     fn each_number_has_its_refusal() {
-        assert!(ALL.map(Refusal::code).into_iter().eq((1..=12).chain([14])));
+        assert!(ALL.map(Refusal::code).into_iter().eq((1..=12).chain([14, 15])));
         for refusal in ALL {
             assert_eq!(answer(u64::from(refusal.code()) << 32), Err(refusal));
         }

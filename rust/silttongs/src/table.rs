@@ -1,5 +1,6 @@
 //! The calls as methods.
 
+use crate::day::Day;
 use crate::entry::{records, Entry, BUNDLE};
 use crate::exports;
 use crate::fill::Fill;
@@ -54,18 +55,30 @@ impl<B: AsMut<[u8]>> Table<B> {
     /// A new day, whatever the bytes were: box 0 alone, every bib 0 and not struck.
     ///
     /// ```
-    /// use silttongs::{Refusal, Table, BYTES};
+    /// use silttongs::{Day, Refusal, Table, BYTES};
     ///
     /// let mut lent = [0; BYTES];
-    /// assert!(Table::fresh(&mut lent).is_ok());
-    /// assert_eq!(Table::fresh(&mut lent[1..]).err(), Some(Refusal::NoTable));
+    /// assert!(Table::fresh(&mut lent, Day::Ordinary).is_ok());
+    /// assert_eq!(Table::fresh(&mut lent[1..], Day::Ordinary).err(), Some(Refusal::NoTable));
+    /// ```
+    ///
+    /// On a single-main day boxes come from box 0 and go back to it alone:
+    ///
+    /// ```
+    /// # use silttongs::{Day, Refusal, Table, BYTES};
+    /// let mut table = Table::fresh([0; BYTES], Day::SingleMain)?;
+    /// assert_eq!((table.fork(0), table.fork(0)), (Ok(1), Ok(2)));
+    /// assert_eq!(table.fork(1), Err(Refusal::OffTheLine));
+    /// assert_eq!(table.join(2, 1), Err(Refusal::OffTheLine));
+    /// assert_eq!(table.join(0, 1), Ok(0));
+    /// # Ok::<(), Refusal>(())
     /// ```
     ///
     /// # Errors
     ///
     /// [`Refusal::NoTable`] if there aren't [`BYTES`] bytes.
-    pub fn fresh(mut bytes: B) -> Result<Self, Refusal> {
-        exports::fresh(bytes.as_mut())?;
+    pub fn fresh(mut bytes: B, day: Day) -> Result<Self, Refusal> {
+        exports::fresh(bytes.as_mut(), day)?;
         Ok(Table(bytes))
     }
 
@@ -73,9 +86,9 @@ impl<B: AsMut<[u8]>> Table<B> {
     /// need be. Its number is the answer: the count of updates taken before it.
     ///
     /// ```
-    /// use silttongs::{Kind, Refusal, Table, BYTES};
+    /// use silttongs::{Day, Kind, Refusal, Table, BYTES};
     ///
-    /// let mut table = Table::fresh([0; BYTES])?;
+    /// let mut table = Table::fresh([0; BYTES], Day::Ordinary)?;
     /// assert_eq!(table.update(0, 0, Kind::Time, 7, 61_000), Ok(0));
     /// assert_eq!(table.update(0, 0, Kind::Penalty, 7, 5_000), Ok(1));
     /// assert_eq!(table.update(0, 0, Kind::Strike, 1_000, 0), Err(Refusal::BadEntry));
@@ -101,9 +114,9 @@ impl<B: AsMut<[u8]>> Table<B> {
     /// what it saw.
     ///
     /// ```
-    /// use silttongs::{Kind, Refusal, Standing, Table, BYTES};
+    /// use silttongs::{Day, Kind, Refusal, Standing, Table, BYTES};
     ///
-    /// let mut table = Table::fresh([0; BYTES])?;
+    /// let mut table = Table::fresh([0; BYTES], Day::Ordinary)?;
     /// assert_eq!(table.query(0, 0, 7), Ok(Standing::Neither));
     /// table.update(0, 0, Kind::Time, 7, 61_000)?;
     /// assert_eq!(table.query(0, 0, 7), Ok(Standing::Timed(61_000)));
@@ -115,8 +128,8 @@ impl<B: AsMut<[u8]>> Table<B> {
     /// A struck bib stays struck until a Time:
     ///
     /// ```
-    /// # use silttongs::{Kind, Refusal, Standing, Table, BYTES};
-    /// # let mut table = Table::fresh([0; BYTES])?;
+    /// # use silttongs::{Day, Kind, Refusal, Standing, Table, BYTES};
+    /// # let mut table = Table::fresh([0; BYTES], Day::Ordinary)?;
     /// table.update(0, 0, Kind::Strike, 7, 0)?;
     /// table.update(0, 0, Kind::Earliest, 7, 60_000)?;
     /// table.update(0, 0, Kind::Penalty, 7, 5_000)?;
@@ -137,9 +150,9 @@ impl<B: AsMut<[u8]>> Table<B> {
     /// has one.
     ///
     /// ```
-    /// use silttongs::{Refusal, Table, BYTES};
+    /// use silttongs::{Day, Refusal, Table, BYTES};
     ///
-    /// let mut table = Table::fresh([0; BYTES])?;
+    /// let mut table = Table::fresh([0; BYTES], Day::Ordinary)?;
     /// table.query(0, 0, 7)?;
     /// assert_eq!(table.fork(0), Err(Refusal::InUse));
     /// table.yield_(0)?;
@@ -158,9 +171,9 @@ impl<B: AsMut<[u8]>> Table<B> {
     /// all were, the number handed in longest ago. A number means the latest box that bore it.
     ///
     /// ```
-    /// use silttongs::{Refusal, Table, BYTES};
+    /// use silttongs::{Day, Refusal, Table, BYTES};
     ///
-    /// let mut table = Table::fresh([0; BYTES])?;
+    /// let mut table = Table::fresh([0; BYTES], Day::Ordinary)?;
     /// assert_eq!(table.fork(0), Ok(1));
     /// assert_eq!(table.fork(1), Ok(2));
     /// assert_eq!(table.fork(3), Err(Refusal::NeverGiven));
@@ -170,8 +183,8 @@ impl<B: AsMut<[u8]>> Table<B> {
     /// 64 boxes may be out at a time:
     ///
     /// ```
-    /// # use silttongs::{Refusal, Table, BYTES};
-    /// # let mut table = Table::fresh([0; BYTES])?;
+    /// # use silttongs::{Day, Refusal, Table, BYTES};
+    /// # let mut table = Table::fresh([0; BYTES], Day::Ordinary)?;
     /// for number in 1..64 {
     ///     assert_eq!(table.fork(0), Ok(number));
     /// }
@@ -186,7 +199,7 @@ impl<B: AsMut<[u8]>> Table<B> {
     ///
     /// # Errors
     ///
-    /// Codes 1, 3, 4, 7 and 10.
+    /// Codes 1, 3, 4, 15, 7 and 10, in this order.
     pub fn fork(&mut self, revision: u8) -> Result<u8, Refusal> {
         exports::fork(self.0.as_mut(), revision)
     }
@@ -195,9 +208,9 @@ impl<B: AsMut<[u8]>> Table<B> {
     /// gained is the answer.
     ///
     /// ```
-    /// use silttongs::{Kind, Refusal, Table, BYTES};
+    /// use silttongs::{Day, Kind, Refusal, Table, BYTES};
     ///
-    /// let mut table = Table::fresh([0; BYTES])?;
+    /// let mut table = Table::fresh([0; BYTES], Day::Ordinary)?;
     /// table.fork(0)?;
     /// table.update(3, 1, Kind::Time, 7, 61_000)?;
     /// table.yield_(3)?;
@@ -208,9 +221,37 @@ impl<B: AsMut<[u8]>> Table<B> {
     ///
     /// # Errors
     ///
-    /// Codes 1, 3, 4, 7 and 11.
+    /// Codes 1, 3, 4, 15, 7 and 11, in this order.
     pub fn join(&mut self, joiner: u8, joinee: u8) -> Result<u32, Refusal> {
         exports::join(self.0.as_mut(), joiner, joinee)
+    }
+
+    /// Hands a box in to box 0 and sends a new one off from there, in one call, on any day: as
+    /// [`join`](Table::join) and then [`fork`](Table::fork) of box 0, but both or neither. The new
+    /// box's number is the answer. The old number is handed in before a new one is taken; so with 64
+    /// boxes out it is the same again.
+    ///
+    /// ```
+    /// use silttongs::{Day, Kind, Refusal, Standing, Table, BYTES};
+    ///
+    /// let mut table = Table::fresh([0; BYTES], Day::SingleMain)?;
+    /// let mut sent = table.fork(0)?;
+    /// table.update(3, sent, Kind::Time, 7, 61_000)?;
+    /// assert_eq!(table.sync(sent), Err(Refusal::InUse));
+    /// table.yield_(3)?;
+    /// sent = table.sync(sent)?;
+    /// assert_eq!(sent, 2);
+    /// assert_eq!(table.query(3, sent, 7), Ok(Standing::Timed(61_000)));
+    /// assert_eq!(table.sync(1), Err(Refusal::Joined));
+    /// assert_eq!(table.sync(0), Err(Refusal::NotJoinable));
+    /// # Ok::<(), Refusal>(())
+    /// ```
+    ///
+    /// # Errors
+    ///
+    /// Codes 1, 3, 4, 7 and 11, as for a join into box 0.
+    pub fn sync(&mut self, revision: u8) -> Result<u8, Refusal> {
+        exports::sync(self.0.as_mut(), revision)
     }
 
     /// Enters 1 to 64 updates on a box, and closes the tablet's transaction there: as
@@ -221,9 +262,9 @@ impl<B: AsMut<[u8]>> Table<B> {
     /// aren't looked at.
     ///
     /// ```
-    /// use silttongs::{Entry, Kind, Refusal, Table, BYTES};
+    /// use silttongs::{Day, Entry, Kind, Refusal, Table, BYTES};
     ///
-    /// let mut table = Table::fresh([0; BYTES])?;
+    /// let mut table = Table::fresh([0; BYTES], Day::Ordinary)?;
     /// let time = Entry::new(Kind::Time, 7, 61_000).to_bytes();
     /// let strike = Entry::new(Kind::Strike, 8, 0).to_bytes();
     /// assert_eq!(table.bundle(0, 0, &[time, strike].concat()), Ok(0));
@@ -243,9 +284,9 @@ impl<B: AsMut<[u8]>> Table<B> {
     /// As [`bundle`](Table::bundle), of a list of entries.
     ///
     /// ```
-    /// use silttongs::{Entry, Fill, Kind, Refusal, Standing, Table, BYTES};
+    /// use silttongs::{Day, Entry, Fill, Kind, Refusal, Standing, Table, BYTES};
     ///
-    /// let mut table = Table::fresh([0; BYTES])?;
+    /// let mut table = Table::fresh([0; BYTES], Day::Ordinary)?;
     /// let entries = [Entry::new(Kind::Time, 7, 61_000), Entry::new(Kind::Penalty, 7, 5_000)];
     /// assert_eq!(table.bundle_entries(0, 0, &entries), Ok(0));
     /// assert_eq!(table.query(1, 0, 7), Ok(Standing::Timed(66_000)));
@@ -278,9 +319,9 @@ impl<B: AsRef<[u8]>> Table<B> {
     /// of the sheet behind them stay, and so does the table: a list is no event.
     ///
     /// ```
-    /// use silttongs::{lines, Kind, Line, Refusal, Table, BYTES, SHEET};
+    /// use silttongs::{lines, Day, Kind, Line, Refusal, Table, BYTES, SHEET};
     ///
-    /// let mut table = Table::fresh([0; BYTES])?;
+    /// let mut table = Table::fresh([0; BYTES], Day::Ordinary)?;
     /// table.fork(0)?;
     /// table.update(3, 1, Kind::Penalty, 7, 5_000)?;
     /// table.yield_(3)?;
@@ -311,9 +352,9 @@ impl<B: AsRef<[u8]>> Table<B> {
     /// table stays: a fill is no event.
     ///
     /// ```
-    /// use silttongs::{Fill, Kind, Refusal, Table, BYTES};
+    /// use silttongs::{Day, Fill, Kind, Refusal, Table, BYTES};
     ///
-    /// let mut table = Table::fresh([0; BYTES])?;
+    /// let mut table = Table::fresh([0; BYTES], Day::Ordinary)?;
     /// table.update(2, 0, Kind::Time, 7, 61_000)?;
     /// table.yield_(2)?;
     /// table.fork(0)?;
@@ -341,9 +382,9 @@ impl<B: AsRef<[u8]>> Table<B> {
     /// updates it will gain. The table stays: a preview is no event.
     ///
     /// ```
-    /// use silttongs::{Kind, Preview, Refusal, Standing, Table, BYTES};
+    /// use silttongs::{Day, Kind, Preview, Refusal, Standing, Table, BYTES};
     ///
-    /// let mut table = Table::fresh([0; BYTES])?;
+    /// let mut table = Table::fresh([0; BYTES], Day::Ordinary)?;
     /// table.fork(0)?;
     /// table.update(3, 1, Kind::Penalty, 7, 5_000)?;
     /// table.yield_(3)?;
@@ -362,7 +403,7 @@ impl<B: AsRef<[u8]>> Table<B> {
     ///
     /// # Errors
     ///
-    /// Codes 1, 3, 4, 7 and 11 as for the join, then 5 for the bib.
+    /// Codes 1, 3, 4, 15, 7 and 11 as for the join, then 5 for the bib.
     pub fn preview(&self, joiner: u8, joinee: u8, bib: u16) -> Result<Preview, Refusal> {
         exports::preview(self.0.as_ref(), joiner, joinee, bib)
     }

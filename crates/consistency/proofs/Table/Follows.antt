@@ -1,5 +1,6 @@
 -- The theorem: every call answers as on the plain day and leaves a table that stands for the day it leaves, and so does every list of calls.
 use Prim.Native.Nat.{ℕ, _+_}
+use mathlib.Core.Bool.{Bool}
 use mathlib.Core.Path.{_≡_, refl, _∙_}
 use mathlib.Core.List.{List, [], _∷_, _++_}
 use native.Mathlib.Omega.{arith}
@@ -9,7 +10,7 @@ use Rattle.diagram.specs.Steps.{run, runFrom}
 use Rattle.cells.specs.Sizes as Lower
 use Rattle.cells.specs.Steps.{freshBytes}
 use Rattle.entries.specs.Sizes as Upper
-use Rattle.desk.specs.Calls.{Call, Update, Query, Yield, Fork, Join, Bundle, Looks, Look, Show, Fill, Preview, Records, Entries, callOn, lookOn}
+use Rattle.desk.specs.Calls.{Call, Update, Query, Yield, Fork, Join, Sync, Bundle, Looks, Look, Show, Fill, Preview, Records, Entries, callOn, lookOn}
 use Rattle.plain.specs.Record.{PlainDay, freshDay}
 use Rattle.plain.specs.Answers.{called, answers, answersFrom, dayFrom}
 use Rattle.table.specs.Out.{tableBytes}
@@ -22,6 +23,7 @@ use Rattle.consistency.proofs.Table.Stands.{Stands}
 use Rattle.consistency.proofs.Table.Calls.{Same, update-same, query-same, yield-same, fork-same, join-same, list-same, fill-same}
 use Rattle.consistency.proofs.Table.Bundles.{bundle-same, entries-same}
 use Rattle.consistency.proofs.Table.Previews.{preview-same}
+use Rattle.consistency.proofs.Table.Syncs.{sync-same}
 
 module _ (p : PlainDay) (t : List ℕ) (S : Stands p t) where
   look-same : (l : Look (List ℕ)) → Same (sheetIn l) (served t (Looks l)) (called p (Looks (lookOn length l)))
@@ -35,6 +37,7 @@ module _ (p : PlainDay) (t : List ℕ) (S : Stands p t) where
   call-same (Yield c) = yield-same p t S c
   call-same (Fork n) = fork-same p t S n
   call-same (Join n m) = join-same p t S n m
+  call-same (Sync m) = sync-same p t S m
   call-same (Bundle c n (Records tableBytes)) = bundle-same p t S c n tableBytes
   call-same (Bundle c n (Entries es)) = entries-same p t S c n es
   call-same (Looks l) = look-same l
@@ -43,21 +46,21 @@ filled : (a : List ℕ) (n m k : ℕ) → length a ≡ n → n + m ≡ k → len
 filled a n m k e f = length-append a (replicate m 0) ∙ rw (e, length-replicate {A = ℕ} m 0) f
 
 -- a fresh table stands for the fresh day
-pub fresh-stands : (t : List ℕ) → length t ≡ tableBytes → Stands freshDay (freshOut t .lent)
+pub fresh-stands : (t : List ℕ) → length t ≡ tableBytes → (single : Bool) → Stands (freshDay single) (freshOut t single .lent)
 unfolding freshOut bytesAfter bytesFrom run runFrom
-fresh-stands t h =
+fresh-stands t h single =
     rw (eq-eqb (length t) tableBytes h)
     (record {
       steps = [];
       ok = tt;
       day-is = refl;
-      low-is = low-of freshBytes (replicate Upper.entryBytes 0) fresh-size;
-      size = filled freshBytes Lower.lowerBytes Upper.entryBytes tableBytes fresh-size refl;
+      low-is = low-of (freshBytes single) (replicate Upper.entryBytes 0) fresh-size;
+      size = filled (freshBytes single) Lower.lowerBytes Upper.entryBytes tableBytes fresh-size refl;
       entries-are = λ n k. absurd (omega arith);
     })
   where
-    fresh-size : length freshBytes ≡ Lower.lowerBytes
-    fresh-size = bytes-follow [] tt .size
+    fresh-size : length (freshBytes single) ≡ Lower.lowerBytes
+    fresh-size = bytes-follow single [] tt .size
 
 replies-from : (qs : List (Call (List ℕ))) (p : PlainDay) (t : List ℕ) → Stands p t → repliesOn t qs ≡ replies qs (answersFrom p (calls qs))
 unfolding repliesOn replies answersFrom
@@ -74,8 +77,8 @@ unfolding tableAfter dayFrom
 stands-after [] p t S = S
 stands-after (q ∷ qs) p t S = stands-after qs (called p (callOn length q) .next) (served t q .table) (call-same p t S q .stands)
 
-pub table-follows : (t : List ℕ) → length t ≡ tableBytes
-    → (freshOut t .code ≡ 0) × (freshOut t .value ≡ 0) × ((qs : List (Call (List ℕ))) → repliesOn (freshOut t .lent) qs ≡ replies qs (answers (calls qs)))
+pub table-follows : (t : List ℕ) → length t ≡ tableBytes → (single : Bool)
+    → (freshOut t single .code ≡ 0) × (freshOut t single .value ≡ 0) × ((qs : List (Call (List ℕ))) → repliesOn (freshOut t single .lent) qs ≡ replies qs (answers single (calls qs)))
 unfolding answers freshOut
-table-follows t h =
-    (rw (eq-eqb (length t) tableBytes h), rw (eq-eqb (length t) tableBytes h), λ qs. replies-from qs freshDay (freshOut t .lent) (fresh-stands t h))
+table-follows t h single =
+    (rw (eq-eqb (length t) tableBytes h), rw (eq-eqb (length t) tableBytes h), λ qs. replies-from qs (freshDay single) (freshOut t single .lent) (fresh-stands t h single))

@@ -1,12 +1,12 @@
 -- The rows of the table of codes find the same on a table and on the day that it stands for.
 use Prim.Native.Nat.{ℕ, _<_, _*_}
-use mathlib.Core.Bool.{Bool, false, not, _||_, Bool·not-not}
+use mathlib.Core.Bool.{Bool, false, not, _&&_, _||_, Bool·not-not}
 use mathlib.Core.Path.{_≡_, refl, _∙_, ap}
 use mathlib.Core.List.{List}
-use lib.Dec.{ltb}
+use lib.Dec.{eqb, ltb}
 use lib.ListN.{length}
 use Rattle.lists.proofs.Cases.{or-false}
-use Rattle.desk.specs.Calls.{Call, Update, Query, Yield, Fork, Join, Bundle, Looks, Show, Fill, Preview}
+use Rattle.desk.specs.Calls.{Call, Update, Query, Yield, Fork, Join, Sync, Bundle, Looks, Show, Fill, Preview}
 use Rattle.desk.specs.Checks.{checks, joinChecks}
 use Rattle.desk.proofs.Checks.{Agree, agree-more, end, row}
 use Rattle.cells.specs.Sizes.{clients}
@@ -20,7 +20,7 @@ use Rattle.table.specs.Halves.{cellsOf, isTable}
 use Rattle.table.specs.Calls as Table
 use Rattle.following.specs.Numbers.{Number}
 use Rattle.following.proofs.Cells.Passing as Clients
-use Rattle.consistency.proofs.Table.Stands.{Stands, bytes-are, is-table, numbers-are}
+use Rattle.consistency.proofs.Table.Stands.{Stands, bytes-are, choice-is, is-table, numbers-are}
 use Rattle.consistency.proofs.Table.Values.{same-order}
 
 module _ (p : PlainDay) (t : List ℕ) (S : Stands p t) where
@@ -47,7 +47,11 @@ module _ (p : PlainDay) (t : List ℕ) (S : Stands p t) where
   either : {a b c d : Bool} → a ≡ b → c ≡ d → (a || c) ≡ (b || d)
   either e f = rw (e, f)
 
-  join-row : (n m : ℕ) → Agree (joinChecks (Table.asked t) n m) (joinChecks (Plain.asked y) n m)
+  -- 15
+  line : (n : ℕ) → Asked.offLine (cellsOf t) n ≡ (p .single && not (eqb n 0))
+  line n = ap (λ b. b && not (eqb n 0)) (choice-is p t S)
+
+  join-row : (n m : ℕ) → Agree (joinChecks (Table.asked t) n m) (joinChecks (Plain.asked p) n m)
   join-row n m =
       row refl table λ e1.
       row refl (either (given n) (given m)) λ e3.
@@ -56,11 +60,12 @@ module _ (p : PlainDay) (t : List ℕ) (S : Stands p t) where
       let b = number m (g .1) in
       row refl (either (a .same-joined) (b .same-joined)) λ e4.
       let o = or-false (y .joined (meant y n)) (y .joined (meant y m)) e4 in
+      row refl (line n) λ e15.
       row refl (either (a .same-busy) (b .same-busy)) λ e7.
       row refl (ap not (numbers-are p t S .same-joinable n m _ _ (meaning p n (g .0)) (meaning p m (g .1)) (o .0) (o .1)) ∙ Bool·not-not (Day.notJoinable y (meant y n) (meant y m))) λ e11.
       end
 
-  pub agree : (c : Call ℕ) → Agree (checks (Table.asked t) c) (checks (Plain.asked y) c)
+  pub agree : (c : Call ℕ) → Agree (checks (Table.asked t) c) (checks (Plain.asked p) c)
   agree (Update c n k bib v) =
       row refl table λ e1.
       row refl (client c) λ e2.
@@ -83,8 +88,16 @@ module _ (p : PlainDay) (t : List ℕ) (S : Stands p t) where
       row refl (number n e3 .out e4 .same-stale c (known c e2)) λ e8.
       end
   agree (Yield c) = row refl table λ e1. row refl (client c) λ e2. end
-  agree (Fork n) = row refl table λ e1. row refl (given n) λ e3. row refl (number n e3 .same-joined) λ e4. row refl (number n e3 .same-busy) λ e7. row refl (bytes-are p t S .follow .same-left) λ e10. end
+  agree (Fork n) =
+      row refl table λ e1.
+      row refl (given n) λ e3.
+      row refl (number n e3 .same-joined) λ e4.
+      row refl (line n) λ e15.
+      row refl (number n e3 .same-busy) λ e7.
+      row refl (bytes-are p t S .follow .same-left) λ e10.
+      end
   agree (Join n m) = join-row n m
+  agree (Sync m) = join-row 0 m
   agree (Bundle c n batch) = row refl table λ e1. row refl refl λ e14. end
   agree (Looks (Show n room)) =
       row refl table λ e1.

@@ -1,6 +1,6 @@
 -- A table that stands for a plain day: its lower half by the steps taken, its upper half by the entries noted.
 use Prim.Native.Nat.{ℕ, _<_}
-use mathlib.Core.Bool.{true}
+use mathlib.Core.Bool.{Bool, true}
 use mathlib.Core.Path.{_≡_, refl, sym, _∙_, ap}
 use mathlib.Core.List.{List, [], _∷_, _++_}
 use native.Mathlib.Omega.{arith}
@@ -21,13 +21,13 @@ use Rattle.following.specs.Reached.{byNumber, bytesAfter, bytesFrom, stepBytes}
 use Rattle.following.specs.Follow.{BytesFollow}
 use Rattle.following.specs.Numbers.{NumbersFollow}
 use Rattle.following.proofs.Cells.Numbers.{numbers-follow}
-use Rattle.following.proofs.Follow.{bytes-follow}
+use Rattle.following.proofs.Follow.{bytes-follow, choice-is-kept}
 
 pub record Stands (p : PlainDay) (t : List ℕ) : Type 0 where
   pub steps : List Step
   pub ok : Accepted steps
   pub day-is : p .day ≡ run steps
-  pub low-is : low t ≡ bytesAfter steps
+  pub low-is : low t ≡ bytesAfter (p .single) steps
   pub size : length t ≡ tableBytes
   pub entries-are : (n : ℕ) → n < p .day .updates → entryAt (high t) n ≡ p .entries n
 
@@ -36,9 +36,9 @@ unfolding bytesFrom runFrom
 bytes-both [] s y d = refl
 bytes-both (a ∷ ss) s y d = bytes-both ss s (after y a) (stepBytes d (byNumber y a))
 
-bytes-step : (ss : List Step) (s : Step) → bytesAfter (ss ++ (s ∷ [])) ≡ stepBytes (bytesAfter ss) (byNumber (run ss) s)
+bytes-step : (single : Bool) (ss : List Step) (s : Step) → bytesAfter single (ss ++ (s ∷ [])) ≡ stepBytes (bytesAfter single ss) (byNumber (run ss) s)
 unfolding bytesAfter run
-bytes-step ss s = bytes-both ss s fresh _
+bytes-step single ss s = bytes-both ss s fresh _
 
 accepted-one : (ss : List Step) (s : Step) → Accepted ss → accepted (run ss) s ≡ true → Accepted (ss ++ (s ∷ []))
 unfolding run
@@ -46,10 +46,14 @@ accepted-one ss s A e = accepted-both ss (s ∷ []) fresh A (e, tt)
 
 module _ (p : PlainDay) (t : List ℕ) (S : Stands p t) where
   pub bytes-are : BytesFollow (p .day) (low t)
-  bytes-are = rw (S .day-is, S .low-is) (bytes-follow (S .steps) (S .ok))
+  bytes-are = rw (S .day-is, S .low-is) (bytes-follow (p .single) (S .steps) (S .ok))
 
   pub numbers-are : NumbersFollow (p .day) (cellsOf t)
   numbers-are = numbers-follow (p .day) (cellsOf t) (bytes-are .follow)
+
+  -- the choice given to fresh is in its cell
+  pub choice-is : cellsOf t .single ≡ p .single
+  choice-is = rw (S .low-is) (choice-is-kept (p .single) (S .steps) (S .ok))
 
   pub is-table : isTable t ≡ true
   unfolding isTable
@@ -60,13 +64,13 @@ module _ (p : PlainDay) (t : List ℕ) (S : Stands p t) where
   high-size = length-drop Lower.lowerBytes t ∙ omega (arith, S .size)
 
   -- a step taken, with any upper half that has the entries
-  pub stands-next : (s : Step) → accepted (p .day) s ≡ true → (q : PlainDay) → q .day ≡ after (p .day) s → (h : List ℕ) → length h ≡ Upper.entryBytes
+  pub stands-next : (s : Step) → accepted (p .day) s ≡ true → (q : PlainDay) → q .day ≡ after (p .day) s → q .single ≡ p .single → (h : List ℕ) → length h ≡ Upper.entryBytes
       → ((n : ℕ) → n < q .day .updates → entryAt h n ≡ q .entries n) → Stands q (stepBytes (low t) (byNumber (p .day) s) ++ h)
-  stands-next s e q d h l f = let w = byNumber (p .day) s in record {
+  stands-next s e q d c h l f = let w = byNumber (p .day) s in record {
     steps = S .steps ++ (s ∷ []);
     ok = ok′;
     day-is = d ∙ ap (λ z. after z s) (S .day-is) ∙ sym (run-step (S .steps) s);
-    low-is = low-of (stepBytes (low t) w) h size′ ∙ is;
+    low-is = low-of (stepBytes (low t) w) h size′ ∙ is ∙ ap (λ b. bytesAfter b (S .steps ++ (s ∷ []))) (sym c);
     size = length-append (stepBytes (low t) w) h ∙ omega (arith, size′, l);
     entries-are = λ n k. ap (λ z. entryAt z n) (high-of (stepBytes (low t) w) h size′) ∙ f n k;
   }
@@ -74,8 +78,8 @@ module _ (p : PlainDay) (t : List ℕ) (S : Stands p t) where
       ok′ : Accepted (S .steps ++ (s ∷ []))
       ok′ = accepted-one (S .steps) s (S .ok) (ap (λ z. accepted z s) (sym (S .day-is)) ∙ e)
 
-      is : stepBytes (low t) (byNumber (p .day) s) ≡ bytesAfter (S .steps ++ (s ∷ []))
-      is = ap (λ z. stepBytes z (byNumber (p .day) s)) (S .low-is) ∙ ap (λ z. stepBytes (bytesAfter (S .steps)) (byNumber z s)) (S .day-is) ∙ sym (bytes-step (S .steps) s)
+      is : stepBytes (low t) (byNumber (p .day) s) ≡ bytesAfter (p .single) (S .steps ++ (s ∷ []))
+      is = ap (λ z. stepBytes z (byNumber (p .day) s)) (S .low-is) ∙ ap (λ z. stepBytes (bytesAfter (p .single) (S .steps)) (byNumber z s)) (S .day-is) ∙ sym (bytes-step (p .single) (S .steps) s)
 
       size′ : length (stepBytes (low t) (byNumber (p .day) s)) ≡ Lower.lowerBytes
-      size′ = ap length is ∙ bytes-follow (S .steps ++ (s ∷ [])) ok′ .size
+      size′ = ap length is ∙ bytes-follow (p .single) (S .steps ++ (s ∷ [])) ok′ .size

@@ -82,7 +82,7 @@ unfolding run
 named-run ss A = along Named (λ y s e N. named-moves y N (after y s) (step-moves y s e)) ss fresh A named-fresh
 
 -- a revision is there for good, and one that is joined stays so
-stays-there : (y z : Day) → Moves y z → (r : ℕ) → r < y .revisions → r < z .revisions
+pub stays-there : (y z : Day) → Moves y z → (r : ℕ) → r < y .revisions → r < z .revisions
 stays-there y z (enters c s u E) r l = l
 stays-there y z (yields c h) r l = by (y .openBy c)
   where

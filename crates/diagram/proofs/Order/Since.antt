@@ -60,7 +60,7 @@ module _ (ss : List Step) (A : Accepted ss) (x : ℕ) (h : x < length (run ss .d
   L = fine-run ss A .sound .real .linked
 
   -- what a vertex shows are the updates that it sees, each once
-  seen : (k : ℕ) → (k ∈ view d x) ↔ ((e : ℕ) × (number d e ≡ some k) × HasPath d e x)
+  pub seen : (k : ℕ) → (k ∈ view d x) ↔ ((e : ℕ) × (number d e ≡ some k) × HasPath d e x)
   seen k = (there, back)
     where
       there : k ∈ view d x → (e : ℕ) × (number d e ≡ some k) × HasPath d e x

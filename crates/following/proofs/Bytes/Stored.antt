@@ -1,6 +1,6 @@
 -- The bytes: they stay in range, and their cells follow each accepted step.
 use Prim.Native.Nat.{_<_, ℕ}
-use mathlib.Core.Bool.{false, true}
+use mathlib.Core.Bool.{Bool, false, true}
 use mathlib.Core.Path.{_≡_}
 use mathlib.Core.List.{List}
 use native.Mathlib.Omega.{arith}
@@ -25,8 +25,8 @@ pub record Stored (d : List ℕ) (k : Cells) : Type 0 where
   pub lower : Lower d
   pub cells-are : cells d ≡ k
 
-pub fresh-stored : Stored freshBytes freshCells
-fresh-stored = record { lower = fresh-stays; cells-are = fresh-decoded }
+pub fresh-stored : (single : Bool) → Stored (freshBytes single) (freshCells single)
+fresh-stored single = record { lower = fresh-stays single; cells-are = fresh-decoded single }
 
 module _ (y : Day) (m : Machine) (d : List ℕ) (K : Kept y m (cells d)) (L : Lower d) where
   client : (c : ℕ) → c < clientLimit → c < clients

@@ -36,9 +36,9 @@ pub record Kept (y : Day) (m : Machine) (k : Cells) : Type 0 where
   pub named : Named y
   pub represents : Represents y m k
 
-fresh-represents : Represents fresh freshMachine freshCells
+fresh-represents : (single : Bool) → Represents fresh freshMachine (freshCells single)
 unfolding chain found
-fresh-represents = record {
+fresh-represents single = record {
   layout-is = refl;
   places = length-replicate {A = ℕ} revisions 0;
   out-is = refl;
@@ -60,8 +60,8 @@ fresh-represents = record {
   updates-few = omega arith;
 }
 
-pub fresh-kept : Kept fresh freshMachine freshCells
-fresh-kept = record { agree = agree-fresh; named = named-fresh; represents = fresh-represents }
+pub fresh-kept : (single : Bool) → Kept fresh freshMachine (freshCells single)
+fresh-kept single = record { agree = agree-fresh; named = named-fresh; represents = fresh-represents single }
 
 -- where no check has found anything, the last has not
 last-quiet : (bs : List Bool) (b : Bool) → noneOf (bs ++ (b ∷ [])) ≡ true → b ≡ false

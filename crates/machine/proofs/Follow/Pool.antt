@@ -15,7 +15,7 @@ use Rattle.diagram.specs.Accepted.{Accepted}
 use Rattle.machine.specs.Machine.{Machine, freshMachine, machineAfter, machineFrom}
 use Rattle.machine.proofs.Follow.Shown.{follows-run}
 
-yield-revisions : (y : Day) (c : ℕ) (o : Option ℕ) → y .revisions ≡ yield y c o .revisions
+pub yield-revisions : (y : Day) (c : ℕ) (o : Option ℕ) → y .revisions ≡ yield y c o .revisions
 yield-revisions y c none = refl
 yield-revisions y c (some t) = refl
 

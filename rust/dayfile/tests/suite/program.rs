@@ -49,7 +49,18 @@ fn record(call: &Call, rng: &mut Rng) -> Option<Record> {
         }
         Call::List { .. } | Call::Fill { .. } => return None,
         Call::Bundle { .. } | Call::Preview { .. } => return None,
+        Call::Fresh { .. } | Call::Sync { .. } => return None,
     })
+}
+
+/// A sync as a join and a fork, so that the calls after it find the box that it started.
+fn unfolded(call: &Call) -> Vec<Call> {
+    match *call {
+        Call::Sync { revision } => {
+            vec![Call::Join { joiner: 0, joinee: revision }, Call::Fork { revision: 0 }]
+        }
+        _ => vec![call.clone()],
+    }
 }
 
 /// The file of some records, with any bytes between header and records.
@@ -71,12 +82,12 @@ fn random_file(rng: &mut Rng, records: usize, gap: usize) -> Vec<u8> {
 fn day_file(day: &Sample) -> Vec<u8> {
     let mut rng = Rng::new(day.seed);
     let mut records = Vec::new();
-    for call in &day.calls {
+    for call in day.calls.iter().flat_map(unfolded) {
         if rng.percent(3) {
             let any = 6 + rng.below(250) as u8;
             records.push(Record { step: rng.pick(&[0, 6, 255, any]), ..random_record(&mut rng) });
         }
-        records.extend(record(call, &mut rng));
+        records.extend(record(&call, &mut rng));
     }
     records.truncate(LONGEST / Record::SIZE - 20);
     let gap = rng.pick(&[0, 0, 1, 11, 12, 200]);

@@ -7,6 +7,7 @@ mod numbers;
 mod previews;
 mod race_day;
 mod readings;
+mod single_main;
 mod struck;
 
 use calls::{Answer, Call};
@@ -46,6 +47,20 @@ fn fill(revision: u8) -> Call {
 
 fn preview(joiner: u8, joinee: u8, bib: u16) -> Call {
     Call::Preview { joiner, joinee, bib }
+}
+
+fn sync(revision: u8) -> Call {
+    Call::Sync { revision }
+}
+
+/// Makes the table fresh: an ordinary day.
+fn ordinary() -> Call {
+    Call::Fresh { single_main: false }
+}
+
+/// Makes the table fresh: a single-main day.
+fn single_main() -> Call {
+    Call::Fresh { single_main: true }
 }
 
 /// The answers of both implementations, which are the same.

@@ -57,6 +57,15 @@ pub(crate) fn handed_in(mut day: Vec<Call>, pairs: usize) -> Vec<Call> {
     day
 }
 
+/// A single-main day with so many revisions out, and so many updates on the first that was forked.
+pub(crate) fn single_main(updates: usize, revisions: usize) -> Vec<Call> {
+    let mut calls = vec![Call::Fresh { single_main: true }];
+    calls.extend((1..revisions).map(|_| Call::Fork { revision: 0 }));
+    calls.extend((0..updates).map(|n| update(0, 1, n)));
+    calls.push(Call::Yield { client: 0 });
+    calls
+}
+
 /// A whole day: 63 revisions are forked, each by one of the eight before it; 4,096 updates are
 /// entered on the first 16, by a client each, in transactions of four, every fourth with a query;
 /// all of them are joined.

@@ -12,8 +12,8 @@ use std::hint::black_box;
 use std::time::Instant;
 
 use calls::{Call, CLIENTS, UPDATES};
-use days::{bundle, chain, handed_in, update, whole};
-use sides::{made, Side, Work};
+use days::{bundle, chain, handed_in, single_main, update, whole};
+use sides::{made, Side};
 use silttongs::SHEET;
 
 /// Each case is timed in so many rounds, between which the others have their turn.
@@ -29,22 +29,18 @@ pub(crate) struct Times {
     pub(crate) library: u64,
 }
 
-/// Some work on a table.
+/// Some calls on a table.
 struct Case {
     name: String,
     table: Box<[u8]>,
-    work: Work,
+    calls: Vec<Call>,
     times: Times,
 }
 
 impl Case {
-    fn new(name: impl Into<String>, table: Box<[u8]>, work: Work) -> Self {
-        let times = Times { baseline: u64::MAX, library: u64::MAX };
-        Case { name: name.into(), table, work, times }
-    }
-
     fn of_calls(name: impl Into<String>, day: &[Call], calls: &[Call]) -> Self {
-        Case::new(name, made(day), Work::Calls(calls.to_vec()))
+        let times = Times { baseline: u64::MAX, library: u64::MAX };
+        Case { name: name.into(), table: made(day), calls: calls.to_vec(), times }
     }
 
     /// Both sides in turn, each sample on a copy of the table; they must leave the same bytes, of
@@ -55,8 +51,8 @@ impl Case {
         let mut spent = 0;
         let mut samples = 0;
         while spent < 2 * ROUND || samples < 2 {
-            let baseline = sample(&self.table, &mut a, Side::Baseline, &self.work);
-            let library = sample(&self.table, &mut b, Side::Library, &self.work);
+            let baseline = sample(&self.table, &mut a, Side::Baseline, &self.calls);
+            let library = sample(&self.table, &mut b, Side::Library, &self.calls);
             assert!(a == b, "{}: the bytes differ", self.name);
             self.times.baseline = self.times.baseline.min(baseline);
             self.times.library = self.times.library.min(library);
@@ -70,12 +66,12 @@ impl Case {
     }
 }
 
-/// One run of the work on a copy of the table, in nanoseconds.
-fn sample(from: &[u8], to: &mut (Box<[u8]>, Vec<u8>), side: Side, work: &Work) -> u64 {
+/// One run of the calls on a copy of the table, in nanoseconds.
+fn sample(from: &[u8], to: &mut (Box<[u8]>, Vec<u8>), side: Side, calls: &[Call]) -> u64 {
     let (t, sheet) = to;
     t.copy_from_slice(from);
     let start = Instant::now();
-    side.run(black_box(t), black_box(sheet), work);
+    side.run(black_box(t), black_box(sheet), calls);
     start.elapsed().as_nanos() as u64
 }
 
@@ -122,10 +118,26 @@ fn single_calls() -> Vec<Case> {
             &[Call::Join { joiner: 6, joinee: 7 }],
         ),
         Case::of_calls("preview of that join", &full, &preview(6, 7)),
-        Case::new("fresh", made(&middle), Work::Fresh),
+        Case::of_calls("fresh", &middle, &[Call::Fresh { single_main: false }]),
+        Case::of_calls("fresh, single-main", &middle, &[Call::Fresh { single_main: true }]),
         Case::of_calls("day of 4,096 updates, 63 forks and joins", &[], &whole(false)),
         Case::of_calls("the same with 256 queries", &[], &whole(true)),
     ]
+}
+
+/// 02, U8: a sync, beside the join and the fork that it comes to, with a few boxes out and with 64.
+fn synced() -> Vec<Case> {
+    let of = |boxes: usize| {
+        let calls = [
+            ("sync", vec![Call::Sync { revision: 1 }]),
+            ("join + fork", vec![Call::Join { joiner: 0, joinee: 1 }, Call::Fork { revision: 0 }]),
+        ];
+        let day = single_main(512, boxes);
+        calls.map(|(name, calls)| {
+            Case::of_calls(format!("{name} of 512 updates, {boxes} boxes out"), &day, &calls)
+        })
+    };
+    [8, 64].into_iter().flat_map(of).collect()
 }
 
 /// 02, U7: the same calls on a short day, and on one that has 20,000 forks and joins behind it.
@@ -188,6 +200,7 @@ fn main() {
 
     let clock = clock();
     let mut single = single_calls();
+    single.extend(synced());
     single.extend(reused());
     let mut by_updates = growth(&[64, 1_024, 2_048, 3_072, 4_080], |updates| (updates, 8));
     let mut by_revisions = growth(&[2, 8, 16, 32, 48, 63], |revisions| (2_048, revisions));

@@ -3,20 +3,11 @@
 use std::hint::black_box;
 
 use calls::{Call, Code};
-use silttongs::{Refusal, Standing, Table, BYTES};
+use silttongs::{Day, Refusal, Standing, Table, BYTES};
 
 /// Code and value; none for a struck bib. The two numbers of a fill, and value and gain of a preview,
 /// are one.
 type Given = (u8, Option<u64>);
-
-/// What is timed.
-#[derive(Clone, Debug)]
-pub(crate) enum Work {
-    /// A new day.
-    Fresh,
-    /// Some calls in a row.
-    Calls(Vec<Call>),
-}
 
 /// One of the sides.
 #[derive(Clone, Copy, Debug)]
@@ -26,24 +17,10 @@ pub(crate) enum Side {
 }
 
 impl Side {
-    /// Runs the work on a table and a sheet. Nothing is made of the answers, and none is left out.
-    pub(crate) fn run(self, t: &mut [u8], sheet: &mut [u8], work: &Work) {
-        match work {
-            Work::Fresh => {
-                black_box(self.fresh(t));
-            }
-            Work::Calls(calls) => {
-                for call in calls {
-                    black_box(self.call(t, sheet, black_box(call)));
-                }
-            }
-        }
-    }
-
-    fn fresh(self, t: &mut [u8]) -> Given {
-        match self {
-            Side::Baseline => by_baseline(baseline::fresh(t).map(one)),
-            Side::Library => by_library(Table::fresh(t).map(|_| one(0_u32))),
+    /// Makes the calls on a table and a sheet. Nothing is made of the answers, and none is left out.
+    pub(crate) fn run(self, t: &mut [u8], sheet: &mut [u8], calls: &[Call]) {
+        for call in calls {
+            black_box(self.call(t, sheet, black_box(call)));
         }
     }
 
@@ -76,28 +53,35 @@ fn call_baseline(t: &mut [u8], sheet: &mut [u8], call: &Call) -> Result<Option<u
         Call::Preview { joiner, joinee, bib } => {
             baseline::preview(t, joiner, joinee, bib).map(|p| both(stands(p.standing), p.gain))
         }
+        Call::Fresh { single_main } => baseline::fresh(t, single_main).map(one),
+        Call::Sync { revision } => baseline::sync(t, revision).map(one),
     }
 }
 
 fn call_library(t: &mut [u8], sheet: &mut [u8], call: &Call) -> Result<Option<u64>, Refusal> {
     let stands =
         |standing: Standing| (standing != Standing::Struck).then_some(standing.value().into());
-    let mut t = Table::from_bytes(t);
+    let mut table = Table::from_bytes(&mut *t);
     match *call {
         Call::Update { client, revision, kind, bib, v } => {
-            t.update(client, revision, kind, bib, v).map(one)
+            table.update(client, revision, kind, bib, v).map(one)
         }
-        Call::Query { client, revision, bib } => t.query(client, revision, bib).map(stands),
-        Call::Yield { client } => t.yield_(client).map(|()| one(0_u32)),
-        Call::Fork { revision } => t.fork(revision).map(one),
-        Call::Join { joiner, joinee } => t.join(joiner, joinee).map(one),
-        Call::List { revision, room } => t.list(revision, &mut sheet[..room]).map(one),
-        Call::Fill { revision } => t.fill(revision).map(|f| both(one(f.own), f.total)),
+        Call::Query { client, revision, bib } => table.query(client, revision, bib).map(stands),
+        Call::Yield { client } => table.yield_(client).map(|()| one(0_u32)),
+        Call::Fork { revision } => table.fork(revision).map(one),
+        Call::Join { joiner, joinee } => table.join(joiner, joinee).map(one),
+        Call::List { revision, room } => table.list(revision, &mut sheet[..room]).map(one),
+        Call::Fill { revision } => table.fill(revision).map(|f| both(one(f.own), f.total)),
         Call::Bundle { client, revision, ref records } => {
-            t.bundle(client, revision, records).map(one)
+            table.bundle(client, revision, records).map(one)
         }
         Call::Preview { joiner, joinee, bib } => {
-            t.preview(joiner, joinee, bib).map(|p| both(stands(p.standing), p.gain))
+            table.preview(joiner, joinee, bib).map(|p| both(stands(p.standing), p.gain))
+        }
+        Call::Sync { revision } => table.sync(revision).map(one),
+        Call::Fresh { single_main } => {
+            let day = if single_main { Day::SingleMain } else { Day::Ordinary };
+            Table::fresh(t, day).map(|_| one(0_u32))
         }
     }
 }
@@ -121,8 +105,8 @@ fn by_library(answer: Result<Option<u64>, Refusal>) -> Given {
 /// The table after these calls, all accepted and none a list.
 pub(crate) fn made(calls: &[Call]) -> Box<[u8]> {
     let mut t = vec![0; BYTES].into_boxed_slice();
-    Side::Library.fresh(&mut t);
-    for call in calls {
+    let fresh = Call::Fresh { single_main: false };
+    for call in std::iter::once(&fresh).chain(calls) {
         assert_eq!(Side::Library.call(&mut t, &mut [], call).0, 0, "`{call}`");
     }
     t

@@ -1,16 +1,26 @@
-//! The C example is compiled against include/silttongs.h and the static library, and run.
+//! The C examples are compiled against include/silttongs.h and the static library, and run.
 
 use std::path::Path;
 use std::process::Command;
 
 #[test]
-fn the_c_example_answers_as_written() {
+fn the_crossing_answers_as_written() {
+    assert_eq!(printed("crossing"), include_str!("../../../../examples/c/crossing.out"));
+}
+
+#[test]
+fn the_club_day_answers_as_written() {
+    assert_eq!(printed("club"), include_str!("../../../../examples/c/club.out"));
+}
+
+/// What the example of this name prints.
+fn printed(name: &str) -> String {
     let root = Path::new(env!("CARGO_MANIFEST_DIR")).join("../..");
-    let program = Path::new(env!("CARGO_TARGET_TMPDIR")).join("crossing");
+    let program = Path::new(env!("CARGO_TARGET_TMPDIR")).join(name);
     let built = Command::new("cc")
         .args(["-std=c11", "-pedantic", "-Wall", "-Wextra", "-Werror", "-O1", "-I"])
         .arg(root.join("include"))
-        .arg(root.join("examples/c/crossing.c"))
+        .arg(root.join(format!("examples/c/{name}.c")))
         .arg(env!("SILTTONGS_ARCHIVE"))
         .arg("-o")
         .arg(&program)
@@ -20,6 +30,5 @@ fn the_c_example_answers_as_written() {
 
     let run = Command::new(&program).output().unwrap();
     assert!(run.status.success());
-    let printed = String::from_utf8(run.stdout).unwrap();
-    assert_eq!(printed, include_str!("../../../../examples/c/crossing.out"));
+    String::from_utf8(run.stdout).unwrap()
 }

@@ -4,24 +4,25 @@
 use std::collections::BTreeMap;
 
 use calls::{Answer, Call, Code, Line, State, BIBS, CLIENTS, REVISIONS};
-use days::{fault_of_bundles, fault_of_previews, random_day, seeds, Profile, Rng};
+use days::{fault_of_bundles, fault_of_previews, fault_of_syncs, random_day, seeds, Profile, Rng};
 use silttongs::{Refusal, Table, BUNDLE, BYTES, SHEET};
 
 use super::cells::{cells, is_table, Cell};
+use super::fresh_for;
 use super::given::{
-    answered, by_baseline, difference, first_difference, fresh_bytes, library, only_reads, sheet,
-    Given,
+    answered, by_baseline, choice, difference, first_difference, fresh_bytes, library, only_reads,
+    sheet, Given,
 };
 
 /// How many damaged buffers are tried.
 const BUFFERS: u64 = 8_000;
 /// How many calls are made on each.
 const CALLS: usize = 16;
-/// The cells that say how many updates revision 0 has, how many revisions are out, and how many
-/// numbers were given out.
+/// Where some cells lie: docs/CELLS.md.
 const COUNT: usize = 39_424;
 const OUT: usize = 39_826;
 const GIVEN: usize = 39_827;
+const SINGLE: usize = 40_084;
 
 /// The 799 bytes that docs/CELLS.md names.
 #[test]
@@ -117,6 +118,7 @@ fn wrong_lengths() {
         // 1 comes before 14.
         Call::Bundle { client: 0, revision: 0, records: Vec::new() },
         Call::Preview { joiner: 0, joinee: 1, bib: 7 },
+        Call::Sync { revision: 1 },
     ];
     let cells = cells();
     for length in [0, 1, 12, 40_959, 40_960, BYTES - 1, BYTES + 1, 2 * BYTES] {
@@ -127,19 +129,46 @@ fn wrong_lengths() {
             let given = judged(&cells, &mut t, call);
             assert_eq!(given, Ok(refused(call, Code::NoTable)), "{length} bytes, `{call}`");
         }
-        assert_eq!(Table::fresh(&mut t[..]).err(), Some(Refusal::NoTable), "{length} bytes");
-        assert_eq!(baseline::fresh(&mut t), Err(Code::NoTable), "{length} bytes");
+        for single_main in [false, true] {
+            let made = Table::fresh(&mut t[..], choice(single_main));
+            assert_eq!(made.err(), Some(Refusal::NoTable), "{length} bytes");
+            assert_eq!(baseline::fresh(&mut t, single_main), Err(Code::NoTable), "{length} bytes");
+        }
         assert!(t == before, "{length} bytes: changed");
     }
 }
 
-/// Fresh looks at the length only, and leaves the same bytes whatever they were.
+/// Fresh looks at the length only, and leaves the same bytes whatever they were, but for the choice.
 #[test]
 fn fresh_on_any_content() {
-    for seed in seeds(100) {
-        let made = Table::fresh(random_bytes(&mut Rng::new(seed))).expect("the length is right");
-        assert!(made.bytes() == fresh_bytes(), "seed {seed}");
-        assert!(made.bytes() == baseline::Day::fresh().bytes(), "seed {seed}");
+    for single_main in [false, true] {
+        let mut right = baseline::Day::fresh().bytes().to_vec();
+        right[SINGLE] = u8::from(single_main);
+        assert!(fresh_for(choice(single_main)).bytes() == right);
+        for seed in seeds(100) {
+            let mut t = random_bytes(&mut Rng::new(seed));
+            let by_baseline = baseline::fresh(&mut t.clone(), single_main);
+            assert_eq!(by_baseline, Ok(0), "seed {seed}");
+            assert!(Table::fresh(&mut t[..], choice(single_main)).is_ok(), "seed {seed}");
+            assert!(t == right, "seed {seed}");
+        }
+    }
+}
+
+/// A sync whose counts stop at their range is taken: its join leaves a table to its fork.
+#[test]
+fn a_sync_whose_counts_stop() {
+    let (cells, sync) = (cells(), Call::Sync { revision: 1 });
+    for (main, joinee, out) in
+        [(4_096, 0, 2), (4_095, 1, 2), (4_096, 1, 2), (4_096, 4_096, 2), (0, 0, 1)]
+    {
+        let mut t = fresh_bytes();
+        library(&mut t, &Call::Fork { revision: 0 });
+        t[COUNT..COUNT + 2].copy_from_slice(&u16::to_le_bytes(main));
+        t[COUNT + 2..COUNT + 4].copy_from_slice(&u16::to_le_bytes(joinee));
+        t[OUT] = out;
+        let given = judged(&cells, &mut t, &sync).unwrap();
+        assert_eq!(given.answer.code, Code::Accepted, "{main} {joinee} {out}");
     }
 }
 
@@ -179,7 +208,7 @@ impl Met {
 fn random_calls_on_damaged_buffers() {
     let cells = cells();
     let mut met = Met::default();
-    let mut reused = 0;
+    let (mut reused, mut synced) = (0, 0);
     for seed in seeds(BUFFERS) {
         let mut rng = Rng::new(seed);
         let mut t = damaged(&cells, &mut rng);
@@ -189,17 +218,19 @@ fn random_calls_on_damaged_buffers() {
                 let all_given = t.get(GIVEN) == Some(&REVISIONS);
                 let given = judged(&cells, &mut t, call)
                     .unwrap_or_else(|fault| panic!("{at}, `{call}`: {fault}"));
-                let forked = call.name() == "fork" && given.answer.code == Code::Accepted;
-                reused += usize::from(all_given && forked);
+                let accepted = given.answer.code == Code::Accepted;
+                reused += usize::from(all_given && accepted && call.name() == "fork");
+                synced += usize::from(accepted && call.name() == "sync");
                 given
             });
         }
     }
     assert!(reused >= 50, "{reused} forks took a number from the queue");
+    assert!(synced >= 50, "{synced} syncs");
     let Met { codes, states } = met;
     // 13 is given by the program alone.
     let numbers: Vec<u8> = codes.keys().map(|code| code.number()).collect();
-    assert_eq!(numbers, [0, 1, 2, 3, 4, 5, 6, 7, 8, 9, 10, 11, 12, 14]);
+    assert_eq!(numbers, [0, 1, 2, 3, 4, 5, 6, 7, 8, 9, 10, 11, 12, 14, 15]);
     assert!(codes.values().all(|&times| times >= 10), "{codes:?}");
     assert_eq!(states.len(), 3, "{states:?}");
     assert!(states.values().all(|&times| times >= 30), "{states:?}");
@@ -224,6 +255,7 @@ fn judged(cells: &[Cell], t: &mut Vec<u8>, call: &Call) -> Result<Given, String>
     let fault = match call {
         Call::Bundle { .. } if table => fault_of_bundles(before.clone(), one, answered),
         Call::Preview { .. } if table => fault_of_previews(before.clone(), one, answered),
+        Call::Sync { .. } if table => fault_of_syncs(before.clone(), one, answered),
         _ => None,
     };
     if let Some(fault) = fault {
@@ -256,7 +288,8 @@ fn damaged(cells: &[Cell], rng: &mut Rng) -> Vec<u8> {
         1 => random_bytes(rng),
         _ => {
             let mut t = fresh_bytes();
-            let kind = if rng.percent(80) { Profile::MIXED } else { Profile::SMALL_REUSED };
+            let (many, few) = (Profile::MIXED, Profile::SMALL_REUSED);
+            let kind = rng.pick(&[many, many, many, Profile::SINGLE_MAIN, few]);
             for call in random_day(&kind, rng.bits()) {
                 library(&mut t, &call);
             }
@@ -278,6 +311,10 @@ fn damaged(cells: &[Cell], rng: &mut Rng) -> Vec<u8> {
             t[at] = rng.bits() as u8;
         }
     }
+    // The other choice than the day had.
+    if t[SINGLE] <= 1 && rng.percent(10) {
+        t[SINGLE] ^= 1;
+    }
     if rng.percent(15) {
         let cell = &cells[rng.below(cells.len())];
         cell.set(&mut t, rng.bits() as u16 & cell.most());
@@ -291,7 +328,7 @@ fn any_call(rng: &mut Rng) -> Call {
     let [client, revision, other] = [CLIENTS, REVISIONS, REVISIONS].map(|n| below(n.into()) as u8);
     let kind = (1 + below(4)) as u8;
     let bib = rng.below(usize::from(BIBS) + 10) as u16;
-    match rng.below(12) {
+    match rng.below(14) {
         0 => Call::Query { client, revision, bib },
         1 => Call::Yield { client },
         2 => Call::Fork { revision },
@@ -301,6 +338,7 @@ fn any_call(rng: &mut Rng) -> Call {
         6 => Call::Fill { revision },
         7 => Call::Preview { joiner: revision, joinee: other, bib },
         8 => Call::Bundle { client, revision, records: any_records(rng) },
+        9 | 10 => Call::Sync { revision },
         _ => Call::Update { client, revision, kind, bib, v: rng.bits() as u32 },
     }
 }

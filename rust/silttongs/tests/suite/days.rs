@@ -4,8 +4,8 @@
 use calls::{Answer, Call, Line, BIBS};
 use days::{
     chains_of_joins, days_of, every_fill, every_list, every_preview, fault_of_bundles,
-    fault_of_fills, fault_of_numbers, fault_of_previews, late_days, must_pass, one_in, seeds,
-    Profile,
+    fault_of_fills, fault_of_numbers, fault_of_previews, fault_of_syncs, late_days, must_pass,
+    one_in, seeds, Profile,
 };
 use silttongs::{lines, Entry, Table};
 
@@ -32,6 +32,7 @@ fn days_with_late_updates() {
 fn small_days_with_every_listing_and_fill_after_every_step() {
     must_pass(Profile::SMALL.days(seeds(800)), fault_with_reads);
     must_pass(Profile::SMALL_REUSED.days(seeds(20)), fault_with_reads);
+    must_pass(Profile::SMALL_SINGLE_MAIN.days(seeds(150)), fault_with_reads);
     must_pass(chains_of_joins(0..10), fault_with_reads);
 }
 
@@ -39,16 +40,19 @@ fn small_days_with_every_listing_and_fill_after_every_step() {
 #[test]
 fn small_days_with_every_preview_after_every_step() {
     must_pass(Profile::SMALL.days(seeds(100)), fault_with_previews);
+    must_pass(Profile::SMALL_SINGLE_MAIN.days(seeds(30)), fault_with_previews);
 }
 
-/// 02, U4 and U6, by the library alone: a bundle is its updates and a yield, or changes nothing; a
-/// preview is the join on a copy, as a list and a query there have it.
+/// 02, U4, U6 and U8, by the library alone: a bundle is its updates and a yield, or changes nothing; a
+/// preview is the join on a copy, as a list and a query there have it; a sync is the join and the fork.
 #[test]
-fn bundles_and_previews_are_what_other_calls_come_to() {
+fn bundles_previews_and_syncs_are_what_other_calls_come_to() {
     let bundles = |calls: &[Call]| fault_of_bundles(fresh_bytes(), calls, answered);
     let previews = |calls: &[Call]| fault_of_previews(fresh_bytes(), calls, answered);
+    let syncs = |calls: &[Call]| fault_of_syncs(fresh_bytes(), calls, answered);
     must_pass(one_in(8), bundles);
     must_pass(one_in(8), previews);
+    must_pass(one_in(8), syncs);
     must_pass(late_days(), previews);
     must_pass(chains_of_joins(seeds(10)), previews);
 }

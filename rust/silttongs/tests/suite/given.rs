@@ -1,7 +1,7 @@
 //! The library's calls as values, and what they are compared with.
 
 use calls::{Answer, Call, Code, Line, State};
-use silttongs::{Refusal, Standing, Table};
+use silttongs::{Day, Refusal, Standing, Table};
 
 use super::fresh;
 
@@ -32,16 +32,19 @@ pub(crate) fn sheet(call: &Call) -> Vec<u8> {
 
 /// What the library gives.
 pub(crate) fn library(bytes: &mut [u8], call: &Call) -> Given {
-    let mut table = Table::from_bytes(bytes);
+    let mut table = Table::from_bytes(&mut *bytes);
     let mut sheet = sheet(call);
+    let started = |number| Answer::accepted(u32::from(number));
     let answer = match *call {
         Call::Update { client, revision, kind, bib, v } => {
             table.update(client, revision, kind, bib, v).map(Answer::accepted)
         }
         Call::Query { client, revision, bib } => table.query(client, revision, bib).map(found),
         Call::Yield { client } => table.yield_(client).map(|()| Answer::accepted(0)),
-        Call::Fork { revision } => {
-            table.fork(revision).map(|number| Answer::accepted(u32::from(number)))
+        Call::Fork { revision } => table.fork(revision).map(started),
+        Call::Sync { revision } => table.sync(revision).map(started),
+        Call::Fresh { single_main } => {
+            Table::fresh(bytes, choice(single_main)).map(|_| Answer::accepted(0))
         }
         Call::Join { joiner, joinee } => table.join(joiner, joinee).map(Answer::accepted),
         Call::List { revision, .. } => table.list(revision, &mut sheet).map(Answer::accepted),
@@ -56,6 +59,15 @@ pub(crate) fn library(bytes: &mut [u8], call: &Call) -> Given {
             .map(|preview| Answer { gain: preview.gain, ..found(preview.standing) }),
     };
     Given { answer: answer.unwrap_or_else(refused), sheet }
+}
+
+/// The choice as the wrapper has it.
+pub(crate) fn choice(single_main: bool) -> Day {
+    if single_main {
+        Day::SingleMain
+    } else {
+        Day::Ordinary
+    }
 }
 
 /// What the library answers; of a list, with the lines on its sheet.

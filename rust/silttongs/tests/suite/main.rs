@@ -10,12 +10,18 @@ mod given;
 mod meeting;
 mod numbers;
 mod previews;
+mod single_main;
 mod stack;
 mod struck;
 
-use silttongs::{Table, BYTES};
+use silttongs::{Day, Table, BYTES};
 
 /// A fresh table, on bytes that were something else.
 fn fresh() -> Table<Vec<u8>> {
-    Table::fresh(vec![0xa5; BYTES]).expect("the length is right")
+    fresh_for(Day::Ordinary)
+}
+
+/// A fresh table for a day of this choice.
+fn fresh_for(day: Day) -> Table<Vec<u8>> {
+    Table::fresh(vec![0xa5; BYTES], day).expect("the length is right")
 }

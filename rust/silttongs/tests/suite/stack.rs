@@ -3,7 +3,7 @@
 use std::thread;
 
 use calls::UPDATES;
-use silttongs::{Entry, Kind, Refusal, Standing, Table, BUNDLE, BYTES, SHEET};
+use silttongs::{Day, Entry, Kind, Refusal, Standing, Table, BUNDLE, BYTES, SHEET};
 
 /// The longest own list, and so the deepest recursion, on box 1: a query walks it, and a fork, a list
 /// and a preview too.
@@ -11,7 +11,7 @@ use silttongs::{Entry, Kind, Refusal, Standing, Table, BUNDLE, BYTES, SHEET};
 fn the_deepest_calls_fit_in_96_kib() {
     let run = || {
         let single = (UPDATES - BUNDLE) as u32;
-        let mut table = Table::fresh(vec![0; BYTES])?;
+        let mut table = Table::fresh(vec![0; BYTES], Day::Ordinary)?;
         table.fork(0)?;
         table.update(0, 1, Kind::Time, 7, 1)?;
         for v in 2..=single {
@@ -26,7 +26,8 @@ fn the_deepest_calls_fit_in_96_kib() {
         table.fill(1)?;
         assert_eq!(table.preview(0, 1, 7)?.standing, standing);
         table.fork(1)?;
-        table.join(0, 1)?;
+        table.sync(1)?;
+        table.join(0, 2)?;
         Ok::<Standing, Refusal>(standing)
     };
     let thread = thread::Builder::new().stack_size(96 * 1024).spawn(run).unwrap();
