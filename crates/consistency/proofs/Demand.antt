@@ -4,7 +4,7 @@ use mathlib.Core.Bool.{Bool, true, false}
 use mathlib.Core.Path.{_≡_, refl, sym, _∙_, ap, subst}
 use mathlib.Core.List.{List, [], _∷_}
 use lib.ListN.{length, length-replicate, replicate}
-use Rattle.desk.specs.Calls.{Call, Update, Query, Yield, Fork, Join, Sync, Bundle, Looks, Look, Show, Fill, Preview, answerOn, callOn, callsOn, lookOn}
+use Rattle.desk.specs.Calls.{Call, Update, Query, Yield, Fork, Join, Sync, Bundle, Looks, Show, Fill, Preview, answerOn, callOn, callsOn}
 use Rattle.plain.specs.Record.{PlainDay, freshDay}
 use Rattle.plain.specs.Answers.{called, answers, answersFrom}
 use Rattle.plain.specs.Edges as Edges
@@ -39,11 +39,6 @@ demand-three t h single qs =
 abbrev zeros : ℕ → List ℕ
 zeros room = replicate room 0
 
-same-look : (l : Look ℕ) → lookOn length (lookOn zeros l) ≡ l
-same-look (Show n room) = ap (Show n) (length-replicate {A = ℕ} room 0)
-same-look (Fill n) = refl
-same-look (Preview n m bib) = refl
-
 same-call : (c : Call ℕ) → callOn length (callOn zeros c) ≡ c
 same-call (Update c n k bib v) = refl
 same-call (Query c n bib) = refl
@@ -52,7 +47,9 @@ same-call (Fork n) = refl
 same-call (Join n m) = refl
 same-call (Sync m) = refl
 same-call (Bundle c n batch) = refl
-same-call (Looks l) = ap Looks (same-look l)
+same-call (Looks (Show n room)) = ap (λ l. Looks (Show n l)) (length-replicate {A = ℕ} room 0)
+same-call (Looks (Fill n)) = refl
+same-call (Looks (Preview n m bib)) = refl
 
 same-calls : (cs : List (Call ℕ)) → calls (callsOn zeros cs) ≡ cs
 same-calls [] = refl

@@ -18,7 +18,8 @@ use Rattle.table.specs.Calls.{asked, batchOut, bundleOut, entriesOut, fillOut, 
 use Rattle.table.proofs.Syncs.{sync-ends}
 use Rattle.table.specs.declared.answer.Level.{Level}
 use Rattle.table.specs.declared.answer.Prospect.{Prospect}
-use Rattle.consistency.specs.Table.{levelReply, onTable, outReply, prospectReply}
+use Rattle.consistency.specs.Table.{onTable, outReply}
+use Rattle.consistency.proofs.Table.Calls.{levelReply, prospectReply}
 use Rattle.consistency.specs.Refusals.{FreshRefused, RefusalsChangeNothing}
 
 abbrev listed : Call ℕ → List ℕ

@@ -8,8 +8,6 @@ use Rattle.sheets.specs.Lines.{line}
 use Rattle.plain.specs.Record.{Line}
 use Rattle.table.specs.Out.{Out}
 use Rattle.table.specs.Calls.{updateOut, queryOut, yieldOut, forkOut, joinOut, syncOut, listOut, fillOut, bundleOut, entriesOut, previewOut}
-use Rattle.table.specs.declared.answer.Level.{Level}
-use Rattle.table.specs.declared.answer.Prospect.{Prospect}
 
 -- at a table a sheet is bytes; on paper "only the length" is told
 abbrev pub calls : List (Call (List ℕ)) → List (Call ℕ)
@@ -20,21 +18,15 @@ pub record Served : Type 0 where
   pub reply : Answer (List ℕ)
   pub table : List ℕ
 
--- of a call that has bytes lent to be written, of a fill and of a preview
+-- of a call that has bytes lent to be written
 abbrev pub outReply : Out → List ℕ → Answer (List ℕ)
 outReply u sheet = record { code = u .code; state = u .state; value = u .value; total = 0; gain = 0; sheet = sheet }
-
-abbrev pub levelReply : Level → Answer (List ℕ)
-levelReply f = record { code = f .code; state = Neither; value = f .own; total = f .total; gain = 0; sheet = [] }
-
-abbrev pub prospectReply : Prospect → Answer (List ℕ)
-prospectReply f = record { code = f .code; state = f .state; value = f .value; total = 0; gain = f .gain; sheet = [] }
 
 -- calls that only look leave the table
 abbrev pub looked : List ℕ → Look (List ℕ) → Answer (List ℕ)
 looked t (Show n sheet) = let u = listOut t n sheet in outReply u (u .lent)
-looked t (Fill n) = levelReply (fillOut t n)
-looked t (Preview n m bib) = prospectReply (previewOut t n m bib)
+looked t (Fill n) = let f = fillOut t n in record { code = f .code; state = Neither; value = f .own; total = f .total; gain = 0; sheet = [] }
+looked t (Preview n m bib) = let f = previewOut t n m bib in record { code = f .code; state = f .state; value = f .value; total = 0; gain = f .gain; sheet = [] }
 
 abbrev pub onTable : Out → Served
 onTable u = record { reply = outReply u []; table = u .lent }
@@ -66,11 +58,6 @@ inBytes [] = []
 inBytes (l ∷ ls) = line (l .entry) (l .number) ++ inBytes ls
 
 -- the sheet that a call is lent, if any
-abbrev pub sheetIn : Look (List ℕ) → List ℕ
-sheetIn (Show n sheet) = sheet
-sheetIn (Fill n) = []
-sheetIn (Preview n m bib) = []
-
 abbrev pub sheetOf : Call (List ℕ) → List ℕ
 sheetOf (Update c n k bib v) = []
 sheetOf (Query c n bib) = []
@@ -79,7 +66,9 @@ sheetOf (Fork n) = []
 sheetOf (Join n m) = []
 sheetOf (Sync m) = []
 sheetOf (Bundle c n batch) = []
-sheetOf (Looks l) = sheetIn l
+sheetOf (Looks (Show n sheet)) = sheet
+sheetOf (Looks (Fill n)) = []
+sheetOf (Looks (Preview n m bib)) = []
 
 -- an answer on paper as a caller gets it: the lines come first, and "Bytes from 12 n on stay."
 abbrev pub sheetWith : List Line → List ℕ → List ℕ

@@ -45,11 +45,6 @@ pub data Call (Sheet : Type 0) : Type 0 where
   Looks : Look Sheet → Call Sheet
 
 -- the same call with another sheet: "(of a sheet only the length)"
-abbrev pub lookOn : {S R : Type 0} → (S → R) → Look S → Look R
-lookOn f (Show n sheet) = Show n (f sheet)
-lookOn f (Fill n) = Fill n
-lookOn f (Preview n m bib) = Preview n m bib
-
 abbrev pub callOn : {S R : Type 0} → (S → R) → Call S → Call R
 callOn f (Update c n k bib v) = Update c n k bib v
 callOn f (Query c n bib) = Query c n bib
@@ -58,7 +53,9 @@ callOn f (Fork n) = Fork n
 callOn f (Join n m) = Join n m
 callOn f (Sync m) = Sync m
 callOn f (Bundle c n batch) = Bundle c n batch
-callOn f (Looks l) = Looks (lookOn f l)
+callOn f (Looks (Show n sheet)) = Looks (Show n (f sheet))
+callOn f (Looks (Fill n)) = Looks (Fill n)
+callOn f (Looks (Preview n m bib)) = Looks (Preview n m bib)
 
 abbrev pub callsOn : {S R : Type 0} → (S → R) → List (Call S) → List (Call R)
 callsOn f [] = []

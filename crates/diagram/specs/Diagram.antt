@@ -20,28 +20,32 @@ pub data Vertex : Type 0 where
 abbrev pub Diagram : Type 0
 Diagram = List Vertex
 
+-- what is said of a vertex by what it comes after: the root nothing, a start its fork vertex, any other the vertex before it
+abbrev pub byOrigin : {A : Type 0} → A → (ℕ → A) → (ℕ → A) → Vertex → A
+byOrigin atRoot atStart further root = atRoot
+byOrigin atRoot atStart further (start f) = atStart f
+byOrigin atRoot atStart further (event p c u) = further p
+byOrigin atRoot atStart further (fork p) = further p
+byOrigin atRoot atStart further (join p q) = further p
+
+-- and by what it brings: an event its update, a join the joinee's vertex, any other nothing
+abbrev pub byGain : {A : Type 0} → A → (Option ℕ → A) → (ℕ → A) → Vertex → A
+byGain nothing atEvent atJoin root = nothing
+byGain nothing atEvent atJoin (start f) = nothing
+byGain nothing atEvent atJoin (event p c u) = atEvent u
+byGain nothing atEvent atJoin (fork p) = nothing
+byGain nothing atEvent atJoin (join p q) = atJoin q
+
 -- "three types of edges (successor, fork, and join edges, or s-, f- and j-edges for short)": where a vertex's edges of
 -- each type come from
 abbrev pub s-sources : Vertex → List ℕ
-s-sources root = []
-s-sources (start f) = []
-s-sources (event p c u) = p ∷ []
-s-sources (fork p) = p ∷ []
-s-sources (join p q) = p ∷ []
+s-sources = byOrigin [] (λ f. []) (λ p. p ∷ [])
 
 abbrev pub f-sources : Vertex → List ℕ
-f-sources root = []
-f-sources (start f) = f ∷ []
-f-sources (event p c u) = []
-f-sources (fork p) = []
-f-sources (join p q) = []
+f-sources = byOrigin [] (λ f. f ∷ []) (λ p. [])
 
 abbrev pub j-sources : Vertex → List ℕ
-j-sources root = []
-j-sources (start f) = []
-j-sources (event p c u) = []
-j-sources (fork p) = []
-j-sources (join p q) = q ∷ []
+j-sources = byGain [] (λ u. []) (λ q. q ∷ [])
 
 abbrev pub sources : Vertex → List ℕ
 sources v = s-sources v ++ f-sources v ++ j-sources v

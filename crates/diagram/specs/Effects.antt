@@ -6,7 +6,7 @@ use mathlib.Core.List.{List, [], _∷_, _++_}
 use lib.ListN.{length}
 use lib.Dec.{eqb}
 use Rattle.lists.specs.Lists.{flat}
-use Rattle.diagram.specs.Diagram.{Vertex, root, start, event, fork, join, Diagram}
+use Rattle.diagram.specs.Diagram.{Vertex, root, start, event, fork, join, Diagram, byOrigin, byGain}
 
 -- a value for each vertex, from its own form, the older diagram and the values there
 module _ {A : Type 0} (step : Diagram → (ℕ → A) → Vertex → A) (outside : A) where
@@ -45,38 +45,17 @@ abbrev pub view : Diagram → ℕ → List ℕ
 view = tabulate viewStep []
 
 -- "For any vertex x we let S(x) be the start vertex of the revision that x belongs to"
-abbrev pub startStep : Diagram → (ℕ → ℕ) → Vertex → ℕ
-startStep d s root = length d
-startStep d s (start f) = length d
-startStep d s (event p c u) = s p
-startStep d s (fork p) = s p
-startStep d s (join p q) = s p
-
 abbrev pub startVertex : Diagram → ℕ → ℕ
-startVertex = tabulate startStep 0
+startVertex = tabulate (λ d S. byOrigin (length d) (λ f. length d) S) 0
 
 -- "For any vertex x whose start vertex S(x) is not the root, we define F(x) to be the fork vertex .. that started the
 -- revision x belongs to"
-abbrev pub forkStep : Diagram → (ℕ → Option ℕ) → Vertex → Option ℕ
-forkStep d f root = none
-forkStep d f (start p) = some p
-forkStep d f (event p c u) = f p
-forkStep d f (fork p) = f p
-forkStep d f (join p q) = f p
-
 abbrev pub forkVertex : Diagram → ℕ → Option ℕ
-forkVertex = tabulate forkStep none
+forkVertex = tabulate (λ d F. byOrigin none some F) none
 
 -- the number of an update vertex; the updates among some events, by their numbers
-abbrev pub numberStep : Diagram → (ℕ → Option ℕ) → Vertex → Option ℕ
-numberStep d f root = none
-numberStep d f (start p) = none
-numberStep d f (event p c u) = u
-numberStep d f (fork p) = none
-numberStep d f (join p q) = none
-
 abbrev pub number : Diagram → ℕ → Option ℕ
-number = tabulate numberStep none
+number = tabulate (λ d f. byGain none (λ u. u) (λ q. none)) none
 
 abbrev pub numbers : Diagram → List ℕ → List ℕ
 numbers d events = flat (λ e. entry (number d e)) events

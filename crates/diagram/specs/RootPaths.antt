@@ -5,17 +5,13 @@ use mathlib.Core.Path.{_≡_}
 use mathlib.Core.List.{List, [], _∷_, _++_}
 use lib.ListN.{length}
 use Rattle.lists.specs.Lists.{flat}
-use Rattle.diagram.specs.Diagram.{Vertex, root, start, event, fork, join, Diagram, s-sources, f-sources, Edge}
+use Rattle.diagram.specs.Diagram.{Vertex, Diagram, byGain, s-sources, f-sources, Edge}
 use Rattle.diagram.specs.Effects.{tabulate, entry, own, view, startVertex}
 
 -- Definition 8, of one vertex: "If x is a start, fork, or query vertex, the effect is a no-op"; an update vertex has its update; "If x
 -- is a join vertex, then the effect is the composition of all effects in the joined revision"
 abbrev pub effectStep : Diagram → (ℕ → List ℕ) → Vertex → List ℕ
-effectStep d effect root = []
-effectStep d effect (start f) = []
-effectStep d effect (event p c u) = entry u
-effectStep d effect (fork p) = []
-effectStep d effect (join p q) = own d q
+effectStep d effect = byGain [] entry (own d)
 
 abbrev pub effect : Diagram → ℕ → List ℕ
 effect = tabulate effectStep []

@@ -53,8 +53,9 @@ enter y c r u = record {
 abbrev pub closedNow : Day → Transaction → Transaction
 closedNow y t = record { client = t .client; revision = t .revision; events = t .events; closed = some (length (y .diagram)) }
 
-abbrev pub close : Day → ℕ → ℕ → Day
-close y c t = record {
+abbrev pub yield : Day → ℕ → Option ℕ → Day
+yield y c none = y
+yield y c (some t) = record {
   diagram = y .diagram;
   revisions = y .revisions;
   startOf = y .startOf;
@@ -68,10 +69,6 @@ close y c t = record {
   transactions = y .transactions;
   transaction = changed (y .transaction) t (closedNow y (y .transaction t));
 }
-
-abbrev pub yield : Day → ℕ → Option ℕ → Day
-yield y c none = y
-yield y c (some t) = close y c t
 
 -- "Fork: the fork vertex and a new box."
 abbrev pub forkAt : Day → ℕ → Day

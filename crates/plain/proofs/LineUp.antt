@@ -9,7 +9,8 @@ use lib.ListN.{length}
 use Rattle.desk.specs.Calls.{Bundle, Call, Fork, Join, Looks, Query, Show, Sync, Update, Batch, entriesOf, isWrongBatch}
 use Rattle.desk.proofs.Checks.{_also_}
 use Rattle.diagram.proofs.Days.Naming.{meant-low}
-use Rattle.diagram.proofs.Graph.Tables.{tabulate-newest}
+use Rattle.entries.specs.Folded.{ofBib}
+use Rattle.diagram.proofs.Graph.Tables.{numberStep, tabulate-newest}
 use Rattle.diagram.proofs.Order.Growth.{Fine, busy-idle, fine-fresh, tabulate-stays}
 use Rattle.diagram.proofs.Order.Inherited.{entry-is}
 use Rattle.diagram.proofs.Order.Rules.{by-rules}
@@ -22,7 +23,7 @@ use Rattle.diagram.proofs.Order.Witness.{witness}
 use Rattle.diagram.specs.Arbitration.{Explains, Extends, Shows, WholeAt}
 use Rattle.diagram.specs.Checks.{busy}
 use Rattle.diagram.specs.Day.{Day, IsOut, meant}
-use Rattle.diagram.specs.Effects.{entry, number, numberStep, view}
+use Rattle.diagram.specs.Effects.{entry, number, view}
 use Rattle.diagram.specs.Steps as Steps
 use Rattle.diagram.specs.Steps.{Event, Step, after, run}
 use Rattle.diagram.specs.Accepted.{Accepted}
@@ -41,7 +42,7 @@ use Rattle.plain.specs.Answers.{called, dayAfter, dayFrom, ending, sent,
 use Rattle.plain.specs.Bundles.{AllTaken, Bundled, parts}
 use Rattle.plain.specs.LineUp.{AnsweredBy, GrowsEach, LineUp, ListedBy}
 use Rattle.entries.specs.declared.entry.Entry.{Entry}
-use Rattle.plain.specs.Record.{PlainDay, freshDay, linesOf, noted, ofBib, pathResult, standingOf}
+use Rattle.plain.specs.Record.{PlainDay, freshDay, linesOf, noted, pathResult, standingOf}
 use Rattle.updates.specs.Applied.{applied, freshStanding}
 use Rattle.updates.specs.Effect.{stateOf, valueIn}
 use Rattle.updates.specs.Kinds.{kindOf}

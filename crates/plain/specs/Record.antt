@@ -6,8 +6,7 @@ use Rattle.lists.specs.Lists.{changed}
 use Rattle.updates.specs.declared.kind.Kind.{Kind}
 use Rattle.updates.specs.declared.kind.Kind.the-variants.{Time}
 use Rattle.updates.specs.declared.standing.Standing.{Standing}
-use Rattle.updates.specs.Applied as Applied
-use Rattle.updates.specs.Applied.{Update, applied, freshStanding}
+use Rattle.updates.specs.Applied.{applied, freshStanding, ofBib}
 use Rattle.entries.specs.declared.entry.Entry.{Entry}
 use Rattle.diagram.specs.Effects.{view}
 use Rattle.diagram.specs.Day as Day
@@ -30,12 +29,9 @@ pub record PlainDay : Type 0 where
 abbrev pub freshDay : Bool → PlainDay
 freshDay single = record { single = single; day = Day.fresh; entries = λ n. record { kind = Time; client = 0; bib = 0; v = 0 } }
 
-abbrev pub ofBib : (ℕ → Entry) → ℕ → List ℕ → List Update
-ofBib entries bib ns = Applied.ofBib (λ n. entries n .bib) (λ n. record { kind = entries n .kind; v = entries n .v }) bib ns
-
--- "applied to the fresh values"
+-- the updates of one bib among some numbers, "applied to the fresh values"
 abbrev pub standingOf : (ℕ → Entry) → ℕ → List ℕ → Standing
-standingOf entries bib ns = applied (ofBib entries bib ns) freshStanding
+standingOf entries bib ns = applied (ofBib (λ n. entries n .bib) (λ n. record { kind = entries n .kind; v = entries n .v }) bib ns) freshStanding
 
 -- 002, Definition 9: the path-result of a vertex, for one bib. 01: "A query's answer is the effects along its path from the
 -- root that uses no join edge, applied to the fresh values."

@@ -10,14 +10,14 @@ use Rattle.diagram.specs.Steps.{run, runFrom}
 use Rattle.cells.specs.Sizes as Lower
 use Rattle.cells.specs.Steps.{freshBytes}
 use Rattle.entries.specs.Sizes as Upper
-use Rattle.desk.specs.Calls.{Call, Update, Query, Yield, Fork, Join, Sync, Bundle, Looks, Look, Show, Fill, Preview, Records, Entries, callOn, lookOn}
+use Rattle.desk.specs.Calls.{Call, Update, Query, Yield, Fork, Join, Sync, Bundle, Looks, Show, Fill, Preview, Records, Entries, callOn}
 use Rattle.plain.specs.Record.{PlainDay, freshDay}
 use Rattle.plain.specs.Answers.{called, answers, answersFrom, dayFrom}
 use Rattle.table.specs.Out.{tableBytes}
 use Rattle.table.specs.Calls.{freshOut}
 use Rattle.table.proofs.Halves.{low-of}
 use Rattle.following.specs.Reached.{bytesAfter, bytesFrom}
-use Rattle.consistency.specs.Table.{calls, served, sheetIn, sheetOf, repliesOn, tableAfter, replies}
+use Rattle.consistency.specs.Table.{calls, served, sheetOf, repliesOn, tableAfter, replies}
 use Rattle.following.proofs.Follow.{bytes-follow}
 use Rattle.consistency.proofs.Table.Stands.{Stands}
 use Rattle.consistency.proofs.Table.Calls.{Same, update-same, query-same, yield-same, fork-same, join-same, list-same, fill-same}
@@ -26,11 +26,6 @@ use Rattle.consistency.proofs.Table.Previews.{preview-same}
 use Rattle.consistency.proofs.Table.Syncs.{sync-same}
 
 module _ (p : PlainDay) (t : List ℕ) (S : Stands p t) where
-  look-same : (l : Look (List ℕ)) → Same (sheetIn l) (served t (Looks l)) (called p (Looks (lookOn length l)))
-  look-same (Show n s) = list-same p t S n s
-  look-same (Fill n) = fill-same p t S n
-  look-same (Preview n m bib) = preview-same p t S n m bib
-
   call-same : (q : Call (List ℕ)) → Same (sheetOf q) (served t q) (called p (callOn length q))
   call-same (Update c n k bib v) = update-same p t S c n k bib v
   call-same (Query c n bib) = query-same p t S c n bib
@@ -40,7 +35,9 @@ module _ (p : PlainDay) (t : List ℕ) (S : Stands p t) where
   call-same (Sync m) = sync-same p t S m
   call-same (Bundle c n (Records tableBytes)) = bundle-same p t S c n tableBytes
   call-same (Bundle c n (Entries es)) = entries-same p t S c n es
-  call-same (Looks l) = look-same l
+  call-same (Looks (Show n s)) = list-same p t S n s
+  call-same (Looks (Fill n)) = fill-same p t S n
+  call-same (Looks (Preview n m bib)) = preview-same p t S n m bib
 
 filled : (a : List ℕ) (n m k : ℕ) → length a ≡ n → n + m ≡ k → length (a ++ replicate m 0) ≡ k
 filled a n m k e f = length-append a (replicate m 0) ∙ rw (e, length-replicate {A = ℕ} m 0) f

@@ -14,9 +14,9 @@ use Rattle.blocks.specs.Blocks.{Content, Contents, Held, Inv}
 use Rattle.diagram.proofs.Graph.Events.{JoinOk, Joined, inherited-from, inheritedEvents, inheritedStep, ownEventStep, ownEvents}
 use Rattle.diagram.proofs.Graph.Events.{view-split, viewEventStep, viewEvents}
 use Rattle.diagram.proofs.Graph.Paths.{Ordered, any-elim, any-intro, leads-new, leads-old, one-more}
-use Rattle.diagram.proofs.Graph.Tables.{tabulate-newest, tabulate-older}
+use Rattle.diagram.proofs.Graph.Tables.{forkStep, tabulate-newest, tabulate-older}
 use Rattle.diagram.specs.Diagram.{Diagram, Vertex, anyOf, fork, leads, sources}
-use Rattle.diagram.specs.Effects.{forkStep, forkVertex, tabulate}
+use Rattle.diagram.specs.Effects.{forkVertex, tabulate}
 use Rattle.lists.proofs.Cases.{cases, either, or-cases, or-right, split}
 use Rattle.lists.proofs.Changed.{changed-other, changed-same}
 use Rattle.lists.specs.Lists.{_∈_, changed}

@@ -14,10 +14,10 @@ use Rattle.lists.proofs.Cases.{cases, either}
 use Rattle.lists.proofs.Changed.{changed-other, changed-same}
 use Rattle.lists.proofs.Places.{insert-back, insert-new, insert-old, remove-back, remove-gone, remove-keep}
 use Rattle.diagram.specs.Diagram.{Diagram, Vertex, event, fork, join, start}
-use Rattle.diagram.specs.Effects.{forkStep, forkVertex, tabulate}
+use Rattle.diagram.specs.Effects.{forkVertex, tabulate}
 use Rattle.diagram.specs.Day.{Day, IsOut, fresh}
-use Rattle.diagram.specs.Steps.{close, enter, newUpdate, forkAt, joinInto}
-use Rattle.diagram.proofs.Graph.Tables.{tabulate-newest, tabulate-older}
+use Rattle.diagram.specs.Steps.{enter, newUpdate, forkAt, joinInto, yield}
+use Rattle.diagram.proofs.Graph.Tables.{forkStep, tabulate-newest, tabulate-older}
 use Rattle.diagram.proofs.Arranged.Advance.{Linked, May, linked-fork, on-bound}
 use Rattle.diagram.proofs.Arranged.Built.{linked-join, linked-root, linked-start, linked-update, lone}
 use Rattle.diagram.proofs.Days.Moves.{CanEnter, CanFork, CanJoin, not-last, forked-out, joined-out}
@@ -71,7 +71,7 @@ module _ (y : Day) (layout : List ℕ) (R : Real y layout) where
     forks-low = λ s. omega (arith, R .forks-low s);
   }
 
-  pub real-close : (c t : ℕ) → Real (close y c t) layout
+  pub real-close : (c t : ℕ) → Real (yield y c (some t)) layout
   real-close c t = record { linked = R .linked; out = R .out; back = R .back; forks = R .forks; main = R .main; starts-low = R .starts-low; forks-low = R .forks-low }
 
   pub real-fork : (r : ℕ) → CanFork y r → Real (forkAt y r) (insertBefore r (y .revisions) layout)

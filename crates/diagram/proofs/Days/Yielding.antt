@@ -14,7 +14,7 @@ use Rattle.diagram.proofs.Days.Sound.{Filed, Runs, SeenWhole, Sessions,
 use Rattle.diagram.specs.Arbitration.{eventsOf}
 use Rattle.diagram.specs.Day.{Day, Transaction}
 use Rattle.diagram.specs.Diagram.{Diagram, leads}
-use Rattle.diagram.specs.Steps.{close, closedNow, yield}
+use Rattle.diagram.specs.Steps.{closedNow, yield}
 use Rattle.lists.proofs.Blocks.{flat-same}
 use Rattle.lists.proofs.Cases.{cases, split}
 use Rattle.lists.proofs.Changed.{changed-other, changed-same}
@@ -25,7 +25,7 @@ module _ (y : Day) (layout : List ℕ) (hold : ℕ → List ℕ) (S : Sound y la
   d = y .diagram
 
   abbrev y′ : Day
-  y′ = close y c t
+  y′ = yield y c (some t)
 
   R : Runs y hold c t
   R = S .runs c t q
@@ -112,7 +112,7 @@ module _ (y : Day) (layout : List ℕ) (hold : ℕ → List ℕ) (S : Sound y la
     later = λ a s e f l h p i j. S .sessions .later a s e f l h (sym (clients a) ∙ p ∙ clients s) (rw (same-events a) at i) (rw (same-events s) at j);
   }
 
-  pub sound-close : Sound (close y c t) layout hold
+  pub sound-close : Sound (yield y c (some t)) layout hold
   sound-close = record { real = real-close y layout (S .real) c t; filed = filed′; runs = runs′; unshut = unshut′; whole = whole′; sessions = sessions′ }
 
 pub sound-yield : (y : Day) (layout : List ℕ) (hold : ℕ → List ℕ) → Sound y layout hold → (c : ℕ) (o : Option ℕ) → y .openBy c ≡ o → Sound (yield y c o) layout hold

@@ -8,9 +8,9 @@ use mathlib.Core.List.{List·Memᴰ·not-nil, List·Memᴰ·tail, Memᴰ·append
 use native.Mathlib.Omega.{arith}
 use lib.ListN.{length}
 use Rattle.diagram.proofs.Graph.Paths.{Ordered, edge-bounds, no-vertex, one-more, path-bound}
-use Rattle.diagram.proofs.Graph.Tables.{by-vertex, tabulate-newest, tabulate-older}
+use Rattle.diagram.proofs.Graph.Tables.{by-vertex, forkStep, tabulate-newest, tabulate-older}
 use Rattle.diagram.specs.Diagram.{Diagram, Edge, HasPath, Vertex, event, fork, go, join, newest, older, root, sources, start, stay}
-use Rattle.diagram.specs.Effects.{forkStep, forkVertex, tabulate}
+use Rattle.diagram.specs.Effects.{forkVertex, tabulate}
 use Rattle.lists.specs.Arranged.{_⊆_}
 
 abbrev pub ownEventStep : Diagram → (ℕ → List ℕ) → Vertex → List ℕ

@@ -3,15 +3,26 @@ use Prim.Native.Nat.{_<_, ℕ}
 use mathlib.Core.Bool.{false, true}
 use mathlib.Core.Path.{_≡_, refl, subst, sym}
 use mathlib.Core.Logic.{_⊎_, inl, inr}
+use mathlib.Core.Option.{Option, none, some}
 use mathlib.Core.List.{List·Memᴰ, List·Memᴰ·head, _∷_}
 use native.Mathlib.Omega.{arith}
 use lib.ListN.{length}
 use lib.Dec.{eqb}
 use borrow.Author.Tests.{eq-eqb, eqb-false, eqb-true, ne-eqb}
 use Rattle.diagram.proofs.Graph.Paths.{Ordered, leads-newest, leads-old, leads-up, no-vertex, one-more}
-use Rattle.diagram.specs.Diagram.{Diagram, Vertex, event, fork, join, leads, root, sources, start}
-use Rattle.diagram.specs.Effects.{startStep, startVertex, tabulate}
+use Rattle.diagram.specs.Diagram.{Diagram, Vertex, byGain, byOrigin, event, fork, join, leads, root, sources, start}
+use Rattle.diagram.specs.Effects.{startVertex, tabulate}
 use Rattle.lists.proofs.Cases.{split}
+
+-- the steps of the specs' tables
+abbrev pub startStep : Diagram → (ℕ → ℕ) → Vertex → ℕ
+startStep d s = byOrigin (length d) (λ f. length d) s
+
+abbrev pub forkStep : Diagram → (ℕ → Option ℕ) → Vertex → Option ℕ
+forkStep d f = byOrigin none some f
+
+abbrev pub numberStep : Diagram → (ℕ → Option ℕ) → Vertex → Option ℕ
+numberStep d f = byGain none (λ u. u) (λ q. none)
 
 -- the value at the newest vertex, and at an older one
 module _ {A : Type 0} (step : Diagram → (ℕ → A) → Vertex → A) (outside : A) where

@@ -12,10 +12,10 @@ use lib.Dec.{eqb}
 use borrow.Author.Tests.{eqb-false, eqb-true}
 use Rattle.diagram.proofs.Graph.Events.{Joined, ownEventStep, ownEvents, path-view, viewEventStep, viewEvents}
 use Rattle.diagram.proofs.Graph.Paths.{Ordered, no-vertex, one-more, path-older, path-start}
-use Rattle.diagram.proofs.Graph.Tables.{by-vertex, tabulate-newest, tabulate-older}
+use Rattle.diagram.proofs.Graph.Tables.{by-vertex, numberStep, tabulate-newest, tabulate-older}
 use Rattle.diagram.specs.Arbitration.{IsEvent, newest-is, older-is}
 use Rattle.diagram.specs.Diagram.{Diagram, HasPath, Vertex, event, fork, go, join, newest, root, sources, start, stay}
-use Rattle.diagram.specs.Effects.{entry, number, numberStep, numbers, own, ownStep, view, viewStep}
+use Rattle.diagram.specs.Effects.{entry, number, numbers, own, ownStep, view, viewStep}
 use Rattle.lists.proofs.Blocks.{flat-++, flat-same}
 use Rattle.lists.proofs.Cases.{either, split}
 use Rattle.lists.specs.Lists.{_∈_}

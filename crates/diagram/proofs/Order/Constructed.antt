@@ -14,7 +14,7 @@ use Rattle.diagram.proofs.Arranged.Advance.{on-bound}
 use Rattle.diagram.proofs.Days.Moves.{CanEnter, CanFork, CanJoin, can-enter, can-fork, can-join, not-last, forked-out, joined-out, joinable}
 use Rattle.diagram.proofs.Days.Sound.{same-some, some≢none}
 use Rattle.diagram.proofs.Graph.Paths.{Ordered, both-older, edge-bounds, leads-path, no-vertex, one-more, path-leads}
-use Rattle.diagram.proofs.Graph.Tables.{start-leads, tabulate-newest, tabulate-older}
+use Rattle.diagram.proofs.Graph.Tables.{start-leads, startStep, tabulate-newest, tabulate-older}
 use Rattle.diagram.proofs.Order.Growth.{Fine, fine-fresh}
 use Rattle.diagram.proofs.Order.Runs.{along, fine-run, fine-step}
 use Rattle.diagram.specs.Checks.{notJoinable}
@@ -22,8 +22,8 @@ use Rattle.diagram.specs.Construction.{Constructed, Joinable, entered, f
 use Rattle.diagram.specs.Day.{Day, IsOut, fresh}
 use Rattle.diagram.specs.Diagram.{Diagram, Edge, HasPath, Terminal, Vertex, event, f-sources, fork, j-sources, join, leads, newest}
 use Rattle.diagram.specs.Diagram.{older, root, s-sources, sources, start}
-use Rattle.diagram.specs.Effects.{forkVertex, startStep, startVertex, tabulate}
-use Rattle.diagram.specs.Steps.{Event, Fork, Join, Step, Yield, after, close, enter, forkAt, joinInto, newUpdate}
+use Rattle.diagram.specs.Effects.{forkVertex, startVertex, tabulate}
+use Rattle.diagram.specs.Steps.{Event, Fork, Join, Step, Yield, after, enter, forkAt, joinInto, newUpdate, yield}
 use Rattle.diagram.specs.Accepted.{Accepted, accepted}
 use Rattle.diagram.specs.Steps.{run, yield}
 use Rattle.lists.proofs.Cases.{cases, split}
@@ -124,7 +124,7 @@ module _ (y : Day) (F : Fine y) (M : Made y) where
       v : Vertex
       v = event (y .terminal r) c (newUpdate y u)
 
-  made-close : (c t : ℕ) → Made (close y c t)
+  made-close : (c t : ℕ) → Made (yield y c (some t))
   made-close c t = record { constructed = M .constructed; starts = M .starts; distinct = M .distinct; terminals = M .terminals; ended = M .ended }
 
   made-fork : (r : ℕ) → CanFork y r → Made (forkAt y r)

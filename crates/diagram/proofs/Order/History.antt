@@ -15,7 +15,7 @@ use Rattle.diagram.proofs.Days.Sound.{Sound, some≢none}
 use Rattle.diagram.proofs.Order.Growth.{Fine}
 use Rattle.diagram.specs.Arbitration.{eventsOf}
 use Rattle.diagram.specs.Day.{Day}
-use Rattle.diagram.specs.Steps.{Event, Fork, Join, Step, Yield, after, close, countedWith, enter, entersInto, eventsBefore, yield}
+use Rattle.diagram.specs.Steps.{Event, Fork, Join, Step, Yield, after, countedWith, enter, entersInto, eventsBefore, yield}
 use Rattle.diagram.specs.Accepted.{accepted}
 use Rattle.lists.proofs.Cases.{cases}
 use Rattle.lists.proofs.Changed.{changed-other, changed-same}
@@ -93,7 +93,7 @@ module _ (y : Day) (F : Fine y) where
       by none = i
       by (some s) =
           cases (eqb t s)
-          (λ q. let z = eqb-true t s q in subst (λ w. e ∈ w .events) (sym (ap (close y c s .transaction) z ∙ changed-same (y .transaction) s _)) (subst (λ k. e ∈ eventsOf y k) z i))
+          (λ q. let z = eqb-true t s q in subst (λ w. e ∈ w .events) (sym (ap (yield y c (some s) .transaction) z ∙ changed-same (y .transaction) s _)) (subst (λ k. e ∈ eventsOf y k) z i))
           (λ q. subst (λ w. e ∈ w .events) (sym (changed-other (y .transaction) s _ t (eqb-false t s q))) i)
   keeps-event (Fork r) t h e i = i
   keeps-event (Join p q) t h e i = i

@@ -12,11 +12,11 @@ use borrow.Author.Tests.{eqb-false, eqb-true, ltb-false, ltb-true}
 use Rattle.blocks.proofs.Joining.{low}
 use Rattle.diagram.proofs.Days.Moves.{Moves, enters, forksAt, joinsInto, yields}
 use Rattle.diagram.proofs.Days.Sound.{some≢none}
-use Rattle.diagram.proofs.Graph.Tables.{tabulate-newest, tabulate-older}
+use Rattle.diagram.proofs.Graph.Tables.{numberStep, tabulate-newest, tabulate-older}
 use Rattle.diagram.specs.Arbitration.{IsEvent, Numbered, newest-is, older-is}
 use Rattle.diagram.specs.Day.{Day}
 use Rattle.diagram.specs.Diagram.{Diagram, Vertex, event, fork, join, root, start}
-use Rattle.diagram.specs.Effects.{number, numberStep, tabulate}
+use Rattle.diagram.specs.Effects.{number, tabulate}
 use Rattle.diagram.specs.Steps.{yield}
 use Rattle.lists.proofs.Cases.{cases}
 

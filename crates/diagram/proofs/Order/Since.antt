@@ -12,7 +12,7 @@ use Rattle.blocks.proofs.Past.{held-order}
 use Rattle.diagram.proofs.Arranged.Advance.{Linked, contents, may}
 use Rattle.diagram.proofs.Graph.Events.{inheritedEvents, inheritedStep, ownEvents, view-split, viewEventStep, viewEvents}
 use Rattle.diagram.proofs.Graph.Paths.{Ordered, path-start}
-use Rattle.diagram.proofs.Graph.Tables.{by-vertex, tabulate-newest, tabulate-older}
+use Rattle.diagram.proofs.Graph.Tables.{by-vertex, numberStep, startStep, tabulate-newest, tabulate-older}
 use Rattle.diagram.proofs.Graph.Visible.{view-numbers, view-paths, visible}
 use Rattle.diagram.proofs.Order.Constructed.{made-run}
 use Rattle.diagram.proofs.Order.Inherited.{entry-is, numbers-nodup}
@@ -22,7 +22,7 @@ use Rattle.diagram.proofs.Order.Runs.{accepted-first, accepted-more, ac
 use Rattle.diagram.specs.Counts.{OwnUpdates, SeenSince}
 use Rattle.diagram.specs.Day.{IsOut}
 use Rattle.diagram.specs.Diagram.{Diagram, HasPath, Vertex, event, fork, join, root, sources, start}
-use Rattle.diagram.specs.Effects.{entry, number, numberStep, own, startStep, startVertex, view, viewStep}
+use Rattle.diagram.specs.Effects.{entry, number, own, startVertex, view, viewStep}
 use Rattle.diagram.specs.Steps.{Fork, Join, Step, after, run}
 use Rattle.diagram.specs.Accepted.{Accepted, accepted}
 use Rattle.lists.proofs.Blocks.{flat-++, flat-from, flat-in}

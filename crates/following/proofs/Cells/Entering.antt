@@ -12,7 +12,7 @@ use Rattle.lists.proofs.Cases.{cases}
 use Rattle.lists.proofs.Grown.{first-append, grown-longer, grown-none, grown-take}
 use Rattle.diagram.specs.Day.{Day, numberOf}
 use Rattle.diagram.proofs.Days.Found.{found}
-use Rattle.diagram.specs.Steps.{close, enter, yield}
+use Rattle.diagram.specs.Steps.{enter, yield}
 use Rattle.machine.specs.Machine.{Machine, enterOn, yieldOn}
 use Rattle.cells.specs.Sizes.{clients, main, updates}
 use Rattle.cells.specs.Cells.{Cells, chain, own}

@@ -20,7 +20,7 @@ use Rattle.diagram.proofs.Order.Growth.{Fine, fine-fresh, fine-moves}
 use Rattle.diagram.specs.Checks.{notJoinable}
 use Rattle.diagram.specs.Day.{Day, IsOut, fresh}
 use Rattle.diagram.specs.Diagram.{Diagram, leads, root}
-use Rattle.diagram.specs.Steps.{close, enter, forkAt, joinInto, yield}
+use Rattle.diagram.specs.Steps.{enter, forkAt, joinInto, yield}
 use Rattle.lists.proofs.Cases.{cases, either, or-cases, or-false, or-left, or-right, same-truth, split}
 use Rattle.lists.proofs.Places.{insert-pair, insert-self, insert-sub, remove-sub}
 use Rattle.lists.proofs.Sublists.{pair-self, pair-trans}
@@ -96,7 +96,7 @@ module _ (y : Day) (F : Fine y) where
       through = λ a b z oa ob oz h e k. enter-start y F c r u z a ∙ K .through a b z oa ob oz (sym (J-enter c r u a b) ∙ h) (sym (enter-start y F c r u z b) ∙ e) k;
     }
 
-    pub flags-close : (c t : ℕ) → Flags (close y c t) (F .layout)
+    pub flags-close : (c t : ℕ) → Flags (yield y c (some t)) (F .layout)
     unfolding notJoinable
     flags-close c t = record { own-start = K .own-start; left = K .left; through = K .through }
 

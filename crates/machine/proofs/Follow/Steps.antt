@@ -26,7 +26,7 @@ use Rattle.diagram.specs.Day.{Day, IsOut}
 use Rattle.diagram.specs.Diagram.{Diagram, Vertex, event, fork, join, start}
 use Rattle.diagram.specs.Effects.{entry, own, ownStep, viewStep}
 use Rattle.machine.specs.Machine.{Machine, enterOn, forkOn, joinOn, revisionOf, yieldOn}
-use Rattle.diagram.specs.Steps.{close, enter, entersInto, newUpdate, forkAt, joinInto, yield}
+use Rattle.diagram.specs.Steps.{enter, entersInto, newUpdate, forkAt, joinInto, yield}
 use Rattle.lists.proofs.Cases.{cases, split}
 use Rattle.lists.proofs.Changed.{changed-other, changed-same}
 use Rattle.lists.specs.Pool.{forkPool, joinPool}
@@ -90,7 +90,7 @@ module _ (y : Day) (k : Machine) (A : Agree y k) where
           (λ e. rw (e, tabulate-older ownStep [] v d (y .terminal s) (terminal-low y k A s)) (A .same-own s o))
 
   -- a yield closes the open transaction, if there is one
-  agree-close : (c t : ℕ) → y .openBy c ≡ some t → Agree (close y c t) (yieldOn k c)
+  agree-close : (c t : ℕ) → y .openBy c ≡ some t → Agree (yield y c (some t)) (yieldOn k c)
   unfolding notJoinable
   agree-close c t q = record {
     flagged = record { fine = record { layout = F .layout; hold = F .hold; sound = sound-close y (F .layout) (F .hold) (F .sound) c t q }; flags = flags-close y F (A .flagged .flags) c t };
@@ -106,10 +106,10 @@ module _ (y : Day) (k : Machine) (A : Agree y k) where
     same-own = A .same-own;
   }
     where
-      same : (s : ℕ) → close y c t .transaction s .revision ≡ y .transaction s .revision
+      same : (s : ℕ) → yield y c (some t) .transaction s .revision ≡ y .transaction s .revision
       same s = cases (eqb s t) (λ e. rw (e, eqb-true s t e)) (λ e. rw e)
 
-      by : (o : Option ℕ) → revisionOf (y .transaction) o ≡ revisionOf (close y c t .transaction) o
+      by : (o : Option ℕ) → revisionOf (y .transaction) o ≡ revisionOf (yield y c (some t) .transaction) o
       by none = refl
       by (some s) = ap (λ z. some z) (sym (same s))
 
