@@ -158,11 +158,3 @@ putRow-same w t x f g h = ap (replaced t (w * x) w) (rowBytes-same w f g h)
 pub flag-rows : (n : ℕ) (f : ℕ → ℕ → Bool) (x y : ℕ) → x < n → y < 64 → flagOf (rows n f) x y ≡ f x y
 unfolding rows
 flag-rows n f x y h g = ap (λ r. flagAt r y) (getD-tab (λ z. rowBytes 8 (f z)) n x [] h) ∙ flag-row-bytes 8 (f x) y g
-
-pub rows-same : (n : ℕ) (f g : ℕ → ℕ → Bool) → ((x y : ℕ) → x < n → y < 64 → f x y ≡ g x y) → rows n f ≡ rows n g
-unfolding rows
-rows-same n f g h = tab-same _ _ n (λ x l. rowBytes-same 8 (f x) (g x) (λ y m. h x y l m))
-
-pub rows-length : (n : ℕ) (f : ℕ → ℕ → Bool) → length (rows n f) ≡ n
-unfolding rows
-rows-length n f = length-tab (λ x. rowBytes 8 (f x)) n

@@ -22,7 +22,7 @@ all-bytes = refl
 pub bits-byte : (b : ℕ) → b < 256 → byteOf (bit b) ≡ b
 bits-byte b h = eqb-true _ b (every-at (λ z. eqb (byteOf (bit z)) z) 256 b all-bytes h)
 
-byte-is : (b : ℕ) (f : ℕ → Bool) → b < 256 → ((j : ℕ) → j < 8 → bit b j ≡ f j) → b ≡ byteOf f
+pub byte-is : (b : ℕ) (f : ℕ → Bool) → b < 256 → ((j : ℕ) → j < 8 → bit b j ≡ f j) → b ≡ byteOf f
 byte-is b f h e = sym (bits-byte b h) ∙ byte-same (bit b) f e
 
 -- binary digits
@@ -81,7 +81,7 @@ set-byte b k h g =
     (λ j m. bit-or b (2 ^ k) j ∙ ap (λ x. bit b j || x) (bit-one k j g m) ∙ cases (eqb j k) (λ e. rw e (or-right (bit b j) true refl)) (λ e. rw e (or-false (bit b j))))
 
 -- bytes g in a row: their flags, each byte's where it lies
-at-place : (g : ℕ → ℕ) (k j : ℕ) → j < 8 → bit (g ((8 * k + j) / 8)) ((8 * k + j) % 8) ≡ bit (g k) j
+pub at-place : (g : ℕ → ℕ) (k j : ℕ) → j < 8 → bit (g ((8 * k + j) / 8)) ((8 * k + j) % 8) ≡ bit (g k) j
 at-place g k j h =
     let e : (8 * k + j) / 8 ≡ k = omega arith in
     let q : (8 * k + j) % 8 ≡ j = omega arith in

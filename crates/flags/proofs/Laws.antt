@@ -13,10 +13,10 @@ use Rattle.lists.proofs.Cases.{cases, or-right}
 use Rattle.cells.specs.Tables.{tab}
 use Rattle.cells.specs.Words.{byte}
 use Rattle.cells.specs.Flags.{bit, byteOf, flagAt, flagIn, rowBytes, putRow, pack, rows, flagOf}
-use Rattle.lists.specs.Pool.{forkPool, joinPool}
+use Rattle.lists.specs.Pool.{joinPool}
 use Rattle.cells.specs.CellSteps.{forkCaught, joinCaught}
-use Rattle.cells.proofs.Tables.{getD-changed, getD-tab, set-tab, tab-append, tab-none, tab-of, tab-same}
-use Rattle.cells.proofs.Flags.{putRow-same, bit-byte, byte-same, flag-row-bytes, flag-rows, pack-same, rowBytes-length, rowBytes-same, rows-same, rows-length}
+use Rattle.cells.proofs.Tables.{getD-tab, set-tab, tab-append, tab-none, tab-of, tab-same}
+use Rattle.cells.proofs.Flags.{putRow-same, bit-byte, byte-same, flag-row-bytes, flag-rows, pack-same, rowBytes-length, rowBytes-same}
 
 -- one flag set in a row
 pub set-flag : (w : ℕ) (f : ℕ → Bool) (u v : ℕ) → u < 8 * w → v ≡ byteOf (changed (bit (byte (rowBytes w f) (u / 8))) (u % 8) true) → set (rowBytes w f) (u / 8) v ≡ rowBytes w (changed f u true)
@@ -42,20 +42,32 @@ pub no-flags : (w : ℕ) → replicate w 0 ≡ rowBytes w (λ y. false)
 unfolding rowBytes
 no-flags w = tab-of (replicate w 0) 0 w (length-replicate w 0) ∙ tab-same _ _ w (λ i h. getD-replicate w i 0 0 h)
 
-pub only-row : (w r v : ℕ) → r < 8 * w → v ≡ byteOf (changed (bit 0) (r % 8) true) → set (replicate w 0) (r / 8) v ≡ rowBytes w (λ y. eqb y r)
-only-row w r v h e =
-    let l : r / 8 < w = omega arith in
-    let b : 0 ≡ byte (rowBytes w (λ y. false)) (r / 8) = sym (getD-replicate w (r / 8) 0 0 l) ∙ ap (λ z. byte z (r / 8)) (no-flags w) in
-    ap (λ z. set z (r / 8) v) (no-flags w)
-    ∙ set-flag w (λ y. false) r v h (e ∙ ap (λ z. byteOf (changed (bit z) (r % 8) true)) b)
-    ∙ rowBytes-same w (changed (λ y. false) r true) (λ y. eqb y r) (λ y m. cases (eqb y r) (λ q. rw q) (λ q. rw q))
-
 -- the flags of w as told
 pub flags-on : (row w : List ℕ) (on : Bool) → on ≡ true → rowBytes 8 (λ y. flagAt row y || flagAt w y) ≡ rowBytes 8 (λ y. cond (flagAt w y) on (flagAt row y))
 flags-on row w on q = rowBytes-same 8 _ (λ y. cond (flagAt w y) on (flagAt row y)) (λ y h. cases (flagAt w y) (λ e. rw (e, q) (or-right (flagAt row y) true refl)) (λ e. rw e (or-false (flagAt row y))))
 
 pub flags-off : (row w : List ℕ) (on : Bool) → on ≡ false → rowBytes 8 (λ y. flagAt row y && not (flagAt w y)) ≡ rowBytes 8 (λ y. cond (flagAt w y) on (flagAt row y))
 flags-off row w on q = rowBytes-same 8 _ (λ y. cond (flagAt w y) on (flagAt row y)) (λ y h. cases (flagAt w y) (λ e. rw (e, q) (and-false (flagAt row y))) (λ e. rw e (and-true (flagAt row y))))
+
+-- the flags of w too, if told so
+pub gain-on : (row w : List ℕ) (on : Bool) → on ≡ true → rowBytes 8 (λ y. flagAt row y || flagAt w y) ≡ rowBytes 8 (λ y. flagAt row y || (on && flagAt w y))
+gain-on row w on q = rowBytes-same 8 _ (λ y. flagAt row y || (on && flagAt w y)) (λ y h. rw q)
+
+pub gain-off : (row w : List ℕ) (on : Bool) → on ≡ false
+    → rowBytes 8 (λ y. flagAt row y || flagAt (replicate 8 0) y) ≡ rowBytes 8 (λ y. flagAt row y || (on && flagAt w y))
+gain-off row w on q =
+    rowBytes-same 8 _ (λ y. flagAt row y || (on && flagAt w y))
+    (λ y h. rw q (ap (λ z. flagAt row y || z) (ap (λ z. flagAt z y) (no-flags 8) ∙ flag-row-bytes 8 (λ z. false) y h)))
+
+-- the flag of a too, if that of b is there
+pub joined-row : (row w : List ℕ) (a b : ℕ) → w ≡ rowBytes 8 (λ y. eqb y a)
+    → rowBytes 8 (λ y. flagAt row y || (flagAt row b && flagAt w y)) ≡ rowBytes 8 (changed (flagAt row) a (flagAt row a || flagAt row b))
+joined-row row w a b e =
+    rowBytes-same 8 _ (changed (flagAt row) a (flagAt row a || flagAt row b))
+    (λ y h. ap (λ z. flagAt row y || (flagAt row b && z)) (ap (λ z. flagAt z y) e ∙ flag-row-bytes 8 (λ z. eqb z a) y h)
+    ∙ cases (eqb y a)
+    (λ q. rw (q, eqb-true y a q) (ap (λ z. flagAt row a || z) (and-true (flagAt row b))))
+    (λ q. rw q (ap (λ z. flagAt row y || z) (and-false (flagAt row b)) ∙ or-false (flagAt row y))))
 
 -- one column as told
 pub column-row : (row w : List ℕ) (c : ℕ) (on : Bool) → w ≡ rowBytes 8 (λ y. eqb y c) → rowBytes 8 (λ y. cond (flagAt w y) on (flagAt row y)) ≡ rowBytes 8 (changed (flagAt row) c on)
@@ -65,25 +77,9 @@ pub column-rows : (n : ℕ) (s : List (List ℕ)) (w : List ℕ) (c : ℕ) (on :
     → tab (λ i. rowBytes 8 (λ y. cond (flagAt w y) (on i) (flagOf s i y))) n ≡ tab (λ i. rowBytes 8 (changed (flagOf s i) c (on i))) n
 column-rows n s w c on e = tab-same _ _ n (λ i h. column-row (getD s i []) w c (on i) e)
 
--- a row of n rows replaced
-pub flag-set : (s : List (List ℕ)) (c : ℕ) (row : List ℕ) (x y : ℕ) → c < length s → flagOf (set s c row) x y ≡ changed (flagOf s) c (flagAt row) x y
-flag-set s c row x y h = rw (getD-changed s c row [] x h) (cases (eqb x c) (λ e. rw e) (λ e. rw e))
-
--- the rows of a fork: row c is row p, and column c as told
-pub fork-rows : (s : List (List ℕ)) (p c : ℕ) → length s ≡ 64 → c < 64 → rows 64 (λ x. changed (flagOf (set s c (getD s p [])) x) c (eqb x p)) ≡ rows 64 (forkPool (flagOf s) p c)
-fork-rows s p c h l =
-    rows-same 64 _ (forkPool (flagOf s) p c)
-    (λ x y xl yl. cases (eqb y c) (λ e. rw e) (λ e. rw e (flag-set s c (getD s p []) x y (omega arith))))
-
 -- flags that agree inside
 abbrev Same : ℕ → (ℕ → ℕ → Bool) → (ℕ → ℕ → Bool) → Type 0
 Same n f g = (x y : ℕ) → x < n → y < 64 → f x y ≡ g x y
-
-fork-seen-same : (f g : ℕ → ℕ → Bool) (p c : ℕ) → p < 64 → Same 64 f g → Same 64 (forkPool f p c) (forkPool g p c)
-fork-seen-same f g p c pl h x y xl yl =
-    cases (eqb y c)
-    (λ e. rw e)
-    (λ e. rw e (cases (eqb x c) (λ i. rw i (h p y pl yl)) (λ i. rw i (h x y xl yl))))
 
 fork-caught-same : (f g : ℕ → ℕ → Bool) (p c : ℕ) → p < 64 → Same 16 f g → Same 16 (forkCaught f p c) (forkCaught g p c)
 fork-caught-same f g p c pl h x y xl yl = cases (eqb y c) (λ e. rw e (h x p xl pl)) (λ e. rw e (h x y xl yl))
@@ -99,20 +95,21 @@ as-rows : (n : ℕ) (f : ℕ → ℕ → Bool) (z : List (List ℕ)) → z ≡ r
 as-rows n f z e x y xl yl = ap (λ s. flagOf s x y) e ∙ flag-rows n f x y xl yl
 
 module _ (t : List ℕ) (s z : List (List ℕ)) (p c : ℕ) (pl : p < 64) (cl : c < 64) where
-  pub fork-seen-stored : s ≡ rows 64 (flagIn 8 64 t) → z ≡ rows 64 (forkPool (flagOf s) p c) → pack 64 (flagOf z) ≡ pack 64 (forkPool (flagIn 8 64 t) p c)
-  fork-seen-stored e g = stored 64 _ _ z (as-rows 64 _ z g) (fork-seen-same (flagOf s) (flagIn 8 64 t) p c pl (as-rows 64 _ s e))
-
   pub fork-caught-stored : s ≡ rows 16 (flagIn 8 16 t) → z ≡ rows 16 (forkCaught (flagOf s) p c) → pack 16 (flagOf z) ≡ pack 16 (forkCaught (flagIn 8 16 t) p c)
   fork-caught-stored e g = stored 16 _ _ z (as-rows 16 _ z g) (fork-caught-same (flagOf s) (flagIn 8 16 t) p c pl (as-rows 16 _ s e))
 
   pub join-caught-stored : s ≡ rows 16 (flagIn 8 16 t) → z ≡ rows 16 (joinCaught (flagOf s) p c) → pack 16 (flagOf z) ≡ pack 16 (joinCaught (flagIn 8 16 t) p c)
   join-caught-stored e g = stored 16 _ _ z (as-rows 16 _ z g) (join-caught-same (flagOf s) (flagIn 8 16 t) p c pl cl (as-rows 16 _ s e))
 
+pub clear-stored : (t w : List ℕ) (s z : List (List ℕ)) → s ≡ rows 16 (flagIn 8 16 t) → z ≡ rows 16 (λ x y. flagOf s x y && not (flagAt w y))
+    → pack 16 (flagOf z) ≡ pack 16 (λ x y. flagIn 8 16 t x y && not (flagAt w y))
+clear-stored t w s z e g = stored 16 _ _ z (as-rows 16 _ z g) (λ x y xl yl. ap (λ b. b && not (flagAt w y)) (as-rows 16 _ s e x y xl yl))
+
 -- row x of n rows, loaded
 pub row-loaded : (n : ℕ) (t : List ℕ) (x : ℕ) → x < n → rowBytes 8 (λ y. bit (byte t (8 * x + y / 8)) (y % 8)) ≡ rowBytes 8 (flagIn 8 n t x)
 row-loaded n t x h = rowBytes-same 8 _ (flagIn 8 n t x) (λ y g. rw (lt-ltb x n h, lt-ltb y 64 g))
 
-loaded-flag : (t row : List ℕ) (x y : ℕ) → x < 64 → y < 64 → row ≡ rowBytes 8 (λ z. bit (byte t (8 * x + z / 8)) (z % 8)) → flagAt row y ≡ flagIn 8 64 t x y
+pub loaded-flag : (t row : List ℕ) (x y : ℕ) → x < 64 → y < 64 → row ≡ rowBytes 8 (λ z. bit (byte t (8 * x + z / 8)) (z % 8)) → flagAt row y ≡ flagIn 8 64 t x y
 loaded-flag t row x y xl yl e = ap (λ z. flagAt z y) (e ∙ row-loaded 64 t x xl) ∙ flag-row-bytes 8 (flagIn 8 64 t x) y yl
 
 -- the joiner's row and the joinee's loaded, and the flags of either stored
@@ -128,7 +125,7 @@ pub pack-none : (f : ℕ → ℕ → Bool) → [] ≡ pack 0 f
 unfolding pack
 pack-none f = tab-none _
 
-pack-more : (f : ℕ → ℕ → Bool) (x : ℕ) → pack (x + 1) f ≡ pack x f ++ rowBytes 8 (f x)
+pub pack-more : (f : ℕ → ℕ → Bool) (x : ℕ) → pack (x + 1) f ≡ pack x f ++ rowBytes 8 (f x)
 unfolding pack rowBytes
 pack-more f x =
     let e : 8 * (x + 1) ≡ 8 * x + 8 = omega arith in

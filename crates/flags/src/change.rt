@@ -3,12 +3,12 @@ ghost use mathlib.Core.Path.{_≡_};
 ghost use mathlib.Core.Bool.{cond, not, _||_, _&&_};
 ghost use Prim.Native.Nat.{_<_};
 ghost use lib.Dec.{eqb};
-ghost use Rattle.lists.specs.Lists.{changed};
 ghost use Rattle.cells.specs.Sizes.{clients, revisions};
 ghost use Rattle.cells.specs.Flags.{flagAt, rowBytes, rows, flagOf};
-ghost use Rattle.lists.specs.Pool.{forkPool};
 ghost use Rattle.cells.specs.CellSteps.{forkCaught, joinCaught};
 use crate::bits;
+use crate::rows;
+use crate::words;
 use sizes::numbers::Revision;
 use sizes::numbers::wide;
 use sizes::table::Table;
@@ -18,28 +18,18 @@ pub fn only(r: Revision) -> [u8; Table::FLAGS]
     requires { ⌜ r .0 < revisions ⌝ }
     ensures { λ row. ⌜ row ≡ rowBytes 8 (λ y. eqb y (r .0)) ⌝ }
 {
-    let y = wide(r.0);
-    let mut row = [0; Table::FLAGS];
-    row[y / 8] = bits::set(0, y % 8);
-    row
+    words::row(1u64 << wide(r.0))
 }
 
 fn flag(row: [u8; Table::FLAGS], r: Revision) -> bool
     requires { ⌜ r .0 < revisions ⌝ }
     ensures { λ on. ⌜ on ≡ flagAt row (r .0) ⌝ }
 {
-    let y = wide(r.0);
-    bits::flag(row[y / 8], y % 8)
-}
-
-fn or(a: bool, b: bool) -> bool
-    ensures { λ r. ⌜ r ≡ (a || b) ⌝ }
-{
-    if a { true } else { b }
+    (words::word(row) >> wide(r.0)) % 2 == 1
 }
 
 // The flags of either row.
-fn either(a: [u8; Table::FLAGS], b: [u8; Table::FLAGS]) -> [u8; Table::FLAGS]
+pub fn either(a: [u8; Table::FLAGS], b: [u8; Table::FLAGS]) -> [u8; Table::FLAGS]
     ensures { λ r. ⌜ r ≡ rowBytes 8 (λ y. flagAt a y || flagAt b y) ⌝ }
 {
     let mut z = [0; Table::FLAGS];
@@ -71,40 +61,31 @@ fn with(row: [u8; Table::FLAGS], w: [u8; Table::FLAGS], on: bool) -> [u8; Table:
     if on { either(row, w) } else { without(row, w) }
 }
 
-// The child's column: the parent has seen the child's fork, and no other has.
-fn fork_column(
-    s: [[u8; Table::FLAGS]; Table::REVISIONS],
-    parent: Revision,
-    child: Revision,
-) -> [[u8; Table::FLAGS]; Table::REVISIONS]
-    requires { ⌜ (parent .0 < revisions) × (child .0 < revisions) ⌝ }
-    ensures { λ r. ⌜ r ≡ rows revisions (λ x. changed (flagOf s x) (child .0) (eqb x (parent .0))) ⌝ }
+// The row, and the flags of w if told so.
+fn gain(row: [u8; Table::FLAGS], w: [u8; Table::FLAGS], on: bool) -> [u8; Table::FLAGS]
+    ensures { λ r. ⌜ r ≡ rowBytes 8 (λ y. flagAt row y || (on && flagAt w y)) ⌝ }
 {
-    let column = only(child);
-    let at = wide(parent.0);
-    let mut z = [[0; Table::FLAGS]; Table::REVISIONS];
+    if on {
+        return either(row, w);
+    }
+    either(row, [0; Table::FLAGS])
+}
+
+// Sixteen rows without the flags of w.
+pub fn clear(
+    s: [[u8; Table::FLAGS]; rows::BLOCK],
+    w: [u8; Table::FLAGS],
+) -> [[u8; Table::FLAGS]; rows::BLOCK]
+    ensures { λ r. ⌜ r ≡ rows 16 (λ x y. flagOf s x y && not (flagAt w y)) ⌝ }
+{
+    let mut z = [[0; Table::FLAGS]; rows::BLOCK];
     let mut x: usize = 0;
-    while x < Table::REVISIONS {
+    while x < rows::BLOCK {
         let row = s[x];
-        z[x] = with(row, column, x == at);
+        z[x] = without(row, w);
         x += 1;
     }
     z
-}
-
-// The seen flags after the parent forked the child.
-pub fn fork_seen(
-    seen: [[u8; Table::FLAGS]; Table::REVISIONS],
-    parent: Revision,
-    child: Revision,
-) -> [[u8; Table::FLAGS]; Table::REVISIONS]
-    requires { ⌜ (parent .0 < revisions) × (child .0 < revisions) ⌝ }
-    ensures { λ r. ⌜ r ≡ rows revisions (forkPool (flagOf seen) (parent .0) (child .0)) ⌝ }
-{
-    let mut s = seen;
-    let row = s[wide(parent.0)];
-    s[wide(child.0)] = row;
-    fork_column(s, parent, child)
 }
 
 // The joiner's row of seen flags after the join, from its own row and the joinee's.
@@ -150,7 +131,7 @@ pub fn join_caught(
     let mut x: usize = 0;
     while x < Table::CLIENTS {
         let row = caught[x];
-        z[x] = with(row, column, or(flag(row, a), flag(row, b)));
+        z[x] = gain(row, column, flag(row, b));
         x += 1;
     }
     z

@@ -4,3 +4,4 @@ pub mod bits; // bits.rt: eight flags as a byte
 pub mod change; // change.rt: what a fork and a join make of the flags, by value
 pub mod packed; // packed.rt: the same on packed flags
 pub mod rows; // rows.rt: rows loaded from bytes and stored
+pub mod words; // words.rt: a row as one number

@@ -1,10 +1,11 @@
 // What a fork, a join and an event make of packed flags: loaded, changed by value, stored.
 ghost use mathlib.Core.Path.{_≡_};
+ghost use mathlib.Core.Bool.{not, _&&_};
 ghost use Prim.Native.Nat.{_<_};
 ghost use lib.Dec.{eqb};
 ghost use lib.ListN.{length};
 ghost use Rattle.cells.specs.Sizes.{clients, revisions};
-ghost use Rattle.cells.specs.Flags.{flagIn, pack, putRow};
+ghost use Rattle.cells.specs.Flags.{flagAt, flagIn, pack, putRow};
 ghost use Rattle.lists.specs.Pool.{forkPool, joinPool};
 ghost use Rattle.cells.specs.CellSteps.{forkCaught, joinCaught};
 use crate::change;
@@ -12,14 +13,43 @@ use crate::rows;
 use sizes::numbers::Client;
 use sizes::numbers::Revision;
 use sizes::numbers::wide;
+use sizes::table::Table;
 
+// Sixteen rows without the flags of w.
+fn clear_block(t: &mut [u8], w: [u8; Table::FLAGS])
+    requires { ⌜ length (now t) ≡ 128 ⌝ }
+    ensures { λ _. ⌜ now (t .exit) ≡ pack 16 (λ x y. flagIn 8 16 (now (t .entry)) x y && not (flagAt w y)) ⌝ }
+{
+    let s = rows::load16(t);
+    let z = change::clear(s, w);
+    rows::store16(t, z);
+}
+
+// Every revision's row without the flags of w.
+fn clear(t: &mut [u8], w: [u8; Table::FLAGS])
+    requires { ⌜ length (now t) ≡ 512 ⌝ }
+    ensures { λ _. ⌜ now (t .exit) ≡ pack revisions (λ x y. flagIn 8 revisions (now (t .entry)) x y && not (flagAt w y)) ⌝ }
+{
+    let mut x: usize = 0;
+    while x < Table::REVISIONS {
+        let at = Table::FLAGS * x;
+        let end = at + Table::FLAGS * rows::BLOCK;
+        clear_block(&mut t[at..end], w);
+        x += rows::BLOCK;
+    }
+}
+
+// The child's column is cleared; the child's row is the parent's, and the parent has seen the child's fork.
 pub fn fork_seen(t: &mut [u8], parent: Revision, child: Revision)
     requires { ⌜ (length (now t) ≡ 512) × (parent .0 < revisions) × (child .0 < revisions) ⌝ }
     ensures { λ _. ⌜ now (t .exit) ≡ pack revisions (forkPool (flagIn 8 revisions (now (t .entry))) (parent .0) (child .0)) ⌝ }
 {
-    let s = rows::load64(t);
-    let z = change::fork_seen(s, parent, child);
-    rows::store64(t, z);
+    let column = change::only(child);
+    clear(t, column);
+    let x = wide(parent.0);
+    let row = rows::load_row(t, x);
+    rows::store_row(t, wide(child.0), row);
+    rows::store_row(t, x, change::either(row, column));
 }
 
 // The joiner's row alone changes, and only it and the joinee's are loaded.

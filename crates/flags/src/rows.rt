@@ -2,11 +2,14 @@
 ghost use mathlib.Core.Path.{_≡_};
 ghost use Prim.Native.Nat.{_+_, _*_, _/_, _%_, _<_, _≤_};
 ghost use lib.ListN.{length};
-ghost use Rattle.cells.specs.Sizes.{clients, revisions};
+ghost use Rattle.cells.specs.Sizes.{revisions};
 ghost use Rattle.cells.specs.Words.{byte};
 ghost use Rattle.cells.specs.Flags.{bit, flagAt, flagIn, rowBytes, putRow, pack, rows, flagOf};
 use crate::bits;
 use sizes::table::Table;
+
+// Rows worked on at a time: the clients', or a quarter of the revisions'. More at a time are not kept in registers.
+pub const BLOCK: usize = 16;
 
 // Row x.
 pub fn load_row(t: &[u8], x: usize) -> [u8; Table::FLAGS]
@@ -22,26 +25,14 @@ pub fn load_row(t: &[u8], x: usize) -> [u8; Table::FLAGS]
     row
 }
 
-pub fn load64(t: &[u8]) -> [[u8; Table::FLAGS]; Table::REVISIONS]
-    requires { ⌜ length (now t) ≡ 512 ⌝ }
-    ensures { λ r. ⌜ r ≡ rows revisions (flagIn 8 revisions (now (t .entry))) ⌝ }
-{
-    let mut s = [[0; Table::FLAGS]; Table::REVISIONS];
-    let mut x: usize = 0;
-    while x < Table::REVISIONS {
-        s[x] = load_row(t, x);
-        x += 1;
-    }
-    s
-}
-
-pub fn load16(t: &[u8]) -> [[u8; Table::FLAGS]; Table::CLIENTS]
+// Sixteen rows.
+pub fn load16(t: &[u8]) -> [[u8; Table::FLAGS]; BLOCK]
     requires { ⌜ length (now t) ≡ 128 ⌝ }
-    ensures { λ r. ⌜ r ≡ rows clients (flagIn 8 clients (now (t .entry))) ⌝ }
+    ensures { λ r. ⌜ r ≡ rows 16 (flagIn 8 16 (now (t .entry))) ⌝ }
 {
-    let mut s = [[0; Table::FLAGS]; Table::CLIENTS];
+    let mut s = [[0; Table::FLAGS]; BLOCK];
     let mut x: usize = 0;
-    while x < Table::CLIENTS {
+    while x < BLOCK {
         s[x] = load_row(t, x);
         x += 1;
     }
@@ -60,24 +51,13 @@ pub fn store_row(t: &mut [u8], x: usize, row: [u8; Table::FLAGS])
     }
 }
 
-pub fn store64(t: &mut [u8], s: [[u8; Table::FLAGS]; Table::REVISIONS])
-    requires { ⌜ length (now t) ≡ 512 ⌝ }
-    ensures { λ _. ⌜ now (t .exit) ≡ pack revisions (flagOf s) ⌝ }
-{
-    let mut x: usize = 0;
-    while x < Table::REVISIONS {
-        let row = s[x];
-        store_row(t, x, row);
-        x += 1;
-    }
-}
-
-pub fn store16(t: &mut [u8], s: [[u8; Table::FLAGS]; Table::CLIENTS])
+// Sixteen rows replaced.
+pub fn store16(t: &mut [u8], s: [[u8; Table::FLAGS]; BLOCK])
     requires { ⌜ length (now t) ≡ 128 ⌝ }
-    ensures { λ _. ⌜ now (t .exit) ≡ pack clients (flagOf s) ⌝ }
+    ensures { λ _. ⌜ now (t .exit) ≡ pack 16 (flagOf s) ⌝ }
 {
     let mut x: usize = 0;
-    while x < Table::CLIENTS {
+    while x < BLOCK {
         let row = s[x];
         store_row(t, x, row);
         x += 1;
