@@ -4,8 +4,8 @@
  *
  * A table is a buffer of SILTTONGS_BYTES bytes that the caller lends for each call; nothing else
  * is kept. `table` points to `length` bytes that no one else reads or writes during the call, and
- * is not null; so do `sheet` and `records`, to bytes apart from the table's. Every content and every
- * number is answered: what is proved of the calls has no precondition besides.
+ * is not null; so do `sheet`, `records` and `name`, to bytes apart from the table's. Every content and
+ * every number is answered: what is proved of the calls has no precondition besides.
  *
  * Each call hands back its answer in one number: silttongs_code is 0 if the call was taken, else
  * says why it was refused; silttongs_value is the value named below, 0 in a refusal. A query's and a
@@ -15,8 +15,8 @@
  * Nothing is allocated. A call needs up to 96 KiB of stack.
  *
  * A box is a revision of the table, a tablet is a client. Boxes are 0 to 63, tablets 0 to 15,
- * bibs 0 to 999, and a day takes 4,096 updates. 64 boxes may be out at a time, and any number of
- * them be sent off and handed in: a box number means the latest box that bore it.
+ * bibs 0 to 999, and a day takes 4,096 updates. 64 boxes may be out at a time, marked ones among them,
+ * and any number be sent off and handed in: a box number means the latest box that bore it.
  */
 #ifndef SILTTONGS_H
 #define SILTTONGS_H
@@ -39,23 +39,29 @@ extern "C" {
 /* How many records a bundle has at most. */
 #define SILTTONGS_BUNDLE 64
 
+/* The length of a mark's name. */
+#define SILTTONGS_NAME 4
+
 /* Why a call was refused. */
 enum {
     SILTTONGS_TAKEN = 0,          /* it was not */
     SILTTONGS_NO_TABLE = 1,       /* wrong length, or a cell is out of its range */
     SILTTONGS_STRANGE_TABLET = 2, /* tablet above 15 */
     SILTTONGS_NEVER_SENT = 3,     /* box number not yet given out */
-    SILTTONGS_HANDED_IN = 4,      /* the latest box of that number was handed in */
+    SILTTONGS_HANDED_IN = 4,      /* the latest box of that number was handed in, or dropped */
     SILTTONGS_BAD_ENTRY = 5,      /* bib above 999, or update kind not 1 to 4 */
     SILTTONGS_OTHER_BOX_OPEN = 6, /* the tablet's open transaction is on another box */
-    SILTTONGS_IN_USE = 7,         /* another tablet is at work there; for fork, join, sync, list any */
+    SILTTONGS_IN_USE = 7,         /* the box is busy; for update, query, bundle with another tablet */
     SILTTONGS_NOT_CAUGHT_UP = 8,  /* the box has not seen the tablet's last event */
     SILTTONGS_LOG_FULL = 9,       /* 4,096 updates taken */
     SILTTONGS_NO_BOX_LEFT = 10,   /* 64 boxes are out */
     SILTTONGS_NOT_JOINABLE = 11,  /* box 0, the joiner itself, its fork unseen, or its start seen */
     SILTTONGS_SHEET_SHORT = 12,   /* the listing needs more bytes */
     SILTTONGS_WRONG_BUNDLE = 14,  /* no record, more than 64, or bytes not a multiple of 12 */
-    SILTTONGS_OFF_THE_LINE = 15   /* single-main day: another box than 0 is forked, or joined into */
+    SILTTONGS_OFF_THE_LINE = 15,  /* single-main day: a mark; or not box 0 is forked, or joined into */
+    SILTTONGS_MARKED_BOX = 16,    /* the box is marked */
+    SILTTONGS_BAD_NAME = 17,      /* for a mark: not four letters A to Z, or in use */
+    SILTTONGS_NO_SUCH_MARK = 18   /* for a drop: no mark that is out has the name */
 };
 
 /* The kinds of update, and what each does to a bib. */
@@ -98,37 +104,56 @@ static inline uint16_t silttongs_total(uint64_t answer) { return (uint16_t)(answ
 uint64_t silttongs_fresh(uint8_t *table, size_t length, uint8_t single_main);
 
 /* Enters an update of a bib on a box, in the tablet's transaction there, which it opens if need
- * be. Codes 1 to 9. Value: how many updates the day took before it, its number. */
+ * be. Codes 1 to 4, 16, 5 to 9, in this order. Value: how many updates the day took before it, its
+ * number. */
 uint64_t silttongs_update(uint8_t *table, size_t length, uint8_t tablet, uint8_t box, uint8_t kind,
                           uint16_t bib, uint32_t v);
 
 /* Looks up a bib on a box, in the tablet's transaction there, which it opens if need be. It writes
- * to the table: a query is an event. Codes 1 to 8 (of 5, the bib only). State: whether the bib is
- * struck, timed or neither, as the updates visible on the box leave it. Value: its value in
- * thousandths of a second; 0 if it is struck or has no time. */
+ * to the table: a query is an event. Codes 1 to 4, 16, 5 to 8, in this order (of 5, the bib only).
+ * State: whether the bib is struck, timed or neither, as the updates visible on the box leave it.
+ * Value: its value in thousandths of a second; 0 if it is struck or has no time. */
 uint64_t silttongs_query(uint8_t *table, size_t length, uint8_t tablet, uint8_t box, uint16_t bib);
 
 /* Closes the tablet's transaction, if it has one. Codes 1, 2. Value: 0. */
 uint64_t silttongs_yield(uint8_t *table, size_t length, uint8_t tablet);
 
-/* Sends a new box off from a box. Codes 1, 3, 4, 15, 7, 10, in this order; 15 for another box than 0
- * on a single-main day. Value: the new box's number, the next that was never used; once all were, the
- * number handed in longest ago. */
+/* Sends a new box off from a box, marked or not. Codes 1, 3, 4, 15, 7, 10, in this order; 15 for
+ * another box than 0 on a single-main day. Value: the new box's number, the next that was never used;
+ * once all were, the number handed in or dropped longest ago. */
 uint64_t silttongs_fork(uint8_t *table, size_t length, uint8_t box);
 
-/* Hands a box in: the joiner takes over the joinee's updates, behind its own. Codes 1, 3, 4, 15, 7,
- * 11, in this order; 15 for another joiner than box 0 on a single-main day. Value: how many updates
- * the joiner gained. */
+/* Hands a box in: the joiner takes over the joinee's updates, behind its own. Codes 1, 3, 4, 15, 16, 7,
+ * 11, in this order; 15 for another joiner than box 0 on a single-main day, 16 if either box is marked.
+ * Value: how many updates the joiner gained. */
 uint64_t silttongs_join(uint8_t *table, size_t length, uint8_t joiner, uint8_t joinee);
 
 /* Hands a box in to box 0 and sends a new one off from there, on any day: as silttongs_join into box 0
- * and then silttongs_fork of box 0, but both or neither. Codes 1, 3, 4, 7, 11, as for that join; on a
- * table that no day made also 1, where the join would leave it no table. Value: the new box's number.
+ * and then silttongs_fork of box 0, but both or neither. Codes 1, 3, 4, 16, 7, 11, as for that join.
+ * Value: the new box's number.
  *
  * The old number is handed in before the new one is taken. So while numbers are left that were never
  * used it takes the next of them, and with 64 boxes out it answers the number that it was given: go on
  * with the value, not with `box`. */
 uint64_t silttongs_sync(uint8_t *table, size_t length, uint8_t box);
+
+/* Marks a box, marked or not: a new box is sent off from it as by silttongs_fork, and bears the name
+ * of four letters A to Z that is lent. It can be listed, filled, forked and marked, but not written,
+ * queried or joined, in either role, so that it stays as it is. It is out, and counts among the 64.
+ * Codes 1, 3, 4, 15, 7, 10, 17, in this order; 15 for every box on a single-main day. Value: the new
+ * box's number, as for silttongs_fork.
+ *
+ * To come back to what was marked is to fork the mark: nothing is rewound, and all other boxes go on.
+ * A box that was forked from a mark can never be taken over by box 0, since nobody joins into a marked
+ * box: that join gives 11. Only boxes that come later from the same mark can take it over. So the list
+ * of the box that came back is the result, not that of box 0. */
+uint64_t silttongs_mark(uint8_t *table, size_t length, uint8_t box, const uint8_t *name,
+                        size_t name_length);
+
+/* Drops the mark of a name. Its number is free as if it were handed in, in the one order of joins,
+ * syncs and drops: it gives 4 until it is used again. The name is free too. Boxes that were forked from
+ * the mark stay. Codes 1, 18; 18 also for what is no name. Value: 0. */
+uint64_t silttongs_drop(uint8_t *table, size_t length, const uint8_t *name, size_t name_length);
 
 /* Writes the updates visible on a box to the sheet, in the order in which they apply, whatever
  * their numbers. Codes 1, 3, 4, 7, 12. Value: their count n.
@@ -150,14 +175,14 @@ uint64_t silttongs_fill(const uint8_t *table, size_t length, uint8_t box);
 
 /* Enters 1 to 64 updates on a box and closes the tablet's transaction there, which they open if need
  * be: as silttongs_update one by one and then silttongs_yield, but all or none. Codes 1, then 14, then
- * that of the earliest update that would be refused, 2 to 9. Value: the first update's number.
+ * that of the earliest update that would be refused, 2 to 9 or 16. Value: the first update's number.
  *
  * A record has 12 bytes, laid out as an entry of a listing; its tablet and number are not looked at. */
 uint64_t silttongs_bundle(uint8_t *table, size_t length, uint8_t tablet, uint8_t box,
                           const uint8_t *records, size_t records_length);
 
 /* Tells what a join would bring: the state and value of a bib at the joiner after it, and
- * silttongs_gain, how many updates the joiner would gain. Codes 1, 3, 4, 15, 7, 11 as for the join,
+ * silttongs_gain, how many updates the joiner would gain. Codes 1, 3, 4, 15, 16, 7, 11 as for the join,
  * and then 5, for the bib. In a refusal the state is SILTTONGS_NEITHER, value and gain are 0.
  *
  * The table is only read: a preview is no event. */

@@ -3,3 +3,4 @@ pub mod Transfer
 pub mod Joining
 pub mod Invariant
 pub mod Past
+pub mod Dropping

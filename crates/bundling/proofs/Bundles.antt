@@ -15,7 +15,7 @@ use Rattle.bundles.specs.Packed.{bundleCheck}
 use Rattle.bundles.specs.declared.check.BundleCheck.the-variants.{Wrong}
 use Rattle.bundles.proofs.First.{Counted, some-of, uncounted}
 use Rattle.cells.specs.Decode.{cells}
-use Rattle.cells.specs.Checks.{isClient, givenOut, joined, openElsewhere, busyByOther, stale, logFull}
+use Rattle.cells.specs.Checks.{isClient, givenOut, joined, isMark, openElsewhere, busyByOther, stale, logFull}
 use Rattle.sizes.specs.declared.numbers.Client.{Client}
 use Rattle.sizes.specs.declared.numbers.Revision.{Revision}
 use Rattle.table.specs.Halves.{low, cellsOf, isTable}
@@ -36,13 +36,14 @@ checks-are : (d : List ℕ) (c n k bib : ℕ)
     ≡ cond (not (isClient c)) (update.Refused 2) (
     cond (not (givenOut (cells d) n)) (update.Refused 3) (
     cond (joined (cells d) n) (update.Refused 4) (
+    cond (isMark (cells d) n) (update.Refused 16) (
     cond (badBib bib) (update.Refused 5) (
     onKind (kindCheck k) (update.Refused 5) (λ kind.
     cond (openElsewhere (cells d) c n) (update.Refused 6) (
     cond (busyByOther (cells d) c n) (update.Refused 7) (
     cond (stale (cells d) c n) (update.Refused 8) (
     cond (logFull (cells d)) (update.Refused 9) (
-    update.Allowed (record { 0 = c }) (record { 0 = n }) kind)))))))))
+    update.Allowed (record { 0 = c }) (record { 0 = n }) kind))))))))))
 unfolding updateCheck
 checks-are d c n k bib = simp (client-is, given-is)
 
@@ -66,13 +67,14 @@ first-settles t h c n k bib =
     (settles-cond t c n (not (isClient c)) 1 _ (λ z. omega arith) λ e2.
     settles-cond t c n (not (givenOut (cellsOf t) n)) 2 _ (λ z. omega arith) λ e3.
     settles-cond t c n (joined (cellsOf t) n) 3 _ (λ z. omega arith) λ e4.
+    settles-cond t c n (isMark (cellsOf t) n) 15 _ (λ z. omega arith) λ e16.
     settles-cond t c n (badBib bib) 4 _ (λ z. omega arith) λ e5.
     settles-kind t c n (kindCheck k) _ λ kind.
     settles-cond t c n (openElsewhere (cellsOf t) c n) 5 _ (λ z. omega arith) λ e6.
     settles-cond t c n (busyByOther (cellsOf t) c n) 6 _ (λ z. omega arith) λ e7.
     settles-cond t c n (stale (cellsOf t) c n) 7 _ (λ z. omega arith) λ e8.
     settles-cond t c n (logFull (cellsOf t)) 8 _ (λ z. omega arith) λ e9.
-    (record { sound = h; client = not-false (isClient c) e2; given = not-false (givenOut (cellsOf t) n) e3; out = e4; here = e6; alone = e7; seen = e8 }, refl, refl))
+    (record { sound = h; client = not-false (isClient c) e2; given = not-false (givenOut (cellsOf t) n) e3; out = e4; unmarked = e16; here = e6; alone = e7; seen = e8 }, refl, refl))
 
 -- a bundle whose first update is refused
 pub first-refusal : (t : List ℕ) (c n : ℕ) (e : Entry) (es : List Entry) (code : ℕ) → refused t code ≡ updateOut t c n (e .kind) (e .bib) (e .v) → (code ≡ 0 → ⊥) → refused t code ≡ settled t (sentOut t c n (e ∷ es))

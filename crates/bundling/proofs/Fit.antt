@@ -69,7 +69,7 @@ module _ (c n : ℕ) where
   update-is : (t : List ℕ) → Going t c n → (e : Entry)
       → updateOut t c n (e .kind) (e .bib) (e .v) ≡ settle (5 if (badBib (e .bib) || badKind (e .kind)) ∷ 9 if logFull (cellsOf t) ∷ []) (refused t) (Allowed t e (kindOf (e .kind)))
   unfolding updateOut
-  update-is t G e = rw (G .sound, G .client, G .given, G .out, G .here, G .alone, G .seen)
+  update-is t G e = rw (G .sound, G .client, G .given, G .out, G .unmarked, G .here, G .alone, G .seen)
 
   -- what is known of an entry that fits
   pub record Fit (t : List ℕ) (e : Entry) : Type 0 where

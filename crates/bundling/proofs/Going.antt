@@ -16,7 +16,7 @@ use Rattle.cells.specs.Sizes.{clients, revisions, updates}
 use Rattle.cells.specs.Cells.{Cells}
 use Rattle.cells.specs.Decode.{cells}
 use Rattle.cells.specs.Range.{inRange}
-use Rattle.cells.specs.Checks.{givenOut, joined, openElsewhere, busyByOther, stale}
+use Rattle.cells.specs.Checks.{givenOut, joined, isMark, openElsewhere, busyByOther, stale}
 use Rattle.cells.specs.CellSteps.{updateCells}
 use Rattle.cells.specs.Steps.{updateBytes}
 use Rattle.cells.proofs.Decoded.{update-decoded}
@@ -77,6 +77,7 @@ module _ (t : List ℕ) (c n : ℕ) (G : Going t c n) where
       client = G .client;
       given = ap (λ k. givenOut k n) cells-are ∙ G .given;
       out = ap (λ k. joined k n) cells-are ∙ G .out;
+      unmarked = ap (λ k. isMark k n) cells-are ∙ G .unmarked;
       here = ap (λ k. openElsewhere k c n) cells-are ∙ opened-here (cellsOf t);
       alone = ap (λ k. busyByOther k c n) cells-are ∙ alone-still (cellsOf t) ∙ G .alone;
       seen = ap (λ k. stale k c n) cells-are ∙ seen-now (cellsOf t);

@@ -10,7 +10,7 @@ use Rattle.updates.specs.declared.kind.KindCheck.{KindCheck}
 use Rattle.updates.specs.declared.kind.KindCheck.the-variants as kinds
 use Rattle.bundles.specs.declared.entry.Entry.{Entry}
 use Rattle.cells.specs.Sizes.{updates}
-use Rattle.cells.specs.Checks.{isClient, givenOut, joined, openElsewhere, busyByOther, stale}
+use Rattle.cells.specs.Checks.{isClient, givenOut, joined, isMark, openElsewhere, busyByOther, stale}
 use Rattle.checks.specs.declared.log.LogCheck.{LogCheck}
 use Rattle.checks.specs.declared.log.LogCheck.the-variants as log
 use Rattle.cells.specs.Steps.{updateBytes}
@@ -21,12 +21,13 @@ use Rattle.table.specs.Found.{onKind}
 use Rattle.bundling.specs.declared.bundle.FitCheck.{FitCheck}
 use Rattle.bundling.specs.declared.bundle.FitCheck.the-variants.{Fits, Refused}
 
--- 2, 3, 4, 6, 7, 8 do not apply: they do not change while one client enters updates on one revision
+-- 2, 3, 4, 16, 6, 7, 8 do not apply: they do not change while one client enters updates on one revision
 pub record Going (t : List ℕ) (c n : ℕ) : Type 0 where
   pub sound : isTable t ≡ true
   pub client : isClient c ≡ true
   pub given : givenOut (cellsOf t) n ≡ true
   pub out : joined (cellsOf t) n ≡ false
+  pub unmarked : isMark (cellsOf t) n ≡ false
   pub here : openElsewhere (cellsOf t) c n ≡ false
   pub alone : busyByOther (cellsOf t) c n ≡ false
   pub seen : stale (cellsOf t) c n ≡ false

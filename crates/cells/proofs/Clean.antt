@@ -1,15 +1,18 @@
 -- A number that is used again starts clean.
 use Prim.Native.Nat.{ℕ}
+use mathlib.Core.Bool.{true, false≢true}
 use mathlib.Core.Path.{_≡_, refl, ap}
 use lib.Dec.{eqb}
 use lib.ListN.{take}
-use borrow.Author.Tests.{eqb-false}
+use borrow.Author.Tests.{eq-eqb, eqb-false}
 use Rattle.lists.specs.Lists.{changed}
 use Rattle.lists.specs.Arranged.{insertBefore}
+use Rattle.lists.specs.Names.{Name}
 use Rattle.lists.proofs.Cases.{cases}
 use Rattle.cells.specs.Sizes.{main, revisions, updates}
 use Rattle.cells.specs.Cells.{Cells, chain, own, flagged}
-use Rattle.cells.specs.CellSteps.{forkCells, forkRow}
+use Rattle.cells.specs.Checks.{isMark}
+use Rattle.cells.specs.CellSteps.{forkCells, forkRow, markCells}
 use Rattle.cells.specs.Clean.{SameBut, ShowsSame, StartsClean}
 
 -- changed to the same at c, and the same elsewhere
@@ -40,6 +43,10 @@ module _ (c : ℕ) (k k′ : Cells) (S : SameBut c k k′) (p : ℕ) (np : p ≡
       (λ t. rw t)
       (λ t. cases (eqb x c) (λ u. rw (t, u) (S .seen p y np (eqb-false y c t))) (λ u. rw (t, u) (S .seen x y (eqb-false x c u) (eqb-false y c t))))
 
+  -- c, whose name may be left of an earlier bearer, is no mark
+  new-name : (r : ℕ) → isMark (forkCells k p c) r ≡ true → k .name r ≡ k′ .name r
+  new-name r m = S .name r (λ e. false≢true (rw (eq-eqb r c e) at m))
+
   clean : ShowsSame (forkCells k p c) (forkCells k′ p c)
   clean = record {
     state = changed-alike (k .state) (k′ .state) c _ _ refl (S .state);
@@ -55,8 +62,30 @@ module _ (c : ℕ) (k k′ : Cells) (S : SameBut c k k′) (p : ℕ) (np : p ≡
     opened = S .opened;
     updates = S .updates;
     given = rw (S .given);
+    name = new-name;
     single = S .single;
   }
 
+  clean-mark : (n : Name) → ShowsSame (markCells k p c n) (markCells k′ p c n)
+  clean-mark n =
+      let f = clean in
+      record {
+        state = changed-alike (k .state) (k′ .state) c _ _ refl (S .state);
+        count = f .count;
+        base = f .base;
+        own = f .own;
+        inherited = f .inherited;
+        seen = f .seen;
+        caught = f .caught;
+        layout = f .layout;
+        out = f .out;
+        queue = f .queue;
+        opened = f .opened;
+        updates = f .updates;
+        given = f .given;
+        name = λ r m. changed-alike (k .name) (k′ .name) c n n refl (S .name) r;
+        single = f .single;
+      }
+
 pub starts-clean : StartsClean
-starts-clean = clean
+starts-clean c k k′ S p np nm = (clean c k k′ S p np nm, clean-mark c k k′ S p np nm)

@@ -4,18 +4,21 @@ use mathlib.Core.Bool.{Bool}
 use mathlib.Core.Path.{_≡_, _∙_, ap}
 use mathlib.Core.List.{List}
 use native.Mathlib.Omega.{arith}
+use lib.ListN.{length}
+use Rattle.lists.specs.Names.{Name}
 use Rattle.cells.specs.Sizes.{clients, main, revisions, updates}
 use Rattle.cells.specs.Parts.{Parts, Sized, glue, split}
 use Rattle.cells.specs.Cells.{Cells}
 use Rattle.cells.specs.Decode.{cells, decode}
-use Rattle.cells.specs.CellSteps.{freshCells, queryCells, updateCells, closeCells, forkCells, joinCells}
-use Rattle.cells.specs.Steps.{freshParts, queryParts, updateParts, closeParts, forkParts, joinParts, freshBytes, queryBytes, updateBytes, closeBytes, forkBytes, joinBytes}
-use Rattle.cells.proofs.Follow.{close-follows, join-follows, query-follows, update-follows}
-use Rattle.cells.proofs.FollowFork.{fork-follows}
+use Rattle.cells.specs.CellSteps.{freshCells, queryCells, updateCells, closeCells, forkCells, markCells, dropCells, joinCells}
+use Rattle.cells.specs.Steps.{freshParts, queryParts, updateParts, closeParts, forkParts, markParts, dropParts, joinParts}
+use Rattle.cells.specs.Steps.{freshBytes, queryBytes, updateBytes, closeBytes, forkBytes, markBytes, joinBytes, dropBytes}
+use Rattle.cells.proofs.Follow.{close-follows, drop-follows, join-follows, query-follows, update-follows}
+use Rattle.cells.proofs.FollowFork.{fork-follows, mark-follows}
 use Rattle.cells.proofs.FollowFresh.{fresh-follows}
 use Rattle.cells.proofs.Parts.{split-glue, split-sized}
 use Rattle.cells.proofs.Range.{Ranges, ranges}
-use Rattle.cells.proofs.Sized.{close-sized, fork-sized, fresh-sized, join-sized, query-sized, update-sized}
+use Rattle.cells.proofs.Sized.{close-sized, drop-sized, fork-sized, fresh-sized, join-sized, mark-sized, query-sized, update-sized}
 use Rattle.cells.proofs.Stays.{Lower}
 
 glued : (p : Parts) (k : Cells) → Sized p → decode p ≡ k → cells (glue p) ≡ k
@@ -52,6 +55,14 @@ module _ (d : List ℕ) (L : Lower d) where
   unfolding cells forkBytes
   fork-decoded q c ql cl pos = glued (forkParts p q c) _ (fork-sized sized q c cl) (fork-follows p sized q c ql cl pos)
 
+  pub mark-decoded : (q c : ℕ) (n : Name) → q < revisions → c < revisions → (c ≡ main → ⊥) → length n ≡ 4 → cells (markBytes d q c n) ≡ markCells (cells d) q c n
+  unfolding cells markBytes
+  mark-decoded q c n ql cl pos l = glued (markParts p q c n) _ (mark-sized sized q c n cl) (mark-follows p sized q c ql cl pos n l)
+
   pub join-decoded : (a b : ℕ) → a < revisions → b < revisions → cells (joinBytes d a b) ≡ joinCells (cells d) a b
   unfolding cells joinBytes
   join-decoded a b al bl = glued (joinParts p a b) _ (join-sized sized a b al) (join-follows p sized a b al bl (R .first b bl) (R .last a al))
+
+  pub drop-decoded : (r : ℕ) → r < revisions → cells (dropBytes d r) ≡ dropCells (cells d) r
+  unfolding cells dropBytes
+  drop-decoded r rl = glued (dropParts p r) _ (drop-sized sized r) (drop-follows p sized r rl)

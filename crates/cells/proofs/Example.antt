@@ -1,8 +1,9 @@
--- Steps on the cells without their checks, computed: forks of forks, updates on each, joins, and what the checks say after them.
+-- Steps on the cells without their checks, computed: forks of forks, updates on each, joins, a mark and its drop, and what the checks say after them.
 use Prim.Native.Nat.{ℕ}
 use mathlib.Core.Bool.{true, false}
 use mathlib.Core.Path.{_≡_, refl}
 use mathlib.Core.List.{[], _∷_}
+use Rattle.lists.specs.Names.{Name, fourLetters}
 use Rattle.lists.specs.Sums.{anyBelow}
 use Rattle.lists.specs.Arranged.{insertBefore, remove, behind}
 use Rattle.cells.specs.Parts.{offset, size, rowsPart, lowPart, highPart, seenPart, caughtPart, statePart, usedPart, lastPart, firstPart, countPart}
@@ -10,9 +11,10 @@ use Rattle.cells.specs.Parts.{basePart, layoutPart, queuePart, openedPar
 use Rattle.cells.specs.Cells.{Cells, chain, freed, outs, flagged, nextNumber}
 use Rattle.cells.specs.Order.{order, picks}
 use Rattle.cells.specs.Checks.{isClient, givenOut, joined, offLine, openElsewhere, busy, busyByOther, stale, logFull, noneLeft, joinable}
+use Rattle.cells.specs.Checks.{isMark, bearerBelow, bearer, noSuchMark, badName}
 use Rattle.cells.specs.Decode.{decode}
 use Rattle.cells.specs.Steps.{freshParts}
-use Rattle.cells.specs.CellSteps.{freshCells, counted, oneFewer, updateCells, closeCells, forkRow, forkCells, joinCells}
+use Rattle.cells.specs.CellSteps.{freshCells, counted, oneFewer, updateCells, closeCells, forkRow, forkCells, markCells, dropCells, joinCells}
 
 -- client 0 updates revision 0, which forks 1; 1 updates and forks 2; 2, 0 and 1 update; 0 forks 3, which updates
 before : Cells
@@ -93,6 +95,7 @@ made updates out given = record {
   opened = λ c. 64;
   updates = updates;
   given = given;
+  name = λ r. [];
   single = false;
 }
 
@@ -119,6 +122,51 @@ flags-alone = refl
 third-order : order (forkCells before 2 4) 4 ≡ 0 ∷ 1 ∷ 2 ∷ []
 unfolding before order chain insertBefore remove behind counted
 third-order = refl
+
+-- 02, U9: after its first update revision 0 is marked as 1, ABCD, and goes on; 2 comes back to the mark
+abcd : Name
+abcd = 65 ∷ 66 ∷ 67 ∷ 68 ∷ []
+
+abce : Name
+abce = 65 ∷ 66 ∷ 67 ∷ 69 ∷ []
+
+marked : Cells
+marked = updateCells (markCells (updateCells (freshCells false) 0 0) 0 1 abcd) 0 0
+
+mark-order : order marked 1 ∷ order (forkCells marked 1 2) 2 ∷ order marked 0 ∷ [] ≡ (0 ∷ []) ∷ (0 ∷ []) ∷ (0 ∷ 1 ∷ []) ∷ []
+unfolding marked abcd order chain insertBefore behind counted
+mark-order = refl
+
+-- a mark is out; a box is none, nor is what was forked from a mark
+mark-state : isMark marked 1 ∷ joined marked 1 ∷ givenOut marked 1 ∷ isMark marked 0 ∷ isMark (forkCells marked 1 2) 2 ∷ [] ≡ true ∷ false ∷ true ∷ false ∷ false ∷ []
+unfolding marked
+mark-state = refl
+
+-- the last of the numbers 1 to 63 whose mark bears the name; on cells that no day made 0 may be marked, and is no mark
+bearers :
+    bearer marked abcd ∷ bearer marked abce ∷ bearer (markCells marked 0 63 abcd) abcd ∷ bearer (markCells (freshCells false) 0 0 abcd) abcd ∷ []
+    ≡ 1 ∷ 64 ∷ 63 ∷ 64 ∷ []
+unfolding marked abcd abce bearerBelow
+bearers = refl
+
+-- in use, and not; three letters, and a small one
+names :
+    badName marked abcd ∷ badName marked abce ∷ badName (freshCells false) abcd ∷ badName marked (65 ∷ 66 ∷ 67 ∷ []) ∷ badName marked (65 ∷ 66 ∷ 67 ∷ 97 ∷ []) ∷ []
+    ≡ true ∷ false ∷ false ∷ true ∷ true ∷ []
+unfolding marked abcd abce bearerBelow fourLetters
+names = refl
+
+-- a drop takes the number back, and the name may be given again
+dropped : Cells
+dropped = dropCells marked 1
+
+drop-state : joined dropped 1 ∷ isMark dropped 1 ∷ noSuchMark dropped abcd ∷ badName dropped abcd ∷ [] ≡ true ∷ false ∷ true ∷ false ∷ []
+unfolding dropped marked abcd bearerBelow fourLetters
+drop-state = refl
+
+drop-frees : outs marked ∷ outs dropped ∷ freed dropped ∷ [] ≡ (1 ∷ 0 ∷ []) ∷ (0 ∷ []) ∷ (1 ∷ []) ∷ []
+unfolding dropped marked insertBefore remove oneFewer
+drop-frees = refl
 
 -- each entry once, in its order
 picked : picks 1 (λ u. true) (5 ∷ 6 ∷ []) ≡ 5 ∷ 6 ∷ []

@@ -1,7 +1,7 @@
--- A step on the parts is the step on the cells: query, update, close and join.
+-- A step on the parts is the step on the cells: query, update, close, drop and join.
 use Prim.Native.Nat.{ℕ, suc, _+_, _<_}
 use mathlib.Core.Bool.{Bool, true, false, cond, _&&_, _||_}
-use mathlib.Core.Path.{_≡_, refl, _∙_, fun-ext}
+use mathlib.Core.Path.{_≡_, refl, _∙_, ap, fun-ext}
 use native.Mathlib.Omega.{arith}
 use lib.Dec.{eqb, ltb}
 use lib.ListN.{set}
@@ -9,18 +9,19 @@ use lib.Seq.{getD-set-same, getD-set-other}
 use borrow.Author.Tests.{eq-eqb, eqb-true, lt-ltb}
 use Rattle.lists.specs.Lists.{changed}
 use Rattle.lists.proofs.Cases.{cases}
-use Rattle.cells.specs.Sizes.{revisions, clients, updates, closed}
+use Rattle.cells.specs.Sizes.{revisions, clients, updates, closed, stateJoined}
 use Rattle.cells.specs.Parts.{Parts, Sized, size, lowPart, highPart, seenPart, caughtPart, statePart, lastPart, firstPart, countPart, openedPart, countersPart}
 use Rattle.cells.specs.Words.{byte}
 use Rattle.cells.specs.Flags.{flagIn, putRow}
 use Rattle.cells.specs.Cells.{Cells}
 use Rattle.cells.specs.Decode.{decode}
 use Rattle.lists.specs.Pool.{joinPool}
-use Rattle.cells.specs.CellSteps.{counted, oneFewer, onlyCaught, queryCells, updateCells, closeCells, joinCaught, joinCells}
-use Rattle.cells.specs.Steps.{queryParts, updateParts, closeParts, joinParts}
+use Rattle.cells.specs.CellSteps.{counted, oneFewer, onlyCaught, queryCells, updateCells, closeCells, joinCaught, mergeCells, dropCells, joinCells}
+use Rattle.cells.specs.Steps.{queryParts, updateParts, closeParts, mergeParts, dropParts, joinParts}
 use Rattle.cells.proofs.Tables.{getD-changed}
 use Rattle.cells.proofs.Words.{word-put, byte-put-other, word-set-other, link-put}
 use Rattle.cells.proofs.Flags.{flag-row, Within, flags-within, flag-pack}
+use Rattle.cells.proofs.Sized.{merge-sized}
 
 -- a test that implies a bound
 pub bounded : (b : Bool) (x n : ℕ) → (b ≡ true → x < n) → (ltb x n && b) ≡ b
@@ -56,6 +57,7 @@ module _ (p : Parts) (h : Sized p) (c r : ℕ) (cl : c < clients) (rl : r < revi
     opened = fun-ext (opened-changed r) i;
     updates = decode p .updates;
     given = decode p .given;
+    name = decode p .name;
     single = decode p .single;
   }
 
@@ -77,6 +79,7 @@ module _ (p : Parts) (h : Sized p) (c r : ℕ) (cl : c < clients) (rl : r < revi
     opened = fun-ext (opened-changed closed) i;
     updates = decode p .updates;
     given = decode p .given;
+    name = decode p .name;
     single = decode p .single;
   }
 
@@ -110,6 +113,7 @@ module _ (p : Parts) (h : Sized p) (c r : ℕ) (cl : c < clients) (rl : r < revi
           opened = fun-ext (opened-changed r) i;
           updates = word-put (p countersPart) 0 (suc u) 0 (omega arith) i;
           given = byte-put-other (p countersPart) 0 (suc u) 3 (omega arith) (omega arith) i;
+          name = decode p .name;
           single = decode p .single;
         }
 
@@ -131,61 +135,91 @@ either-within : (l x y : Bool) → (l ≡ false → x ≡ false) → (l ≡ fals
 either-within true x y f g = refl
 either-within false x y f g = rw (f refl, g refl)
 
+module _ (p : Parts) (h : Sized p) (r : ℕ) (rl : r < revisions) where
+  pub drop-follows : decode (dropParts p r) ≡ dropCells (decode p) r
+  unfolding size
+  drop-follows =
+      let m = h .of statePart in
+      let n = h .of countersPart in
+      let out = oneFewer (decode p .out) in
+      λ i. record {
+        state = fun-ext (λ x. getD-changed (p statePart) r stateJoined 0 x (omega arith)) i;
+        used = decode p .used;
+        last = decode p .last;
+        first = decode p .first;
+        count = decode p .count;
+        base = decode p .base;
+        row = decode p .row;
+        link = decode p .link;
+        seen = decode p .seen;
+        caught = decode p .caught;
+        layout = decode (dropParts p r) .layout;
+        out = getD-set-same (p countersPart) 2 out 0 (omega arith) i;
+        queue = decode (dropParts p r) .queue;
+        opened = decode p .opened;
+        updates = word-set-other (p countersPart) 0 out 2 (omega arith) (omega arith) i;
+        given = getD-set-other (p countersPart) 2 3 out 0 (omega arith) i;
+        name = decode p .name;
+        single = decode p .single;
+      }
+
 module _ (p : Parts) (h : Sized p) (a b : ℕ) (al : a < revisions) (bl : b < revisions) (fl : decode p .first b < updates) (ll : decode p .last a < updates) where
   abbrev k : Cells
   k = decode p
 
-  join-seen : (x y : ℕ) → decode (joinParts p a b) .seen x y ≡ joinPool (k .seen) a b x y
+  merge-seen : (x y : ℕ) → decode (mergeParts p a b) .seen x y ≡ joinPool (k .seen) a b x y
   unfolding size
-  join-seen x y =
+  merge-seen x y =
       let w = flags-within revisions (p seenPart) in
       let out = outside-column revisions (k .seen) w in
       flag-row 8 revisions (p seenPart) a (joinPool (k .seen) a b a) (h .of seenPart) al x y
       ∙ cases (eqb x a) (λ e. rw (e, eq-eqb a a refl) (either-within (ltb y 64) (k .seen a y) (k .seen b y) (out a y) (out b y))) (λ e. rw e)
 
-  join-caught : (x y : ℕ) → decode (joinParts p a b) .caught x y ≡ joinCaught (k .caught) a b x y
-  join-caught =
+  merge-caught : (x y : ℕ) → decode (mergeParts p a b) .caught x y ≡ joinCaught (k .caught) a b x y
+  merge-caught =
       let w = flags-within clients (p caughtPart) in
       flag-pack clients (joinCaught (k .caught) a b)
       (within-column clients (k .caught) a _ al w (λ x e. rw (outside-row clients (k .caught) w x a e, outside-row clients (k .caught) w x b e)))
 
-  join-link : (x : ℕ) → decode (joinParts p a b) .link x ≡ joinCells k a b .link x
+  merge-link : (x : ℕ) → decode (mergeParts p a b) .link x ≡ mergeCells k a b .link x
   unfolding size
-  join-link x =
+  merge-link x =
       let m = h .of lowPart in
       let n = h .of highPart in
       cases (eqb (k .count b) 0) (λ e. rw e) (λ e. rw e (link-put (p lowPart) (p highPart) (k .first b) (k .last a) x (omega arith) (omega arith) ll))
 
-  join-last : (x : ℕ) → decode (joinParts p a b) .last x ≡ joinCells k a b .last x
+  merge-last : (x : ℕ) → decode (mergeParts p a b) .last x ≡ mergeCells k a b .last x
   unfolding size
-  join-last x = let m = h .of lastPart in cases (eqb (k .count b) 0) (λ e. rw e) (λ e. rw e (word-put (p lastPart) a (k .last b) x (omega arith)))
+  merge-last x = let m = h .of lastPart in cases (eqb (k .count b) 0) (λ e. rw e) (λ e. rw e (word-put (p lastPart) a (k .last b) x (omega arith)))
 
-  join-first : (x : ℕ) → decode (joinParts p a b) .first x ≡ joinCells k a b .first x
+  merge-first : (x : ℕ) → decode (mergeParts p a b) .first x ≡ mergeCells k a b .first x
   unfolding size
-  join-first x = let m = h .of firstPart in cases (eqb (k .count b) 0) (λ e. rw e) (λ e. rw e (word-put (p firstPart) a (cond (eqb (k .count a) 0) (k .first b) (k .first a)) x (omega arith)))
+  merge-first x = let m = h .of firstPart in cases (eqb (k .count b) 0) (λ e. rw e) (λ e. rw e (word-put (p firstPart) a (cond (eqb (k .count a) 0) (k .first b) (k .first a)) x (omega arith)))
 
-  pub join-follows : decode (joinParts p a b) ≡ joinCells k a b
+  merge-follows : decode (mergeParts p a b) ≡ mergeCells k a b
   unfolding size
-  join-follows =
+  merge-follows =
       let m = h .of countPart in
-      let n = h .of statePart in
-      let o = h .of countersPart in
       λ i. record {
-        state = fun-ext (λ x. getD-changed (p statePart) b 2 0 x (omega arith)) i;
+        state = decode p .state;
         used = decode p .used;
-        last = fun-ext join-last i;
-        first = fun-ext join-first i;
+        last = fun-ext merge-last i;
+        first = fun-ext merge-first i;
         count = fun-ext (λ x. word-put (p countPart) a (counted (k .count a + k .count b)) x (omega arith)) i;
         base = decode p .base;
         row = decode p .row;
-        link = fun-ext join-link i;
-        seen = fun-ext (λ x. fun-ext (join-seen x)) i;
-        caught = fun-ext (λ x. fun-ext (join-caught x)) i;
-        layout = decode (joinParts p a b) .layout;
-        out = getD-set-same (p countersPart) 2 (oneFewer (k .out)) 0 (omega arith) i;
-        queue = decode (joinParts p a b) .queue;
+        link = fun-ext merge-link i;
+        seen = fun-ext (λ x. fun-ext (merge-seen x)) i;
+        caught = fun-ext (λ x. fun-ext (merge-caught x)) i;
+        layout = decode p .layout;
+        out = decode p .out;
+        queue = decode p .queue;
         opened = decode p .opened;
-        updates = word-set-other (p countersPart) 0 (oneFewer (k .out)) 2 (omega arith) (omega arith) i;
-        given = getD-set-other (p countersPart) 2 3 (oneFewer (k .out)) 0 (omega arith) i;
+        updates = decode p .updates;
+        given = decode p .given;
+        name = decode p .name;
         single = decode p .single;
       }
+
+  pub join-follows : decode (joinParts p a b) ≡ joinCells k a b
+  join-follows = drop-follows (mergeParts p a b) (merge-sized h a b al) b bl ∙ ap (λ m. dropCells m b) merge-follows

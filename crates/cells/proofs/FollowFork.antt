@@ -1,4 +1,4 @@
--- A fork on the parts is the fork on the cells.
+-- A fork on the parts is the fork on the cells, and a mark is the mark.
 use Prim.Native.Nat.{ℕ, zero, suc, _<_}
 use mathlib.Core.Bool.{Bool, false, cond, _&&_, and-self-left}
 use mathlib.Core.Path.{_≡_, refl, sym, _∙_, fun-ext}
@@ -9,16 +9,17 @@ use lib.ListN.{length, set, length-set}
 use lib.Seq.{getD-set-same, getD-set-other}
 use borrow.Author.Tests.{eqb-true, eqb-false, eq-eqb, ne-eqb, ltb-false}
 use Rattle.lists.specs.Lists.{changed}
+use Rattle.lists.specs.Names.{Name}
 use Rattle.lists.proofs.Cases.{cases}
-use Rattle.cells.specs.Sizes.{revisions, clients, updates, main, stateOut}
-use Rattle.cells.specs.Parts.{Parts, Sized, size, rowsPart, seenPart, caughtPart, statePart, usedPart, countPart, basePart, countersPart}
+use Rattle.cells.specs.Sizes.{revisions, clients, updates, main, stateOut, stateMarked}
+use Rattle.cells.specs.Parts.{Parts, Sized, size, rowsPart, seenPart, caughtPart, statePart, usedPart, countPart, basePart, countersPart, namesPart}
 use Rattle.cells.specs.Cells.{Cells}
 use Rattle.cells.specs.Decode.{decode, rowOf}
 use Rattle.lists.specs.Pool.{forkPool}
-use Rattle.cells.specs.CellSteps.{forkCaught, forkRow, forkGiven, forkQueue, forkCells}
-use Rattle.cells.specs.Steps.{putRowOf, forkParts}
+use Rattle.cells.specs.CellSteps.{forkCaught, forkRow, forkGiven, forkQueue, forkCells, markCells}
+use Rattle.cells.specs.Steps.{putRowOf, forkParts, markParts}
 use Rattle.cells.proofs.Tables.{getD-changed}
-use Rattle.cells.proofs.Words.{word-put, word-set-other}
+use Rattle.cells.proofs.Words.{name-put, word-put, word-set-other}
 use Rattle.cells.proofs.Flags.{flag-row, Within, flags-within, flag-pack}
 use Rattle.cells.proofs.Follow.{within-column, outside-row, outside-column}
 
@@ -95,5 +96,35 @@ module _ (p : Parts) (h : Sized p) (q c : ℕ) (ql : q < revisions) (cl : c < re
         opened = k .opened;
         updates = (word-set-other two 0 (forkGiven k) 3 (omega arith) (omega arith) ∙ word-set-other (p countersPart) 0 (suc (k .out)) 2 (omega arith) (omega arith)) i;
         given = getD-set-same two 3 (forkGiven k) 0 (rw length-set (omega arith)) i;
+        name = k .name;
         single = k .single;
+      }
+
+  -- 02, U9: a fork with a name
+  pub mark-follows : (n : Name) → length n ≡ 4 → decode (markParts p q c n) ≡ markCells k q c n
+  unfolding size
+  mark-follows n l =
+      let m = h .of statePart in
+      let w = h .of namesPart in
+      λ i.
+      let f = fork-follows i in
+      record {
+        state = fun-ext (λ x. getD-changed (p statePart) c stateMarked 0 x (omega arith)) i;
+        used = f .used;
+        last = f .last;
+        first = f .first;
+        count = f .count;
+        base = f .base;
+        row = f .row;
+        link = f .link;
+        seen = f .seen;
+        caught = f .caught;
+        layout = f .layout;
+        out = f .out;
+        queue = f .queue;
+        opened = f .opened;
+        updates = f .updates;
+        given = f .given;
+        name = fun-ext (λ x. name-put (p namesPart) c n x (omega arith) l) i;
+        single = f .single;
       }

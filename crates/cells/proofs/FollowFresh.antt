@@ -2,7 +2,7 @@
 use Prim.Native.Nat.{ℕ, zero, suc, _+_, _*_, _/_, _%_}
 use mathlib.Core.Bool.{Bool, true, false, cond, _&&_, and-true}
 use mathlib.Core.Path.{_≡_, refl, _∙_, ap, fun-ext}
-use mathlib.Core.List.{List}
+use mathlib.Core.List.{List, [], _∷_}
 use native.Mathlib.Nat.{zero-div}
 use native.Mathlib.Omega.{arith}
 use lib.Dec.{eqb, ltb}
@@ -10,8 +10,8 @@ use lib.ListN.{replicate, getD-replicate, List·getD-eq-default}
 use borrow.Author.Tests.{ltb-true, ltb-false}
 use Rattle.lists.proofs.Cases.{cases}
 use Rattle.cells.specs.Sizes.{revisions, clients, main, closed, stateOut}
-use Rattle.cells.specs.Parts.{size, rowsPart, lowPart, highPart, seenPart, usedPart, lastPart, firstPart, countPart, basePart}
-use Rattle.cells.specs.Words.{byte, word, half, linkIn}
+use Rattle.cells.specs.Parts.{size, rowsPart, lowPart, highPart, seenPart, usedPart, lastPart, firstPart, countPart, basePart, namesPart}
+use Rattle.cells.specs.Words.{byte, word, half, linkIn, nameIn}
 use Rattle.cells.specs.Flags.{flagIn}
 use Rattle.cells.specs.Decode.{decode, rowOf}
 use Rattle.cells.specs.CellSteps.{freshCells}
@@ -30,6 +30,9 @@ zero-byte (suc n) (suc i) = zero-byte n i
 zero-word : (n i : ℕ) → word (zeros n) i ≡ 0
 unfolding word
 zero-word n i = rw (zero-byte n (2 * i), zero-byte n (2 * i + 1))
+
+zero-name : (n r : ℕ) → nameIn (zeros n) r ≡ 0 ∷ 0 ∷ 0 ∷ 0 ∷ []
+zero-name n r = rw (zero-byte n (4 * r), zero-byte n (4 * r + 1), zero-byte n (4 * r + 2), zero-byte n (4 * r + 3))
 
 zero-flag : (w m n x y : ℕ) → flagIn w m (zeros n) x y ≡ false
 zero-flag w m n x y = rw (zero-byte n (w * x + y / 8), zero-div) (cases (ltb x m && ltb y (8 * w)) (λ e. rw e) (λ e. rw e))
@@ -78,5 +81,6 @@ fresh-follows single = λ i. record {
   opened = fun-ext (fresh-opened single) i;
   updates = 0;
   given = 1;
+  name = fun-ext (zero-name (size namesPart)) i;
   single = choice single i;
 }

@@ -11,6 +11,7 @@ pub mod Follow
 pub mod FollowFork
 pub mod FollowFresh
 pub mod Range
+pub mod Bearer
 pub mod Example
 pub mod Stays
 pub mod Decoded

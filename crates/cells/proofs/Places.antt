@@ -1,4 +1,4 @@
--- The layout's and the queue's first places after a fork and a join: what the revisions out and the numbers handed in are then.
+-- The layout's and the queue's first places after a fork and a drop, and so after a join: what the revisions out and the numbers handed in are then.
 use Prim.Native.Nat.{ℕ, zero, suc, _-_, _<_, _≤_}
 use mathlib.Core.Path.{_≡_, refl, sym, _∙_, ap}
 use mathlib.Core.List.{List, [], _∷_, _++_, List·Memᴰ·cases-cons, List·Memᴰ·eq-of-singleton, List·Memᴰ·not-nil}
@@ -13,7 +13,7 @@ use Rattle.lists.specs.Arranged.{insertBefore, remove}
 use Rattle.lists.proofs.Cases.{cases, either}
 use Rattle.cells.specs.Sizes.{revisions}
 use Rattle.cells.specs.Cells.{Cells, freed, outs}
-use Rattle.cells.specs.CellSteps.{forkCells, joinCells}
+use Rattle.cells.specs.CellSteps.{forkCells, dropCells}
 use Rattle.cells.proofs.Stops.{fewer-is}
 
 take-insert : (q c n : ℕ) (l : List ℕ) → q ∈ take n l → take (suc n) (insertBefore q c l) ≡ insertBefore q c (take n l)
@@ -70,13 +70,13 @@ two-out k a b i j d = go (k .out) (k .layout) i j
     go (suc zero) (x ∷ l) i j = absurd (d (List·Memᴰ·eq-of-singleton i ∙ sym (List·Memᴰ·eq-of-singleton j)))
     go (suc (suc n)) l i j = omega arith
 
--- a joinee that is in the layout is out of it
-pub join-outs : (k : Cells) (a b : ℕ) → length (k .layout) ≡ revisions → 1 < k .out → k .out ≤ revisions → b ∈ outs k → outs (joinCells k a b) ≡ remove b (outs k)
-join-outs k a b l o h m = rw (fewer-is (k .out) o) (go (k .out) h m)
+-- a revision dropped or joined that is in the layout is out of it
+pub drop-outs : (k : Cells) (r : ℕ) → length (k .layout) ≡ revisions → 1 < k .out → k .out ≤ revisions → r ∈ outs k → outs (dropCells k r) ≡ remove r (outs k)
+drop-outs k r l o h m = rw (fewer-is (k .out) o) (go (k .out) h m)
   where
-    go : (n : ℕ) → n ≤ revisions → b ∈ take n (k .layout) → take (n - 1) (take revisions (remove b (k .layout) ++ (0 ∷ []))) ≡ remove b (take n (k .layout))
+    go : (n : ℕ) → n ≤ revisions → r ∈ take n (k .layout) → take (n - 1) (take revisions (remove r (k .layout) ++ (0 ∷ []))) ≡ remove r (take n (k .layout))
     go zero g i = absurd (List·Memᴰ·not-nil i)
-    go (suc n) g i = rw sub-one (take-take n revisions (remove b (k .layout) ++ (0 ∷ [])) (omega arith) ∙ take-remove b n (k .layout) (omega arith) i)
+    go (suc n) g i = rw sub-one (take-take n revisions (remove r (k .layout) ++ (0 ∷ [])) (omega arith) ∙ take-remove r n (k .layout) (omega arith) i)
 
 -- the queue after a fork: as it was while a number was never used, else without its first place, whose number is given
 module _ (k : Cells) (q c : ℕ) where
@@ -95,8 +95,8 @@ first-freed k o = let z : k .given - k .out ≡ suc (k .given - suc (k .out)) = 
     first n [] = refl
     first n (x ∷ l) = refl
 
--- after a join the joinee's number is last
-pub join-freed : (k : Cells) (a b : ℕ) → length (k .queue) ≡ revisions → 1 < k .out → k .out ≤ k .given → k .given ≤ revisions → freed (joinCells k a b) ≡ freed k ++ (b ∷ [])
-join-freed k a b l p o m =
+-- after a drop, and so after a join, the number is last
+pub drop-freed : (k : Cells) (r : ℕ) → length (k .queue) ≡ revisions → 1 < k .out → k .out ≤ k .given → k .given ≤ revisions → freed (dropCells k r) ≡ freed k ++ (r ∷ [])
+drop-freed k r l p o m =
     let z : k .given - (k .out - 1) ≡ suc (k .given - k .out) = omega arith in
-    rw (fewer-is (k .out) p, z) (take-suc-set (k .queue) (k .given - k .out) b (omega arith))
+    rw (fewer-is (k .out) p, z) (take-suc-set (k .queue) (k .given - k .out) r (omega arith))

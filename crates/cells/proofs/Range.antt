@@ -63,7 +63,7 @@ free t = true
 
 abbrev limits : List (List ℕ → Bool)
 limits =
-    free ∷ free ∷ free ∷ free ∷ free ∷ bytesBelow revisions 3 ∷ bytesBelow revisions 2
+    free ∷ free ∷ free ∷ free ∷ free ∷ bytesBelow revisions 4 ∷ bytesBelow revisions 2
     ∷ wordsBelow revisions 4096 ∷ wordsBelow revisions 4096 ∷ wordsBelow revisions 4097 ∷ wordsBelow revisions 4097
     ∷ bytesBelow revisions 64 ∷ queueIn ∷ bytesBelow clients 65 ∷ countersIn ∷ free ∷ bytesBelow 1 2 ∷ wordsBelow 1 4097 ∷ free ∷ free ∷ signed ∷ []
 
@@ -82,7 +82,7 @@ unfolding partIn every
 parts-ranged p e =
     let all = and-true (recordsIn p) (placesIn p && singlesIn p) e in
     let both = and-true (placesIn p) (singlesIn p) (all .1) in
-    let a = and-true (bytesBelow revisions 3 (p statePart)) _ (all .0) in
+    let a = and-true (bytesBelow revisions 4 (p statePart)) _ (all .0) in
     let b = and-true (bytesBelow revisions 2 (p usedPart)) _ (a .1) in
     let c = and-true (wordsBelow revisions 4096 (p lastPart)) _ (b .1) in
     let d = and-true (wordsBelow revisions 4096 (p firstPart)) _ (c .1) in

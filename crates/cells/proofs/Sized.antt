@@ -9,18 +9,20 @@ use lib.ListN.{length, set, take, replicate, length-set, length-replicate}
 use lib.Seq.{length-take-le}
 use Rattle.lists.specs.Lists.{restOf}
 use Rattle.lists.specs.Arranged.{insertBefore, remove}
-use Rattle.cells.specs.Sizes.{revisions, clients, main, closed, stateOut, stateJoined}
+use Rattle.lists.specs.Names.{Name}
+use Rattle.cells.specs.Sizes.{revisions, clients, main, closed, stateOut, stateJoined, stateMarked}
 use Rattle.cells.specs.Parts.{Parts, Sized, size, _⟨_≔_⟩, rowsPart, lowPart, highPart, seenPart, caughtPart, statePart, usedPart, lastPart, firstPart}
-use Rattle.cells.specs.Parts.{countPart, basePart, layoutPart, queuePart, openedPart, countersPart, singlePart, signaturePart}
-use Rattle.cells.specs.Words.{putWord, putHalf}
+use Rattle.cells.specs.Parts.{countPart, basePart, layoutPart, queuePart, openedPart, countersPart, namesPart, singlePart, signaturePart}
+use Rattle.cells.specs.Words.{putWord, putHalf, putName}
 use Rattle.cells.specs.Flags.{pack, putRow}
 use Rattle.cells.specs.Decode.{decode}
 use Rattle.cells.specs.Range.{signature}
 use Rattle.lists.specs.Pool.{forkPool, joinPool}
-use Rattle.cells.specs.CellSteps.{forkRow, forkCaught, forkGiven, forkQueue, spliced, joinCaught, joinQueue}
-use Rattle.cells.specs.Steps.{freshParts, queryParts, linkParts, appendParts, updateParts, closeParts, putRowOf, inheritParts, forkParts, spliceParts, joinParts}
+use Rattle.cells.specs.CellSteps.{oneFewer, forkRow, forkCaught, forkGiven, forkQueue, spliced, joinCaught}
+use Rattle.cells.specs.Steps.{freshParts, queryParts, linkParts, appendParts, updateParts, closeParts, putRowOf}
+use Rattle.cells.specs.Steps.{inheritParts, forkParts, markParts, spliceParts, mergeParts, dropParts, joinParts}
 use Rattle.cells.proofs.Parts.{sized-with}
-use Rattle.cells.proofs.Words.{putWord-length, putHalf-length}
+use Rattle.cells.proofs.Words.{putWord-length, putHalf-length, putName-length}
 use Rattle.cells.proofs.Flags.{putRow-length, pack-length}
 use Rattle.cells.proofs.Places.{insert-length, remove-length, shift-length}
 
@@ -100,6 +102,11 @@ fork-sized {p} h q c l =
     shifted true = h .of queuePart
     shifted false = let s = h .of queuePart in shift-length (p queuePart) (omega arith) ∙ s
 
+pub mark-sized : {p : Parts} → Sized p → (q c : ℕ) (n : Name) → c < revisions → Sized (markParts p q c n)
+mark-sized {p} h q c n l =
+    let s = sized-with (fork-sized h q c l) statePart (set (p statePart) c stateMarked) (length-set (p statePart) c _ ∙ h .of statePart) in
+    sized-with s namesPart (putName (p namesPart) c n) (putName-length (p namesPart) c n ∙ h .of namesPart)
+
 pub splice-sized : {p : Parts} → Sized p → (a b : ℕ) → Sized (spliceParts p a b)
 splice-sized {p} h a b =
     let k = decode p in
@@ -112,19 +119,20 @@ splice-sized {p} h a b =
     either-size true i l e = h .of i
     either-size false i l e = e ∙ h .of i
 
-pub join-sized : {p : Parts} → Sized p → (a b : ℕ) → a < revisions → Sized (joinParts p a b)
-unfolding size
-join-sized {p} h a b al =
+pub merge-sized : {p : Parts} → Sized p → (a b : ℕ) → a < revisions → Sized (mergeParts p a b)
+merge-sized {p} h a b l =
     let k = decode p in
     let s = sized-with (splice-sized h a b) countPart _ (putWord-length (p countPart) a _ ∙ h .of countPart) in
-    let m = caught-sized (seenRow-sized s a (joinPool (k .seen) a b a) al) (joinCaught (k .caught) a b) in
-    let t = sized-with m statePart (set (p statePart) b stateJoined) (length-set (p statePart) b _ ∙ h .of statePart) in
-    let l = sized-with t layoutPart (take revisions (remove b (p layoutPart) ++ (0 ∷ []))) (whole (remove b (p layoutPart) ++ (0 ∷ [])) (remove-length b (p layoutPart))) in
-    let q = sized-with l queuePart (joinQueue k b) (length-set (p queuePart) (k .given - k .out) b ∙ h .of queuePart) in
-    sized-with q countersPart _ (length-set (p countersPart) 2 _ ∙ h .of countersPart)
-  where
-    whole : (l : List ℕ) → length (p layoutPart) ≤ length l → length (take revisions l) ≡ size layoutPart
-    whole l m = let s = h .of layoutPart in length-take-le revisions l (omega arith)
+    caught-sized (seenRow-sized s a (joinPool (k .seen) a b a) l) (joinCaught (k .caught) a b)
+
+pub drop-sized : {p : Parts} → Sized p → (r : ℕ) → Sized (dropParts p r)
+drop-sized {p} h r =
+    let k = decode p in
+    let l = layout-sized (byte-sized h statePart r stateJoined) (remove r (p layoutPart) ++ (0 ∷ [])) (remove-length r (p layoutPart)) in
+    byte-sized (byte-sized l queuePart (k .given - k .out) r) countersPart 2 (oneFewer (k .out))
+
+pub join-sized : {p : Parts} → Sized p → (a b : ℕ) → a < revisions → Sized (joinParts p a b)
+join-sized h a b l = drop-sized (merge-sized h a b l) b
 
 pub fresh-sized : (single : Bool) → Sized (freshParts single)
 unfolding size signature

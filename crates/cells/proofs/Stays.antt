@@ -11,14 +11,15 @@ use lib.Seq.{getD-at, getD-set-other, getD-set-same}
 use borrow.Author.Tests.{eqb-false, lt-ltb, ltb-true, not-true}
 use Rattle.lists.specs.Lists.{_∈_, restOf}
 use Rattle.lists.specs.Arranged.{insertBefore, remove}
+use Rattle.lists.specs.Names.{Name}
 use Rattle.lists.proofs.Cases.{and-true, cases, cond-all, either}
 use Rattle.lists.proofs.Changed.{changed-at}
 use Rattle.lists.proofs.Places.{getD-in, insert-back, place, remove-back, rest-in, set-in, take-in}
-use Rattle.cells.specs.Sizes.{lowerBytes, revisions, clients, updates, main, closed, stateOut, stateJoined}
+use Rattle.cells.specs.Sizes.{lowerBytes, revisions, clients, updates, main, closed, stateOut, stateJoined, stateMarked}
 use Rattle.cells.specs.Tables.{every}
 use Rattle.cells.specs.Parts.{Parts, Sized, glue, size, split, rowsPart, lowPart, highPart, seenPart, caughtPart, statePart, usedPart, lastPart, firstPart}
-use Rattle.cells.specs.Parts.{countPart, basePart, layoutPart, queuePart, openedPart, countersPart}
-use Rattle.cells.specs.Words.{byte, word, putWord, putHalf}
+use Rattle.cells.specs.Parts.{countPart, basePart, layoutPart, queuePart, openedPart, countersPart, namesPart}
+use Rattle.cells.specs.Words.{byte, word, putWord, putHalf, putName}
 use Rattle.cells.specs.Flags.{pack, putRow}
 use Rattle.cells.specs.Cells.{Cells}
 use Rattle.cells.specs.Checks.{joinable}
@@ -26,11 +27,13 @@ use Rattle.cells.specs.Decode.{decode, cells}
 use Rattle.cells.specs.Range.{countersIn, inRange, partsIn, signature, wordsBelow}
 use Rattle.lists.specs.Pool.{forkPool, joinPool}
 use Rattle.cells.specs.CellSteps.{counted, oneFewer, forkCaught, forkGiven, forkQueue, forkRow, joinCaught, spliced}
-use Rattle.cells.specs.Steps.{freshParts, queryParts, appendParts, updateParts, closeParts, putRowOf, inheritParts, forkParts, spliceParts, joinParts, freshBytes, queryBytes, updateBytes, closeBytes, forkBytes, joinBytes}
+use Rattle.cells.specs.Steps.{freshParts, queryParts, appendParts, updateParts, closeParts, putRowOf}
+use Rattle.cells.specs.Steps.{inheritParts, forkParts, markParts, spliceParts, mergeParts, dropParts, joinParts}
+use Rattle.cells.specs.Steps.{freshBytes, queryBytes, updateBytes, closeBytes, forkBytes, markBytes, joinBytes, dropBytes}
 use Rattle.cells.proofs.Tables.{every-all, every-at}
 use Rattle.cells.proofs.Words.{byte-put-other, word-put, word-set-other}
 use Rattle.cells.proofs.Parts.{glue-length, split-glue, split-sized}
-use Rattle.cells.proofs.Sized.{append-sized, close-sized, fork-sized, fresh-sized, join-sized, query-sized, update-sized}
+use Rattle.cells.proofs.Sized.{append-sized, close-sized, drop-sized, fork-sized, fresh-sized, join-sized, mark-sized, merge-sized, query-sized, update-sized}
 use Rattle.cells.proofs.Places.{shift-length}
 use Rattle.cells.proofs.Stops.{counted-few, fewer-most, fewer-some}
 use Rattle.cells.proofs.Range.{Ranged, Ranges, counters-in, parts-ranged, partIn, ranged-in, ranged-ranges, ranged-with}
@@ -165,9 +168,15 @@ module _ {p : Parts} (s : Sized p) (h : Ranged p) where
       let l = s .of countersPart in
       let out = out-set t l (h .of countersPart) (suc (k .out)) (omega arith) (omega arith) in
       let a = ranged-with (ranged-with (inherit-ranged q c ql cl) seenPart (pack revisions (forkPool (k .seen) q c)) refl) caughtPart (pack clients (forkCaught (k .caught) q c)) refl in
-      let b = ranged-with a statePart _ (byte-ranged statePart revisions (λ b. ltb b 3) refl (λ t. refl) c stateOut refl) in
+      let b = ranged-with a statePart _ (byte-ranged statePart revisions (λ b. ltb b 4) refl (λ t. refl) c stateOut refl) in
       let d = ranged-with (ranged-with b layoutPart _ (fork-layout q c cl)) queuePart _ fork-queue in
       ranged-with d countersPart _ (given-set (set t 2 (suc (k .out))) (length-set t 2 (suc (k .out)) ∙ l) out (forkGiven k) (fork-given .0) (fork-given .1))
+
+  pub mark-ranged : (q c : ℕ) (n : Name) → q < revisions → c < revisions → k .out < revisions → Ranged (markParts p q c n)
+  unfolding partIn size
+  mark-ranged q c n ql cl room =
+      let a = ranged-with (fork-ranged q c ql cl room) statePart _ (byte-ranged statePart revisions (λ b. ltb b 4) refl (λ t. refl) c stateMarked refl) in
+      ranged-with a namesPart (putName (p namesPart) c n) refl
 
   pub splice-ranged : (a b : ℕ) → a < revisions → b < revisions → Ranged (spliceParts p a b)
   unfolding partIn size
@@ -181,24 +190,34 @@ module _ {p : Parts} (s : Sized p) (h : Ranged p) where
       either-ranged : (i : ℕ) (t : List ℕ) → partIn i t ≡ true → partIn i (spliced k b (p i) t) ≡ true
       either-ranged i t e = cond-all (λ l. partIn i l ≡ true) (eqb (k .count b) 0) (p i) t (h .of i) e
 
-  join-layout : (a b : ℕ) → a < revisions → partIn layoutPart (take revisions (remove b (p layoutPart) ++ (0 ∷ []))) ≡ true
+  merge-ranged : (a b : ℕ) → a < revisions → b < revisions → Ranged (mergeParts p a b)
   unfolding partIn size
-  join-layout a b al =
-      let t = p layoutPart in
-      bytes-from (λ b. ltb b 64) revisions t (take revisions (remove b t ++ (0 ∷ []))) 0 (s .of layoutPart) (join-sized s a b al .of layoutPart)
-      (λ x i. either (List·Memᴰ·append-cases (remove b t) (take-in x revisions (remove b t ++ (0 ∷ [])) i)) (λ o. inr (remove-back b x t o)) (λ o. inl (List·Memᴰ·eq-of-singleton o))) refl (h .of layoutPart)
-
-  pub join-ranged : (a b : ℕ) → a < revisions → b < revisions → 0 < b → Ranged (joinParts p a b)
-  unfolding partIn size
-  join-ranged a b al bl pos =
+  merge-ranged a b al bl =
       let few = counted-few (k .count a + k .count b) in
-      let most = fewer-most (k .out) revisions (R .most-out) (omega arith) in
       let c = ranged-with (splice-ranged a b al bl) countPart _ (word-ranged countPart 4097 refl (λ t. refl) a (counted (k .count a + k .count b)) al (omega arith)) in
-      let d = ranged-with (ranged-with c seenPart (putRow 8 (p seenPart) a (joinPool (k .seen) a b a)) refl) caughtPart (pack clients (joinCaught (k .caught) a b)) refl in
-      let e = ranged-with d statePart _ (byte-ranged statePart revisions (λ b. ltb b 3) refl (λ t. refl) b stateJoined refl) in
-      let f = ranged-with e layoutPart _ (join-layout a b al) in
-      let g = ranged-with f queuePart _ (byte-ranged queuePart revisions (λ b. ltb 0 b && ltb b 64) refl (λ t. refl) (k .given - k .out) b (rw (lt-ltb 0 b pos) (lt-ltb b 64 bl))) in
-      ranged-with g countersPart _ (out-set (p countersPart) (s .of countersPart) (h .of countersPart) (oneFewer (k .out)) (fewer-some (k .out)) (omega arith))
+      ranged-with (ranged-with c seenPart (putRow 8 (p seenPart) a (joinPool (k .seen) a b a)) refl) caughtPart (pack clients (joinCaught (k .caught) a b)) refl
+
+  drop-layout : (r : ℕ) → partIn layoutPart (take revisions (remove r (p layoutPart) ++ (0 ∷ []))) ≡ true
+  unfolding partIn size
+  drop-layout r =
+      let t = p layoutPart in
+      let rest = remove r t ++ (0 ∷ []) in
+      bytes-from (λ b. ltb b 64) revisions t (take revisions rest) 0 (s .of layoutPart) (drop-sized s r .of layoutPart)
+      (λ x i. either (List·Memᴰ·append-cases (remove r t) (take-in x revisions rest i)) (λ o. inr (remove-back r x t o)) (λ o. inl (List·Memᴰ·eq-of-singleton o)))
+      refl (h .of layoutPart)
+
+  pub drop-ranged : (r : ℕ) → 0 < r → r < revisions → Ranged (dropParts p r)
+  unfolding partIn size
+  drop-ranged r pos rl =
+      let most = fewer-most (k .out) revisions (R .most-out) (omega arith) in
+      let a = ranged-with h statePart _ (byte-ranged statePart revisions (λ b. ltb b 4) refl (λ t. refl) r stateJoined refl) in
+      let b = ranged-with a layoutPart _ (drop-layout r) in
+      let queued = byte-ranged queuePart revisions (λ b. ltb 0 b && ltb b 64) refl (λ t. refl) (k .given - k .out) r (rw (lt-ltb 0 r pos) (lt-ltb r 64 rl)) in
+      let c = ranged-with b queuePart _ queued in
+      ranged-with c countersPart _ (out-set (p countersPart) (s .of countersPart) (h .of countersPart) (oneFewer (k .out)) (fewer-some (k .out)) (omega arith))
+
+pub join-ranged : {p : Parts} → Sized p → Ranged p → (a b : ℕ) → a < revisions → b < revisions → 0 < b → Ranged (joinParts p a b)
+join-ranged s h a b al bl pos = drop-ranged (merge-sized s a b al) (merge-ranged s h a b al bl) b pos bl
 
 pub update-ranged : {p : Parts} → Sized p → Ranged p → (c r : ℕ) → r < revisions → decode p .updates < updates → Ranged (updateParts p c r)
 update-ranged s h c r rl ul = query-ranged (append-sized s r) (append-ranged s h r rl ul) c r rl
@@ -244,6 +263,18 @@ module _ (d : List ℕ) (L : Lower d) where
   pub fork-stays : (q c : ℕ) → q < revisions → c < revisions → cells d .out < revisions → Lower (forkBytes d q c)
   unfolding forkBytes cells
   fork-stays q c ql cl room = lower (forkParts (split d) q c) (fork-sized sized q c cl) (fork-ranged sized ranged q c ql cl room)
+
+  pub mark-stays : (q c : ℕ) (n : Name) → q < revisions → c < revisions → cells d .out < revisions → Lower (markBytes d q c n)
+  unfolding markBytes cells
+  mark-stays q c n ql cl room = lower (markParts (split d) q c n) (mark-sized sized q c n cl) (mark-ranged sized ranged q c n ql cl room)
+
+  -- a merge is no step by itself: for the code, which drops the joinee behind it
+  pub merge-stays : (a b : ℕ) → a < revisions → b < revisions → Lower (glue (mergeParts (split d) a b))
+  merge-stays a b al bl = lower (mergeParts (split d) a b) (merge-sized sized a b al) (merge-ranged sized ranged a b al bl)
+
+  pub drop-stays : (r : ℕ) → 0 < r → r < revisions → Lower (dropBytes d r)
+  unfolding dropBytes
+  drop-stays r pos rl = lower (dropParts (split d) r) (drop-sized sized r) (drop-ranged sized ranged r pos rl)
 
   pub join-stays : (a b : ℕ) → a < revisions → b < revisions → 0 < b → Lower (joinBytes d a b)
   unfolding joinBytes

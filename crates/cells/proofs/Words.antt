@@ -1,9 +1,9 @@
 -- Numbers in bytes, each with one law: after a write the numbers are the old ones changed at one place.
-use Prim.Native.Nat.{ℕ, _+_, _*_, _/_, _%_, _<_}
+use Prim.Native.Nat.{ℕ, _+_, _*_, _/_, _%_, _<_, _≤_}
 use mathlib.Core.Bool.{true, false, cond}
-use mathlib.Core.Path.{_≡_, sym, _∙_, ap}
+use mathlib.Core.Path.{_≡_, refl, sym, _∙_, ap}
 use mathlib.Core.Logic.{_≢_}
-use mathlib.Core.List.{List}
+use mathlib.Core.List.{List, [], _∷_}
 use native.Mathlib.Omega.{arith}
 use lib.Dec.{eqb}
 use lib.ListN.{length, set, length-set}
@@ -11,7 +11,7 @@ use lib.Seq.{getD-set-same, getD-set-other}
 use borrow.Author.Tests.{eqb-true, eqb-false, eq-eqb, ne-eqb}
 use Rattle.lists.specs.Lists.{changed}
 use Rattle.lists.proofs.Cases.{cases}
-use Rattle.cells.specs.Words.{byte, word, putWord, half, putHalf, linkIn}
+use Rattle.cells.specs.Words.{byte, word, putWord, half, putHalf, linkIn, nameIn, putName}
 use Rattle.cells.proofs.Tables.{getD-changed}
 
 pub putWord-length : (t : List ℕ) (r v : ℕ) → length (putWord t r v) ≡ length t
@@ -81,3 +81,59 @@ pub link-put : (low high : List ℕ) (u v x : ℕ) → u < length low → u / 2 
 link-put low high u v x h g l =
     rw (getD-changed low u (v % 256) 0 x h, half-put high u (v / 256) x g (omega arith))
     (cases (eqb x u) (λ e. rw e (omega arith)) (λ e. rw e))
+
+pub putName-length : (t : List ℕ) (r : ℕ) (n : List ℕ) → length (putName t r n) ≡ length t
+unfolding putName
+putName-length t r n = simp length-set
+
+-- a list of four by its bytes
+pub four-bytes : (n : List ℕ) → length n ≡ 4 → byte n 0 ∷ byte n 1 ∷ byte n 2 ∷ byte n 3 ∷ [] ≡ n
+four-bytes (a ∷ b ∷ c ∷ d ∷ []) e = refl
+four-bytes [] e = absurd (omega arith)
+four-bytes (a ∷ []) e = absurd (omega arith)
+four-bytes (a ∷ b ∷ []) e = absurd (omega arith)
+four-bytes (a ∷ b ∷ c ∷ []) e = absurd (omega arith)
+four-bytes (a ∷ b ∷ c ∷ d ∷ f ∷ n) e = absurd (omega arith)
+
+module _ (t : List ℕ) (r : ℕ) (n : List ℕ) where
+  abbrev one : List ℕ
+  one = set t (4 * r) (byte n 0)
+
+  abbrev two : List ℕ
+  two = set one (4 * r + 1) (byte n 1)
+
+  abbrev three : List ℕ
+  three = set two (4 * r + 2) (byte n 2)
+
+  byte-put-name : (j : ℕ) → (4 * r ≤ j → j < 4 * r + 4 → ⊥) → byte (putName t r n) j ≡ byte t j
+  unfolding putName
+  byte-put-name j out =
+      getD-set-other three (4 * r + 3) j (byte n 3) 0 (λ q. out (omega arith) (omega arith))
+      ∙ getD-set-other two (4 * r + 2) j (byte n 2) 0 (λ q. out (omega arith) (omega arith))
+      ∙ getD-set-other one (4 * r + 1) j (byte n 1) 0 (λ q. out (omega arith) (omega arith))
+      ∙ getD-set-other t (4 * r) j (byte n 0) 0 (λ q. out (omega arith) (omega arith))
+
+  same-name : 4 * r + 3 < length t → nameIn (putName t r n) r ≡ byte n 0 ∷ byte n 1 ∷ byte n 2 ∷ byte n 3 ∷ []
+  unfolding putName
+  same-name h =
+      rw (
+        getD-set-other three (4 * r + 3) (4 * r) (byte n 3) 0 (omega arith),
+        getD-set-other two (4 * r + 2) (4 * r) (byte n 2) 0 (omega arith),
+        getD-set-other one (4 * r + 1) (4 * r) (byte n 1) 0 (omega arith),
+        getD-set-same t (4 * r) (byte n 0) 0 (omega arith),
+        getD-set-other three (4 * r + 3) (4 * r + 1) (byte n 3) 0 (omega arith),
+        getD-set-other two (4 * r + 2) (4 * r + 1) (byte n 2) 0 (omega arith),
+        getD-set-same one (4 * r + 1) (byte n 1) 0 (simp length-set (omega arith)),
+        getD-set-other three (4 * r + 3) (4 * r + 2) (byte n 3) 0 (omega arith),
+        getD-set-same two (4 * r + 2) (byte n 2) 0 (simp length-set (omega arith)),
+        getD-set-same three (4 * r + 3) (byte n 3) 0 (simp length-set (omega arith)),
+      )
+
+  pub name-put : (x : ℕ) → 4 * r + 3 < length t → length n ≡ 4 → nameIn (putName t r n) x ≡ changed (nameIn t) r n x
+  name-put x h l =
+      cases (eqb x r)
+      (λ e. rw (e, eqb-true x r e) (same-name h ∙ four-bytes n l))
+      (λ e.
+      let d = eqb-false x r e in
+      let stays : (i : ℕ) → i < 4 → byte (putName t r n) (4 * x + i) ≡ byte t (4 * x + i) = λ i l. byte-put-name (4 * x + i) (λ a b. d (omega arith)) in
+      rw (e, byte-put-name (4 * x) (λ a b. d (omega arith)), stays 1 (omega arith), stays 2 (omega arith), stays 3 (omega arith)))

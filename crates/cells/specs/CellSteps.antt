@@ -7,8 +7,9 @@ use lib.Dec.{eqb, ltb}
 use lib.ListN.{set, take, replicate}
 use Rattle.lists.specs.Lists.{changed, restOf}
 use Rattle.lists.specs.Arranged.{member, insertBefore, remove}
+use Rattle.lists.specs.Names.{Name}
 use Rattle.lists.specs.Pool.{forkPool, joinPool}
-use Rattle.cells.specs.Sizes.{revisions, clients, updates, main, closed, stateOut, stateJoined}
+use Rattle.cells.specs.Sizes.{revisions, clients, updates, main, closed, stateOut, stateJoined, stateMarked}
 use Rattle.cells.specs.Cells.{Cells, own, flagged}
 
 -- a fresh day: the main revision is out; a client without events may start anywhere. 02, U8: "Fresh gains a choice of such a day."
@@ -30,6 +31,7 @@ freshCells single = record {
   opened = λ c. cond (ltb c clients) closed 0;
   updates = 0;
   given = 1;
+  name = λ r. 0 ∷ 0 ∷ 0 ∷ 0 ∷ [];
   single = single;
 }
 
@@ -56,6 +58,7 @@ queryCells k c r = record {
   opened = changed (k .opened) c r;
   updates = k .updates;
   given = k .given;
+  name = k .name;
   single = k .single;
 }
 
@@ -86,6 +89,7 @@ updateCells k c r = record {
   opened = changed (k .opened) c r;
   updates = suc (k .updates);
   given = k .given;
+  name = k .name;
   single = k .single;
 }
 
@@ -108,6 +112,7 @@ closeCells k c = record {
   opened = changed (k .opened) c closed;
   updates = k .updates;
   given = k .given;
+  name = k .name;
   single = k .single;
 }
 
@@ -145,8 +150,34 @@ forkCells k p c = record {
   opened = k .opened;
   updates = k .updates;
   given = forkGiven k;
+  name = k .name;
   single = k .single;
 }
+
+-- 02, U9: "A mark forks an idle box .. and gives the new box a name"
+abbrev pub markCells : Cells → ℕ → ℕ → Name → Cells
+markCells k p c n =
+    let f = forkCells k p c in
+    record {
+      state = changed (k .state) c stateMarked;
+      used = f .used;
+      last = f .last;
+      first = f .first;
+      count = f .count;
+      base = f .base;
+      row = f .row;
+      link = f .link;
+      seen = f .seen;
+      caught = f .caught;
+      layout = f .layout;
+      out = f .out;
+      queue = f .queue;
+      opened = f .opened;
+      updates = f .updates;
+      given = f .given;
+      name = changed (k .name) c n;
+      single = f .single;
+    }
 
 -- where b has updates of its own they go to the end of a's list
 abbrev pub spliced : {A : Type 0} → Cells → ℕ → A → A → A
@@ -155,14 +186,10 @@ spliced k b kept new = cond (eqb (k .count b) 0) kept new
 abbrev pub joinCaught : (ℕ → ℕ → Bool) → ℕ → ℕ → ℕ → ℕ → Bool
 joinCaught caught a b x = changed (caught x) a (caught x a || caught x b)
 
--- b's number goes to the end of the queue
-abbrev pub joinQueue : Cells → ℕ → List ℕ
-joinQueue k b = set (k .queue) (k .given - k .out) b
-
--- a joins b: a gets b's own list, what b has seen, and who has caught up with b; b is out of the layout
-abbrev pub joinCells : Cells → ℕ → ℕ → Cells
-joinCells k a b = record {
-  state = changed (k .state) b stateJoined;
+-- a gets b's own list, what b has seen, and who has caught up with b
+abbrev pub mergeCells : Cells → ℕ → ℕ → Cells
+mergeCells k a b = record {
+  state = k .state;
   used = k .used;
   last = spliced k b (k .last) (changed (k .last) a (k .last b));
   first = spliced k b (k .first) (changed (k .first) a (cond (eqb (k .count a) 0) (k .first b) (k .first a)));
@@ -172,11 +199,43 @@ joinCells k a b = record {
   link = spliced k b (k .link) (changed (k .link) (k .first b) (k .last a));
   seen = joinPool (k .seen) a b;
   caught = joinCaught (k .caught) a b;
-  layout = take revisions (remove b (k .layout) ++ (0 ∷ []));
-  out = oneFewer (k .out);
-  queue = joinQueue k b;
+  layout = k .layout;
+  out = k .out;
+  queue = k .queue;
   opened = k .opened;
   updates = k .updates;
   given = k .given;
+  name = k .name;
   single = k .single;
 }
+
+-- r's number goes to the end of the queue
+abbrev pub dropQueue : Cells → ℕ → List ℕ
+dropQueue k r = set (k .queue) (k .given - k .out) r
+
+-- 02, U9: "Dropping a mark .. frees its number as a hand-in does": r is out of the layout
+abbrev pub dropCells : Cells → ℕ → Cells
+dropCells k r = record {
+  state = changed (k .state) r stateJoined;
+  used = k .used;
+  last = k .last;
+  first = k .first;
+  count = k .count;
+  base = k .base;
+  row = k .row;
+  link = k .link;
+  seen = k .seen;
+  caught = k .caught;
+  layout = take revisions (remove r (k .layout) ++ (0 ∷ []));
+  out = oneFewer (k .out);
+  queue = dropQueue k r;
+  opened = k .opened;
+  updates = k .updates;
+  given = k .given;
+  name = k .name;
+  single = k .single;
+}
+
+-- a joins b, which is handed in
+abbrev pub joinCells : Cells → ℕ → ℕ → Cells
+joinCells k a b = dropCells (mergeCells k a b) b

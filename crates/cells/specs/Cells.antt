@@ -6,10 +6,11 @@ use mathlib.Core.List.{List, [], _∷_, _++_}
 use lib.Dec.{ltb}
 use lib.ListN.{take}
 use Rattle.lists.specs.Lists.{firstOf}
+use Rattle.lists.specs.Names.{Name}
 use Rattle.cells.specs.Sizes.{revisions}
 
 pub record Cells : Type 0 where
-  -- 0 never given out, 1 out, 2 joined
+  -- 0 never given out, 1 out, 2 joined or dropped, 3 marked, and out
   pub state : ℕ → ℕ
   -- whether the revision's row of inherited updates is in use
   pub used : ℕ → Bool
@@ -29,7 +30,7 @@ pub record Cells : Type 0 where
   -- the revisions out, right to left, in the first `out` of 64 places
   pub layout : List ℕ
   pub out : ℕ
-  -- the numbers handed in and not used again, longest ago first, in the first `given - out` of 64 places; the others
+  -- the numbers handed in or dropped and not used again, longest ago first, in the first `given - out` of 64 places; the others
   -- hold any number but the main revision's, which is never handed in
   pub queue : List ℕ
   -- the revision of a client's open transaction, or 64
@@ -37,6 +38,8 @@ pub record Cells : Type 0 where
   -- updates taken, and revision numbers given out
   pub updates : ℕ
   pub given : ℕ
+  -- 02, U9: the name of a mark; of any other number it is not looked at
+  pub name : ℕ → Name
   -- 02, U8: the choice given to fresh, a single-main day
   pub single : Bool
 

@@ -1,10 +1,11 @@
 -- No claim rests on this file: it serves the code.
 -- What each code asks of the cells: 01, "Codes of the desk". Each answer follows from the cells alone.
-use Prim.Native.Nat.{ℕ}
-use mathlib.Core.Bool.{Bool, not, _&&_}
+use Prim.Native.Nat.{ℕ, zero, suc}
+use mathlib.Core.Bool.{Bool, cond, not, _&&_, _||_}
 use lib.Dec.{eqb, ltb}
+use Rattle.lists.specs.Names.{Name, fourLetters, sameName}
 use Rattle.lists.specs.Sums.{anyBelow}
-use Rattle.cells.specs.Sizes.{revisions, clients, updates, main, closed, stateNever, stateJoined}
+use Rattle.cells.specs.Sizes.{revisions, clients, updates, main, closed, stateNever, stateJoined, stateMarked}
 use Rattle.cells.specs.Cells.{Cells}
 
 -- a client number; else 2 applies, "tablet above 15"
@@ -19,7 +20,7 @@ givenOut k r = ltb r revisions && not (eqb (k .state r) stateNever)
 abbrev pub joined : Cells → ℕ → Bool
 joined k r = eqb (k .state r) stateJoined
 
--- 15, 02, U8: "off the line, for a fork of another box than 0 or a join into one on such a day"
+-- 15, 02, U8: "off the line, for a fork of another box than 0 or a join into one on such a day"; for a mark `single` alone: "Single-main days have no marks"
 abbrev pub offLine : Cells → ℕ → Bool
 offLine k r = k .single && not (eqb r main)
 
@@ -50,3 +51,27 @@ noneLeft k = not (ltb (k .out) revisions)
 -- may be joined; else 11 applies, "joinee is box 0, is the joiner, its fork isn't seen, or its start is"
 abbrev pub joinable : Cells → ℕ → ℕ → Bool
 joinable k a b = (not (eqb b main) && not (eqb a b)) && k .seen a b
+
+-- 16, 02, U9: "marked box"
+abbrev pub isMark : Cells → ℕ → Bool
+isMark k r = eqb (k .state r) stateMarked
+
+abbrev pub bears : Cells → Name → ℕ → Bool
+bears k n r = isMark k r && sameName (k .name r) n
+
+-- of the numbers 1 to m the last whose mark bears the name, or 64 where there is none
+unfoldable pub bearerBelow : Cells → Name → ℕ → ℕ
+bearerBelow k n zero = revisions
+bearerBelow k n (suc m) = cond (bears k n (suc m)) (suc m) (bearerBelow k n m)
+
+-- the number of the mark that bears the name. The main revision is no mark
+abbrev pub bearer : Cells → Name → ℕ
+bearer k n = bearerBelow k n 63
+
+-- 18 "no such mark"
+abbrev pub noSuchMark : Cells → Name → Bool
+noSuchMark k n = not (ltb (bearer k n) revisions)
+
+-- 17 "not four letters, or in use"
+abbrev pub badName : Cells → Name → Bool
+badName k n = not (fourLetters n) || not (noSuchMark k n)

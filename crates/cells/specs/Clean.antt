@@ -1,10 +1,13 @@
 -- 02, U7: a number that is used again starts clean. Two tables that differ only in what an earlier bearer of a number left show the same from
--- the fork on that gives the number again.
+-- the fork or mark on that gives the number again.
 use Prim.Native.Nat.{ℕ}
+use mathlib.Core.Bool.{true}
 use mathlib.Core.Path.{_≡_}
+use Rattle.lists.specs.Names.{Name}
 use Rattle.cells.specs.Sizes.{main}
 use Rattle.cells.specs.Cells.{Cells, own, flagged}
-use Rattle.cells.specs.CellSteps.{forkCells}
+use Rattle.cells.specs.Checks.{isMark}
+use Rattle.cells.specs.CellSteps.{forkCells, markCells}
 
 -- the same cells, but for those of number c: its record, its row, and its row and column of flags
 pub record SameBut (c : ℕ) (k k′ : Cells) : Type 0 where
@@ -23,9 +26,11 @@ pub record SameBut (c : ℕ) (k k′ : Cells) : Type 0 where
   pub opened : k .opened ≡ k′ .opened
   pub updates : k .updates ≡ k′ .updates
   pub given : k .given ≡ k′ .given
+  pub name : (r : ℕ) → (r ≡ c → ⊥) → k .name r ≡ k′ .name r
   pub single : k .single ≡ k′ .single
 
--- the same in all that a check, an order or a further step goes by: `first` and `last` of an empty own list are not among it
+-- the same in all that a check, an order or a further step goes by: `first` and `last` of an empty own list, and the name of a
+-- number that is no mark, are not among it
 pub record ShowsSame (k k′ : Cells) : Type 0 where
   pub state : (r : ℕ) → k .state r ≡ k′ .state r
   pub count : (r : ℕ) → k .count r ≡ k′ .count r
@@ -40,7 +45,9 @@ pub record ShowsSame (k k′ : Cells) : Type 0 where
   pub opened : k .opened ≡ k′ .opened
   pub updates : k .updates ≡ k′ .updates
   pub given : k .given ≡ k′ .given
+  pub name : (r : ℕ) → isMark k r ≡ true → k .name r ≡ k′ .name r
   pub single : k .single ≡ k′ .single
 
 abbrev pub StartsClean : Type 0
-StartsClean = (c : ℕ) (k k′ : Cells) → SameBut c k k′ → (p : ℕ) → (p ≡ c → ⊥) → (main ≡ c → ⊥) → ShowsSame (forkCells k p c) (forkCells k′ p c)
+StartsClean = (c : ℕ) (k k′ : Cells) → SameBut c k k′ → (p : ℕ) → (p ≡ c → ⊥) → (main ≡ c → ⊥)
+    → ShowsSame (forkCells k p c) (forkCells k′ p c) × ((n : Name) → ShowsSame (markCells k p c n) (markCells k′ p c n))

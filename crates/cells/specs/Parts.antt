@@ -55,13 +55,13 @@ openedPart = 13
 abbrev pub countersPart : ℕ
 countersPart = 14
 
--- 0 until a request uses them: names, closed, started
 abbrev pub namesPart : ℕ
 namesPart = 15
 
 abbrev pub singlePart : ℕ
 singlePart = 16
 
+-- 0 until a request uses them: closed, started
 abbrev pub closedPart : ℕ
 closedPart = 17
 

@@ -1,5 +1,5 @@
 -- Of the claims only `StaysTable` (crate consistency) rests on this file; else it serves the code.
--- Code 1, "a cell is out of its range": docs/CELLS.md, "Ranges". Fixed numbers; rows, links and flags have every byte in range.
+-- Code 1, "a cell is out of its range": docs/CELLS.md, "Ranges". Fixed numbers; rows, links, flags and names have every byte in range.
 use Prim.Native.Nat.{ℕ}
 use mathlib.Core.Bool.{Bool, _&&_}
 use mathlib.Core.List.{List, [], _∷_}
@@ -31,7 +31,7 @@ countersIn t = ltb (word t 0) 4097 && (ltb 0 (byte t 2) && (ltb (byte t 2) 65 &&
 -- the cells of each revision's record
 abbrev pub recordsIn : Parts → Bool
 recordsIn p =
-    bytesBelow revisions 3 (p statePart)
+    bytesBelow revisions 4 (p statePart)
     && (bytesBelow revisions 2 (p usedPart)
     && (wordsBelow revisions 4096 (p lastPart)
     && (wordsBelow revisions 4096 (p firstPart) && (wordsBelow revisions 4097 (p countPart) && wordsBelow revisions 4097 (p basePart)))))

@@ -25,7 +25,7 @@ main = 0
 abbrev pub closed : ℕ
 closed = 64
 
--- the states of a revision: never given out, out, joined ("handed in")
+-- the states of a revision: never given out, out, joined ("handed in") or dropped, marked, and out
 abbrev pub stateNever : ℕ
 stateNever = 0
 
@@ -34,3 +34,6 @@ stateOut = 1
 
 abbrev pub stateJoined : ℕ
 stateJoined = 2
+
+abbrev pub stateMarked : ℕ
+stateMarked = 3

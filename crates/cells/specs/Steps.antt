@@ -6,15 +6,16 @@ use mathlib.Core.List.{List, [], _∷_, _++_}
 use lib.Dec.{eqb}
 use lib.ListN.{set, take, replicate}
 use Rattle.lists.specs.Arranged.{insertBefore, remove}
-use Rattle.cells.specs.Sizes.{revisions, clients, main, closed, stateOut, stateJoined}
+use Rattle.lists.specs.Names.{Name}
+use Rattle.cells.specs.Sizes.{revisions, clients, main, closed, stateOut, stateJoined, stateMarked}
 use Rattle.cells.specs.Parts.{Parts, split, glue, size, _⟨_≔_⟩, rowsPart, lowPart, highPart, seenPart, caughtPart, statePart, usedPart, lastPart, firstPart}
-use Rattle.cells.specs.Parts.{countPart, basePart, layoutPart, queuePart, openedPart, countersPart, singlePart, signaturePart}
-use Rattle.cells.specs.Words.{putWord, putHalf}
+use Rattle.cells.specs.Parts.{countPart, basePart, layoutPart, queuePart, openedPart, countersPart, namesPart, singlePart, signaturePart}
+use Rattle.cells.specs.Words.{putWord, putHalf, putName}
 use Rattle.cells.specs.Flags.{pack, putRow}
 use Rattle.cells.specs.Decode.{decode}
 use Rattle.cells.specs.Range.{signature}
 use Rattle.lists.specs.Pool.{forkPool, joinPool}
-use Rattle.cells.specs.CellSteps.{counted, oneFewer, forkCaught, forkRow, forkGiven, forkQueue, spliced, joinCaught, joinQueue}
+use Rattle.cells.specs.CellSteps.{counted, oneFewer, forkCaught, forkRow, forkGiven, forkQueue, spliced, joinCaught, dropQueue}
 
 -- all bytes 0 but these
 abbrev pub freshParts : Bool → Parts
@@ -85,6 +86,13 @@ forkParts p q c =
     ⟨ queuePart ≔ forkQueue k ⟩
     ⟨ countersPart ≔ set (set (p countersPart) 2 (suc (k .out))) 3 (forkGiven k) ⟩
 
+-- 02, U9: "A mark forks an idle box .. and gives the new box a name"
+abbrev pub markParts : Parts → ℕ → ℕ → Name → Parts
+markParts p q c n =
+    forkParts p q c
+    ⟨ statePart ≔ set (p statePart) c stateMarked ⟩
+    ⟨ namesPart ≔ putName (p namesPart) c n ⟩
+
 -- b's own list goes to the end of a's, unless it is empty
 abbrev pub spliceParts : Parts → ℕ → ℕ → Parts
 spliceParts p a b =
@@ -95,18 +103,28 @@ spliceParts p a b =
     ⟨ lastPart ≔ spliced k b (p lastPart) (putWord (p lastPart) a (k .last b)) ⟩
     ⟨ firstPart ≔ spliced k b (p firstPart) (putWord (p firstPart) a (cond (eqb (k .count a) 0) (k .first b) (k .first a))) ⟩
 
--- a joins b. Where b stands in no place of the layout, the layout stays
-abbrev pub joinParts : Parts → ℕ → ℕ → Parts
-joinParts p a b =
+-- a gets b's own list, what b has seen, and who has caught up with b
+abbrev pub mergeParts : Parts → ℕ → ℕ → Parts
+mergeParts p a b =
     let k = decode p in
     spliceParts p a b
     ⟨ countPart ≔ putWord (p countPart) a (counted (k .count a + k .count b)) ⟩
     ⟨ seenPart ≔ putRow 8 (p seenPart) a (joinPool (k .seen) a b a) ⟩
     ⟨ caughtPart ≔ pack clients (joinCaught (k .caught) a b) ⟩
-    ⟨ statePart ≔ set (p statePart) b stateJoined ⟩
-    ⟨ layoutPart ≔ take revisions (remove b (p layoutPart) ++ (0 ∷ [])) ⟩
-    ⟨ queuePart ≔ joinQueue k b ⟩
+
+-- 02, U9: "Dropping a mark .. frees its number as a hand-in does". Where r stands in no place of the layout, the layout stays
+abbrev pub dropParts : Parts → ℕ → Parts
+dropParts p r =
+    let k = decode p in
+    p
+    ⟨ statePart ≔ set (p statePart) r stateJoined ⟩
+    ⟨ layoutPart ≔ take revisions (remove r (p layoutPart) ++ (0 ∷ [])) ⟩
+    ⟨ queuePart ≔ dropQueue k r ⟩
     ⟨ countersPart ≔ set (p countersPart) 2 (oneFewer (k .out)) ⟩
+
+-- a joins b, which is handed in
+abbrev pub joinParts : Parts → ℕ → ℕ → Parts
+joinParts p a b = dropParts (mergeParts p a b) b
 
 -- the same on the bytes
 unfoldable pub freshBytes : Bool → List ℕ
@@ -124,5 +142,11 @@ closeBytes d c = glue (closeParts (split d) c)
 unfoldable pub forkBytes : List ℕ → ℕ → ℕ → List ℕ
 forkBytes d q c = glue (forkParts (split d) q c)
 
+unfoldable pub markBytes : List ℕ → ℕ → ℕ → Name → List ℕ
+markBytes d q c n = glue (markParts (split d) q c n)
+
 unfoldable pub joinBytes : List ℕ → ℕ → ℕ → List ℕ
 joinBytes d a b = glue (joinParts (split d) a b)
+
+unfoldable pub dropBytes : List ℕ → ℕ → List ℕ
+dropBytes d r = glue (dropParts (split d) r)

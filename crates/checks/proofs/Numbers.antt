@@ -1,21 +1,26 @@
--- What the checks of a client number (code 2), a number given out (3) and the next number (10) say.
+-- What the checks of a client number (code 2), a number given out (3), the line (15), the next number (10) and a name (17, 18) say.
 use Prim.Native.Nat.{ℕ, suc, _<_, _≤_}
-use native.Mathlib.Omega.{arith}
-use mathlib.Core.Bool.{true, false, and-false}
+use mathlib.Core.Bool.{Bool, true, false, and-false, and-true}
 use mathlib.Core.Path.{_≡_, refl, sym, _∙_, ap}
 use mathlib.Core.List.{List}
 use borrow.Author.Tests.{lt-ltb, le-ltb, eq-eqb, ne-eqb}
+use Rattle.lists.specs.Names.{Name, fourLetters}
+use Rattle.lists.proofs.Cases.{cases}
 use Rattle.cells.specs.Sizes.{clients, revisions}
 use Rattle.cells.specs.Cells.{nextNumber}
+use Rattle.cells.specs.Checks.{bearer, noSuchMark}
 use Rattle.cells.specs.Decode.{cells}
 use Rattle.sizes.specs.Numbers.{revisionCheck}
 use Rattle.sizes.specs.declared.numbers.Client.{Client}
 use Rattle.sizes.specs.declared.numbers.Revision.{Revision}
 use Rattle.sizes.specs.declared.numbers.RevisionCheck.the-variants as revision
 use Rattle.fields.proofs.InRange.{known-below, known-revision, unknown-above, unknown-revision}
-use Rattle.checks.specs.Answers.{clientCheck, givenCheck, lineCheck, nextCheck}
+use Rattle.checks.specs.Answers.{bearerCheck, clientCheck, givenCheck, lineCheck, markLineCheck, nameCheck, nextCheck}
+use Rattle.checks.specs.declared.bearer.BearerCheck.{BearerCheck}
+use Rattle.checks.specs.declared.bearer.BearerCheck.the-variants as named
 use Rattle.checks.specs.declared.given.GivenCheck.the-variants as given
 use Rattle.checks.specs.declared.line.LineCheck.the-variants as line
+use Rattle.checks.specs.declared.name.NameCheck.the-variants as name
 use Rattle.checks.specs.declared.next.NextCheck.the-variants as left
 use Rattle.checks.specs.declared.client.ClientCheck.{ClientCheck}
 use Rattle.checks.specs.declared.client.ClientCheck.the-variants.{Known, Unknown}
@@ -58,13 +63,9 @@ module _ (d : List ℕ) (r : ℕ) where
   unfolding lineCheck
   main-on e = rw (eq-eqb r 0 e, and-false)
 
-  pub other-off : (r ≡ 0 → ⊥) → cells d .single ≡ true → line.Off ≡ lineCheck d r
-  unfolding lineCheck
-  other-off n e = rw (ne-eqb r 0 n, e)
-
-  pub other-on : (r ≡ 0 → ⊥) → cells d .single ≡ false → line.On ≡ lineCheck d r
-  unfolding lineCheck
-  other-on n e = rw (ne-eqb r 0 n, e)
+  pub other-line : (r ≡ 0 → ⊥) → markLineCheck d ≡ lineCheck d r
+  unfolding lineCheck markLineCheck
+  other-line n = rw (ne-eqb r 0 n, and-true)
 
 -- 10
 module _ (d : List ℕ) (n : ℕ) (en : n ≡ cells d .out) where
@@ -75,3 +76,35 @@ module _ (d : List ℕ) (n : ℕ) (en : n ≡ cells d .out) where
   pub next-left : n < revisions → (r : Revision) → r ≡ record { 0 = nextNumber (cells d) } → left.Next r ≡ nextCheck d
   unfolding nextCheck
   next-left h r e = rw (← en, lt-ltb n revisions h) (ap left.Next e)
+
+-- 18: x is the number that the search gave
+module _ (d : List ℕ) (n : Name) (x : ℕ) (ex : x ≡ bearer (cells d) n) where
+  pub bearer-missing : revisionCheck x ≡ revision.Unknown → named.Missing ≡ bearerCheck d n
+  unfolding bearerCheck
+  bearer-missing e = rw (← ex, le-ltb x revisions (unknown-revision x e))
+
+  pub bearer-found : (r : Revision) → revisionCheck x ≡ revision.Known r → named.Found r ≡ bearerCheck d n
+  unfolding bearerCheck
+  bearer-found r e = let k = known-revision x r e in rw (← ex, lt-ltb x revisions (k .1)) (ap named.Found (sym (same-revision x r (k .0))))
+
+-- 17
+abbrev none : BearerCheck → Bool
+none (named.Found r) = false
+none named.Missing = true
+
+module _ (d : List ℕ) (n : Name) where
+  none-named : none (bearerCheck d n) ≡ noSuchMark (cells d) n
+  unfolding bearerCheck
+  none-named = cases (noSuchMark (cells d) n) (λ e. rw e) (λ e. rw e)
+
+  pub not-letters : fourLetters n ≡ false → name.Bad ≡ nameCheck d n
+  unfolding nameCheck
+  not-letters e = rw e
+
+  pub name-used : fourLetters n ≡ true → (r : Revision) → bearerCheck d n ≡ named.Found r → name.Bad ≡ nameCheck d n
+  unfolding nameCheck
+  name-used e r f = rw (e, ← none-named, f)
+
+  pub name-fit : fourLetters n ≡ true → bearerCheck d n ≡ named.Missing → name.Fit ≡ nameCheck d n
+  unfolding nameCheck
+  name-fit e f = rw (e, ← none-named, f)

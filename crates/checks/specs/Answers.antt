@@ -3,10 +3,12 @@
 use Prim.Native.Nat.{ℕ}
 use mathlib.Core.Bool.{cond}
 use mathlib.Core.List.{List}
+use Rattle.lists.specs.Names.{Name}
 use Rattle.cells.specs.Cells.{nextNumber}
 use Rattle.cells.specs.Decode.{cells}
 use Rattle.cells.specs.Range.{inRange}
 use Rattle.cells.specs.Checks.{isClient, givenOut, joined, offLine, openElsewhere, busy, busyByOther, stale, logFull, noneLeft, joinable}
+use Rattle.cells.specs.Checks.{isMark, bearer, noSuchMark, badName}
 use Rattle.checks.specs.declared.range.RangeCheck.{RangeCheck}
 use Rattle.checks.specs.declared.range.RangeCheck.the-variants as range
 use Rattle.checks.specs.declared.client.ClientCheck.{ClientCheck}
@@ -17,6 +19,8 @@ use Rattle.checks.specs.declared.joined.JoinedCheck.{JoinedCheck}
 use Rattle.checks.specs.declared.joined.JoinedCheck.the-variants as out
 use Rattle.checks.specs.declared.line.LineCheck.{LineCheck}
 use Rattle.checks.specs.declared.line.LineCheck.the-variants as line
+use Rattle.checks.specs.declared.marked.MarkedCheck.{MarkedCheck}
+use Rattle.checks.specs.declared.marked.MarkedCheck.the-variants as mark
 use Rattle.checks.specs.declared.open.OpenCheck.{OpenCheck}
 use Rattle.checks.specs.declared.open.OpenCheck.the-variants as transaction
 use Rattle.checks.specs.declared.busy.UseCheck.{UseCheck}
@@ -29,6 +33,10 @@ use Rattle.checks.specs.declared.next.NextCheck.{NextCheck}
 use Rattle.checks.specs.declared.next.NextCheck.the-variants as left
 use Rattle.checks.specs.declared.joinable.JoinableCheck.{JoinableCheck}
 use Rattle.checks.specs.declared.joinable.JoinableCheck.the-variants as join
+use Rattle.checks.specs.declared.name.NameCheck.{NameCheck}
+use Rattle.checks.specs.declared.name.NameCheck.the-variants as name
+use Rattle.checks.specs.declared.bearer.BearerCheck.{BearerCheck}
+use Rattle.checks.specs.declared.bearer.BearerCheck.the-variants as named
 
 -- 1 "a cell is out of its range"
 unfoldable pub rangeCheck : List ℕ → RangeCheck
@@ -49,6 +57,14 @@ joinedCheck d r = cond (joined (cells d) r) out.Joined out.Out
 -- 15, 02, U8: "off the line"
 unfoldable pub lineCheck : List ℕ → ℕ → LineCheck
 lineCheck d r = cond (offLine (cells d) r) line.Off line.On
+
+-- 15 for a mark, 02, U9: "Single-main days have no marks"
+unfoldable pub markLineCheck : List ℕ → LineCheck
+markLineCheck d = cond (cells d .single) line.Off line.On
+
+-- 16, 02, U9: "marked box"
+unfoldable pub markedCheck : List ℕ → ℕ → MarkedCheck
+markedCheck d r = cond (isMark (cells d) r) mark.Marked mark.Unmarked
 
 -- 6 "the tablet's open transaction is on another box"
 unfoldable pub openCheck : List ℕ → ℕ → ℕ → OpenCheck
@@ -77,3 +93,11 @@ nextCheck d = cond (noneLeft (cells d)) left.Exhausted (left.Next (record { 0 = 
 -- 11 "joinee is box 0, is the joiner, its fork isn't seen, or its start is"
 unfoldable pub joinableCheck : List ℕ → ℕ → ℕ → JoinableCheck
 joinableCheck d a b = cond (joinable (cells d) a b) join.Joinable join.Not
+
+-- 17, 02, U9: "not four letters, or in use"
+unfoldable pub nameCheck : List ℕ → Name → NameCheck
+nameCheck d n = cond (badName (cells d) n) name.Bad name.Fit
+
+-- 18, 02, U9: "no such mark"; else the number of the mark
+unfoldable pub bearerCheck : List ℕ → Name → BearerCheck
+bearerCheck d n = cond (noSuchMark (cells d) n) named.Missing (named.Found (record { 0 = bearer (cells d) n }))

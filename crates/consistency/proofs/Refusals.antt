@@ -9,12 +9,12 @@ use borrow.Author.Tests.{eqb-false}
 use Rattle.lists.specs.Lists.{_∈_}
 use Rattle.lists.proofs.Cases.{cases}
 use Rattle.bundles.specs.declared.entry.Entry.{Entry}
-use Rattle.desk.specs.Calls.{Call, Update, Query, Yield, Fork, Join, Sync, Bundle, Looks, Show, Fill, Preview, Batch, Records, Entries, entriesOf}
+use Rattle.desk.specs.Calls.{Call, Update, Query, Yield, Fork, Join, Sync, Mark, Drop, Bundle, Looks, Show, Fill, Preview, Batch, Records, Entries, entriesOf}
 use Rattle.desk.specs.Checks.{checks, settle, codesFor}
 use Rattle.desk.proofs.Checks.{Passed, Refused, among-in, refused-only}
 use Rattle.table.specs.Answers.{afterTaken, refused}
 use Rattle.table.specs.Out.{Out, tableBytes}
-use Rattle.table.specs.Calls.{asked, batchOut, bundleOut, entriesOut, fillOut, forkOut, freshOut, joinOut, listOut, noFill, noProspect, previewOut, queryOut, sentOut, settled, syncOut, updateOut, yieldOut}
+use Rattle.table.specs.Calls.{asked, batchOut, bundleOut, dropOut, entriesOut, fillOut, forkOut, freshOut, joinOut, listOut, markOut, noFill, noProspect, previewOut, queryOut, sentOut, settled, syncOut, updateOut, yieldOut}
 use Rattle.table.proofs.Syncs.{sync-ends}
 use Rattle.table.specs.declared.answer.Level.{Level}
 use Rattle.table.specs.declared.answer.Prospect.{Prospect}
@@ -77,12 +77,14 @@ batch-refused : (t : List ℕ) (c n : ℕ) (batch : Batch) → (batchOut t c n b
 batch-refused t c n batch = out-refused t t (Bundle c n batch) _ (λ P. settled-refused t (sentOut t c n (entriesOf batch)) c n batch (sent-refused (entriesOf batch) t c n))
 
 pub refusals-change-nothing : RefusalsChangeNothing
-unfolding queryOut forkOut joinOut listOut fillOut bundleOut entriesOut
+unfolding queryOut forkOut joinOut markOut dropOut listOut fillOut bundleOut entriesOut
 refusals-change-nothing t (Update c n k bib v) e = let r = update-refused t c n k bib v e in record { number = r .number; blank = ap onTable (r .is) }
 refusals-change-nothing t (Query c n bib) e = let r = out-refused t t (Query c n bib) _ (λ P h. absurd (h refl)) e in record { number = r .number; blank = ap onTable (r .is) }
 refusals-change-nothing t (Yield c) e = let r = yield-refused t c e in record { number = r .number; blank = ap onTable (r .is) }
 refusals-change-nothing t (Fork n) e = let r = out-refused t t (Fork n) _ (λ P h. absurd (h refl)) e in record { number = r .number; blank = ap onTable (r .is) }
 refusals-change-nothing t (Join n m) e = let r = out-refused t t (Join n m) _ (λ P h. absurd (h refl)) e in record { number = r .number; blank = ap onTable (r .is) }
+refusals-change-nothing t (Mark n name) e = let r = out-refused t t (Mark n name) _ (λ P h. absurd (h refl)) e in record { number = r .number; blank = ap onTable (r .is) }
+refusals-change-nothing t (Drop name) e = let r = out-refused t t (Drop name) _ (λ P h. absurd (h refl)) e in record { number = r .number; blank = ap onTable (r .is) }
 refusals-change-nothing t (Sync m) e = let r = sync-refused t m e in record { number = r .number; blank = ap onTable (r .is) }
 refusals-change-nothing t (Bundle c n (Records tableBytes)) e = let r = batch-refused t c n (Records tableBytes) e in record { number = r .number; blank = ap onTable (r .is) }
 refusals-change-nothing t (Bundle c n (Entries es)) e = let r = batch-refused t c n (Entries es) e in record { number = r .number; blank = ap onTable (r .is) }

@@ -9,17 +9,19 @@ use lib.Dec.{eqb, ltb}
 use lib.ListN.{length, length-replicate}
 use borrow.Author.Tests.{eq-eqb, ltb-true, not-false}
 use Rattle.lists.proofs.Cases.{and-true, cases, or-false}
+use Rattle.lists.specs.Names.{Name}
 use Rattle.bundles.specs.declared.entry.Entry.{Entry}
 use Rattle.updates.specs.Kinds.{kindOf}
-use Rattle.desk.specs.Calls.{Call, Update, Query, Yield, Fork, Join, Sync, Bundle, Looks, Show, Fill, Preview, Batch, Records, Entries, entriesOf}
+use Rattle.desk.specs.Calls.{Call, Update, Query, Yield, Fork, Join, Sync, Mark, Drop, Bundle, Looks, Show, Fill, Preview, Batch, Records, Entries, entriesOf}
 use Rattle.desk.specs.Checks.{checks, settle}
 use Rattle.desk.proofs.Checks.{Ends, Passed, _also_, ends, no, no-table-first, yes}
 use Rattle.cells.specs.Sizes.{clients, revisions, updates}
 use Rattle.cells.specs.Cells.{nextNumber}
-use Rattle.cells.specs.Checks.{givenOut, isClient, joinable}
-use Rattle.cells.specs.Steps.{closeBytes, forkBytes, joinBytes, queryBytes, updateBytes}
+use Rattle.cells.specs.Checks.{bearer, givenOut, isClient, joinable}
+use Rattle.cells.specs.Steps.{closeBytes, dropBytes, forkBytes, joinBytes, markBytes, queryBytes, updateBytes}
+use Rattle.cells.proofs.Bearer.{bearer-number}
 use Rattle.cells.proofs.Range.{next-ranged, ranges}
-use Rattle.cells.proofs.Stays.{Lower, close-stays, fork-stays, fresh-stays, join-stays, joinee-some, query-stays, update-stays}
+use Rattle.cells.proofs.Stays.{Lower, close-stays, drop-stays, fork-stays, fresh-stays, join-stays, joinee-some, mark-stays, query-stays, update-stays}
 use Rattle.entries.specs.Sizes as Upper
 use Rattle.entries.specs.Stored.{entry}
 use Rattle.entries.specs.Entries.{wrote}
@@ -27,7 +29,7 @@ use Rattle.entries.proofs.Entries.{wrote-length}
 use Rattle.table.specs.Halves.{low, high, cellsOf, isTable}
 use Rattle.table.specs.Answers.{afterTaken, refused}
 use Rattle.table.specs.Out.{Out, tableBytes}
-use Rattle.table.specs.Calls.{asOne, asked, batchOut, bundleOut, entriesOut, fillOut, forkOut, freshOut, joinEnd, joinOut, listOut, noFill, noProspect, previewOut, queryOut, sentOut, settled, syncOut, updateOut, yieldOut}
+use Rattle.table.specs.Calls.{asOne, asked, batchOut, bundleOut, dropOut, entriesOut, fillOut, forkOut, freshOut, joinEnd, joinOut, listOut, markOut, noFill, noProspect, previewOut, queryOut, sentOut, settled, syncOut, updateOut, yieldOut}
 use Rattle.table.proofs.Halves.{lower-of, table-of, upper-length}
 use Rattle.table.specs.declared.answer.Level.{Level}
 use Rattle.table.specs.declared.answer.Prospect.{Prospect}
@@ -69,22 +71,35 @@ module _ (t : List ℕ) (h : isTable t ≡ true) where
   revision n e = ltb-true n revisions (and-true (ltb n revisions) _ (not-false (givenOut (cellsOf t) n) e) .0)
 
   update-end : (c n k bib v : ℕ) → Passed (checks (asked t) (Update c n k bib v)) → isTable (updateBytes (low t) c n ++ wrote (high t) (cellsOf t .updates) (entry (kindOf k) c bib v)) ≡ true
-  update-end c n k bib v (e1 also e2 also e3 also e4 also e5 also e6 also e7 also e8 also e9 also P) =
+  update-end c n k bib v (e1 also e2 also e3 also e4 also e16 also e5 also e6 also e7 also e8 also e9 also P) =
       let room = ltb-true (cellsOf t .updates) updates (not-false _ e9) in
       table-of (updateBytes (low t) c n) _ (update-stays (low t) L c n (client c e2) (revision n e3) room) (wrote-length (high t) (cellsOf t .updates) (entry (kindOf k) c bib v) upper room)
 
   query-end : (c n bib : ℕ) → Passed (checks (asked t) (Query c n bib)) → isTable (queryBytes (low t) c n ++ high t) ≡ true
   query-end c n bib (e1 also e2 also e3 also P) = table-of (queryBytes (low t) c n) (high t) (query-stays (low t) L c n (client c e2) (revision n e3)) upper
 
+  low-next : nextNumber (cellsOf t) < revisions
+  low-next = next-ranged (cellsOf t) (ranges (low t) (L .ranged)) .1
+
   fork-end : (n : ℕ) → Passed (checks (asked t) (Fork n)) → isTable (forkBytes (low t) n (nextNumber (cellsOf t)) ++ high t) ≡ true
   fork-end n (e1 also e3 also e4 also e15 also e7 also e10 also P) =
       let next = nextNumber (cellsOf t) in
-      let low-next = next-ranged (cellsOf t) (ranges (low t) (L .ranged)) .1 in
       let room = ltb-true (cellsOf t .out) revisions (not-false _ e10) in
       table-of (forkBytes (low t) n next) (high t) (fork-stays (low t) L n next (revision n e3) low-next room) upper
 
+  mark-end : (n : ℕ) (name : Name) → Passed (checks (asked t) (Mark n name)) → isTable (markBytes (low t) n (nextNumber (cellsOf t)) name ++ high t) ≡ true
+  mark-end n name (e1 also e3 also e4 also e15 also e7 also e10 also P) =
+      let next = nextNumber (cellsOf t) in
+      let room = ltb-true (cellsOf t .out) revisions (not-false _ e10) in
+      table-of (markBytes (low t) n next name) (high t) (mark-stays (low t) L n next name (revision n e3) low-next room) upper
+
+  drop-end : (name : Name) → Passed (checks (asked t) (Drop name)) → isTable (dropBytes (low t) (bearer (cellsOf t) name) ++ high t) ≡ true
+  drop-end name (e1 also e18 also P) =
+      let found = bearer-number (cellsOf t) name e18 in
+      table-of (dropBytes (low t) (bearer (cellsOf t) name)) (high t) (drop-stays (low t) L (bearer (cellsOf t) name) (found .0) (found .1)) upper
+
   join-end : (n m : ℕ) → Passed (checks (asked t) (Join n m)) → isTable (joinBytes (low t) n m ++ high t) ≡ true
-  join-end n m (e1 also e3 also e4 also e15 also e7 also e11 also P) =
+  join-end n m (e1 also e3 also e4 also e15 also e16 also e7 also e11 also P) =
       let both = or-false (not (givenOut (cellsOf t) n)) (not (givenOut (cellsOf t) m)) e3 in
       let pos = joinee-some (cellsOf t) n m (not-false (joinable (cellsOf t) n m) e11) in
       table-of (joinBytes (low t) n m) (high t) (join-stays (low t) L n m (revision n (both .0)) (revision m (both .1)) pos) upper
@@ -139,13 +154,15 @@ sync-kept t h m P = by _ (kept _ (join-end t h 0 m P) (Fork 0) (fork-leaves _ 0)
     by o K = cases (eqb (o .code) 0) (λ q. rw q K) (λ q. rw q (h, K .1))
 
 pub stays-table : StaysTable
-unfolding queryOut joinOut syncOut listOut fillOut bundleOut entriesOut previewOut
+unfolding queryOut joinOut syncOut markOut dropOut listOut fillOut bundleOut entriesOut previewOut
 stays-table t (Update c n k bib v) = update-leaves t c n k bib v
 stays-table t (Query c n bib) = record { stays = λ h. out-stays t h (Query c n bib) _ (query-end t h c n bib); one = out-one t t (Query c n bib) _ (λ h P e. omega arith) }
 stays-table t (Yield c) = yield-leaves t c
 stays-table t (Fork n) = fork-leaves t n
 stays-table t (Join n m) = record { stays = λ h. out-stays t h (Join n m) _ (join-end t h n m); one = out-one t t (Join n m) _ (λ h P e. omega arith) }
 stays-table t (Sync m) = record { stays = λ h. out-stays t h (Sync m) _ (λ P. sync-kept t h m P .0); one = out-one t t (Sync m) _ (λ h P. sync-kept t h m P .1) }
+stays-table t (Mark n name) = record { stays = λ h. out-stays t h (Mark n name) _ (mark-end t h n name); one = out-one t t (Mark n name) _ (λ h P e. omega arith) }
+stays-table t (Drop name) = record { stays = λ h. out-stays t h (Drop name) _ (drop-end t h name); one = out-one t t (Drop name) _ (λ h P e. omega arith) }
 stays-table t (Bundle c n (Records bytes)) = record { stays = λ h. batch-stays t h c n (Records bytes); one = batch-one t c n (Records bytes) }
 stays-table t (Bundle c n (Entries es)) = record { stays = λ h. batch-stays t h c n (Entries es); one = batch-one t c n (Entries es) }
 stays-table t (Looks (Show n s)) = record { stays = λ h. h; one = out-one t s (Looks (Show n (length s))) _ (λ h P e. omega arith) }

@@ -59,7 +59,7 @@ never-off-line t m e =
     let q = asked t in
     let d = joinEnd t 0 m .lent in
     let first = 1 if q .noTable ∷ 3 if (q .never 0 || q .never m) ∷ 4 if (q .joined 0 || q .joined m) ∷ [] in
-    let last = 7 if (q .busy 0 || q .busy m) ∷ 11 if q .unjoinable 0 m ∷ [] in
+    let last = 16 if (q .marked 0 || q .marked m) ∷ 7 if (q .busy 0 || q .busy m) ∷ 11 if q .unjoinable 0 m ∷ [] in
     main-line t (code-exactly (λ (o : Out). o .code) (refused t) (λ k. refl) (asOne t (forkOut d 0)) (15 if q .offLine 0) (λ z. fork-line d (sym (one-code t (forkOut d 0)) ∙ z)) first last refl refl .0 e .1)
 
 module _ (t : List ℕ) (h : length t ≡ tableBytes) (single : Bool) (qs : List (Call (List ℕ))) where

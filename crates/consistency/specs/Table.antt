@@ -3,11 +3,11 @@ use Prim.Native.Nat.{ℕ, _*_}
 use mathlib.Core.List.{List, [], _∷_, _++_}
 use lib.ListN.{length, drop}
 use Rattle.updates.specs.declared.standing.State.the-variants.{Neither}
-use Rattle.desk.specs.Calls.{Call, Update, Query, Yield, Fork, Join, Sync, Bundle, Looks, Look, Show, Fill, Preview, Records, Entries, Answer, answerOn, callsOn}
+use Rattle.desk.specs.Calls.{Call, Update, Query, Yield, Fork, Join, Sync, Mark, Drop, Bundle, Looks, Look, Show, Fill, Preview, Records, Entries, Answer, answerOn, callsOn}
 use Rattle.sheets.specs.Lines.{line}
 use Rattle.plain.specs.Record.{Line}
 use Rattle.table.specs.Out.{Out}
-use Rattle.table.specs.Calls.{updateOut, queryOut, yieldOut, forkOut, joinOut, syncOut, listOut, fillOut, bundleOut, entriesOut, previewOut}
+use Rattle.table.specs.Calls.{updateOut, queryOut, yieldOut, forkOut, joinOut, syncOut, markOut, dropOut, listOut, fillOut, bundleOut, entriesOut, previewOut}
 
 -- at a table a sheet is bytes; on paper "only the length" is told
 abbrev pub calls : List (Call (List ℕ)) → List (Call ℕ)
@@ -38,6 +38,8 @@ served t (Yield c) = onTable (yieldOut t c)
 served t (Fork n) = onTable (forkOut t n)
 served t (Join n m) = onTable (joinOut t n m)
 served t (Sync m) = onTable (syncOut t m)
+served t (Mark n name) = onTable (markOut t n name)
+served t (Drop name) = onTable (dropOut t name)
 served t (Bundle c n (Records bytes)) = onTable (bundleOut t c n bytes)
 served t (Bundle c n (Entries es)) = onTable (entriesOut t c n es)
 served t (Looks l) = record { reply = looked t l; table = t }
@@ -65,6 +67,8 @@ sheetOf (Yield c) = []
 sheetOf (Fork n) = []
 sheetOf (Join n m) = []
 sheetOf (Sync m) = []
+sheetOf (Mark n name) = []
+sheetOf (Drop name) = []
 sheetOf (Bundle c n batch) = []
 sheetOf (Looks (Show n sheet)) = sheet
 sheetOf (Looks (Fill n)) = []

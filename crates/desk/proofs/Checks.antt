@@ -12,7 +12,7 @@ use Rattle.lists.specs.Lists.{_∈_}
 use Rattle.lists.specs.Arranged.{member}
 use Rattle.lists.proofs.Cases.{and-true, cases, either, or-false}
 use Rattle.lists.proofs.Keep.{in-member, member-in}
-use Rattle.desk.specs.Calls.{Call, Update, Query, Yield, Fork, Join, Sync, Bundle, Looks, Show, Fill, Preview}
+use Rattle.desk.specs.Calls.{Call, Update, Query, Yield, Fork, Join, Sync, Mark, Drop, Bundle, Looks, Show, Fill, Preview}
 use Rattle.desk.specs.Checks.{Check, Tests, _if_, checks, settle, codesFor}
 
 -- no check of a row applies
@@ -96,7 +96,9 @@ rows q (Yield c) = begins _ [] refl refl
 rows q (Fork n) = begins _ [] refl refl
 rows q (Join n m) = begins _ [] refl refl
 rows q (Sync m) = begins _ [] refl refl
-rows q (Bundle c n batch) = begins _ (2 ∷ 3 ∷ 4 ∷ 5 ∷ 6 ∷ 7 ∷ 8 ∷ 9 ∷ []) refl refl
+rows q (Mark n name) = begins _ [] refl refl
+rows q (Drop name) = begins _ [] refl refl
+rows q (Bundle c n batch) = begins _ (2 ∷ 3 ∷ 4 ∷ 16 ∷ 5 ∷ 6 ∷ 7 ∷ 8 ∷ 9 ∷ []) refl refl
 rows q (Looks (Show n room)) = begins _ [] refl refl
 rows q (Looks (Fill n)) = begins _ [] refl refl
 rows q (Looks (Preview n m bib)) = begins _ [] refl refl

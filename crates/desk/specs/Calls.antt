@@ -1,10 +1,11 @@
--- The calls and what they answer with: 01, "Codes of the desk" and "Listing a box"; 02, U1, U2, U4, U6 and U8. On paper a sheet is told by its
+-- The calls and what they answer with: 01, "Codes of the desk" and "Listing a box"; 02, U1, U2, U4, U6, U8 and U9. On paper a sheet is told by its
 -- length, at a table it is bytes.
 use Prim.Native.Nat.{ℕ}
 use mathlib.Core.Bool.{Bool, _||_}
 use mathlib.Core.List.{List, [], _∷_}
 use lib.Dec.{eqb, ltb}
 use lib.ListN.{length}
+use Rattle.lists.specs.Names.{Name}
 use Rattle.bundles.specs.declared.entry.Entry as Sent
 use Rattle.bundles.specs.Records.{entriesIn, isWrong}
 use Rattle.updates.specs.declared.standing.Standing.{Standing}
@@ -41,6 +42,9 @@ pub data Call (Sheet : Type 0) : Type 0 where
   Join : (joiner joinee : ℕ) → Call Sheet
   -- 02, U8: "names a box", the joinee
   Sync : (joinee : ℕ) → Call Sheet
+  -- 02, U9: a mark "forks an idle box .. and gives the new box a name"; "Dropping a mark, by its name"
+  Mark : (revision : ℕ) (name : Name) → Call Sheet
+  Drop : (name : Name) → Call Sheet
   Bundle : (client revision : ℕ) (batch : Batch) → Call Sheet
   Looks : Look Sheet → Call Sheet
 
@@ -52,6 +56,8 @@ callOn f (Yield c) = Yield c
 callOn f (Fork n) = Fork n
 callOn f (Join n m) = Join n m
 callOn f (Sync m) = Sync m
+callOn f (Mark n name) = Mark n name
+callOn f (Drop name) = Drop name
 callOn f (Bundle c n batch) = Bundle c n batch
 callOn f (Looks (Show n sheet)) = Looks (Show n (f sheet))
 callOn f (Looks (Fill n)) = Looks (Fill n)

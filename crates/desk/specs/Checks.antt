@@ -3,8 +3,9 @@
 use Prim.Native.Nat.{ℕ}
 use mathlib.Core.Bool.{Bool, cond, _||_}
 use mathlib.Core.List.{List, [], _∷_, _++_}
+use Rattle.lists.specs.Names.{Name}
 use Rattle.updates.specs.Kinds.{badBib, badKind}
-use Rattle.desk.specs.Calls.{Call, Update, Query, Yield, Fork, Join, Sync, Bundle, Looks, Show, Fill, Preview, isWrongBatch}
+use Rattle.desk.specs.Calls.{Call, Update, Query, Yield, Fork, Join, Sync, Mark, Drop, Bundle, Looks, Show, Fill, Preview, isWrongBatch}
 
 -- a code, and whether it applies
 pub record Check : Type 0 where
@@ -27,6 +28,10 @@ pub record Tests : Type 0 where
   pub joined : (n : ℕ) → Bool
   -- 15, 02, U8: "off the line, for a fork of another box than 0 or a join into one on such a day"
   pub offLine : (n : ℕ) → Bool
+  -- 15 of a mark, 02, U9: "Single-main days have no marks: mark gives 15"
+  pub markless : Bool
+  -- 16, 02, U9: "marked box"
+  pub marked : (n : ℕ) → Bool
   -- 6 "the tablet's open transaction is on another box"
   pub elsewhere : (c n : ℕ) → Bool
   -- 7 "update, query: another tablet has the box busy. Fork, list, join: the box, or either box, is busy"
@@ -42,23 +47,32 @@ pub record Tests : Type 0 where
   pub unjoinable : (n m : ℕ) → Bool
   -- 12 "the listing's buffer is smaller than it needs"
   pub short : (n room : ℕ) → Bool
+  -- 17, 02, U9: "bad name, for a mark: not four letters, or in use"
+  pub badName : (name : Name) → Bool
+  -- 18, 02, U9: "no such mark, for a drop"
+  pub noMark : (name : Name) → Bool
 
--- "Join: 1, 3, 4, 7, 11", of either box; 02, U8: 15 "checked after 4", of the joiner
+-- "Join: 1, 3, 4, 7, 11", of either box; 02, U8: 15 "checked after 4", of the joiner; U9: 16 "checked right after 15", of either, "in either role"
 abbrev pub joinChecks : Tests → ℕ → ℕ → List Check
 joinChecks q n m =
-    1 if q .noTable ∷ 3 if (q .never n || q .never m) ∷ 4 if (q .joined n || q .joined m) ∷ 15 if q .offLine n ∷ 7 if (q .busy n || q .busy m) ∷ 11 if q .unjoinable n m ∷ []
+    1 if q .noTable ∷ 3 if (q .never n || q .never m) ∷ 4 if (q .joined n || q .joined m) ∷ 15 if q .offLine n ∷ 16 if (q .marked n || q .marked m) ∷ 7 if (q .busy n || q .busy m)
+    ∷ 11 if q .unjoinable n m ∷ []
 
--- "Update: 1 to 9. Query: 1 to 8 (of 5, the bib only). Yield: 1, 2. Fork: 1, 3, 4, 7, 10. .. List: 1, 3, 4, 7, 12."
+-- "Update: 1 to 9. Query: 1 to 8 (of 5, the bib only). Yield: 1, 2. Fork: 1, 3, 4, 7, 10. .. List: 1, 3, 4, 7, 12." 02, U9: of a marked box 16, after 4
 abbrev pub checks : Tests → Call ℕ → List Check
 checks q (Update c n k bib v) =
-    1 if q .noTable ∷ 2 if q .strange c ∷ 3 if q .never n ∷ 4 if q .joined n ∷ 5 if (badBib bib || badKind k) ∷ 6 if q .elsewhere c n ∷ 7 if q .byOther c n ∷ 8 if q .stale c n ∷ 9 if q .full ∷ []
+    1 if q .noTable ∷ 2 if q .strange c ∷ 3 if q .never n ∷ 4 if q .joined n ∷ 16 if q .marked n ∷ 5 if (badBib bib || badKind k) ∷ 6 if q .elsewhere c n ∷ 7 if q .byOther c n
+    ∷ 8 if q .stale c n ∷ 9 if q .full ∷ []
 checks q (Query c n bib) =
-    1 if q .noTable ∷ 2 if q .strange c ∷ 3 if q .never n ∷ 4 if q .joined n ∷ 5 if badBib bib ∷ 6 if q .elsewhere c n ∷ 7 if q .byOther c n ∷ 8 if q .stale c n ∷ []
+    1 if q .noTable ∷ 2 if q .strange c ∷ 3 if q .never n ∷ 4 if q .joined n ∷ 16 if q .marked n ∷ 5 if badBib bib ∷ 6 if q .elsewhere c n ∷ 7 if q .byOther c n ∷ 8 if q .stale c n ∷ []
 checks q (Yield c) = 1 if q .noTable ∷ 2 if q .strange c ∷ []
 checks q (Fork n) = 1 if q .noTable ∷ 3 if q .never n ∷ 4 if q .joined n ∷ 15 if q .offLine n ∷ 7 if q .busy n ∷ 10 if q .allOut ∷ []
 checks q (Join n m) = joinChecks q n m
 -- 02, U8: "has join's refusals for joiner 0"; box 0 is on the line, so that 15 never applies
 checks q (Sync m) = joinChecks q 0 m
+-- 02, U9: "Mark has fork's refusals .. 17 and 18 are checked last"; "a drop can also give 1"
+checks q (Mark n name) = 1 if q .noTable ∷ 3 if q .never n ∷ 4 if q .joined n ∷ 15 if q .markless ∷ 7 if q .busy n ∷ 10 if q .allOut ∷ 17 if q .badName name ∷ []
+checks q (Drop name) = 1 if q .noTable ∷ 18 if q .noMark name ∷ []
 -- 02, U4: 14 "checked right after 1"; then those of its updates and of the yield, one by one
 checks q (Bundle c n batch) = 1 if q .noTable ∷ 14 if isWrongBatch batch ∷ []
 checks q (Looks (Show n room)) = 1 if q .noTable ∷ 3 if q .never n ∷ 4 if q .joined n ∷ 7 if q .busy n ∷ 12 if q .short n room ∷ []
@@ -74,13 +88,15 @@ settle (k ∷ ks) refusal end = cond (k .applies) (refusal (k .code)) (settle ks
 
 -- "its number from the list" (00), by the call: the numbers of its row, in their order; of a bundle also those of its updates
 abbrev pub codesFor : {S : Type 0} → Call S → List ℕ
-codesFor (Update c n k bib v) = 1 ∷ 2 ∷ 3 ∷ 4 ∷ 5 ∷ 6 ∷ 7 ∷ 8 ∷ 9 ∷ []
-codesFor (Query c n bib) = 1 ∷ 2 ∷ 3 ∷ 4 ∷ 5 ∷ 6 ∷ 7 ∷ 8 ∷ []
+codesFor (Update c n k bib v) = 1 ∷ 2 ∷ 3 ∷ 4 ∷ 16 ∷ 5 ∷ 6 ∷ 7 ∷ 8 ∷ 9 ∷ []
+codesFor (Query c n bib) = 1 ∷ 2 ∷ 3 ∷ 4 ∷ 16 ∷ 5 ∷ 6 ∷ 7 ∷ 8 ∷ []
 codesFor (Yield c) = 1 ∷ 2 ∷ []
 codesFor (Fork n) = 1 ∷ 3 ∷ 4 ∷ 15 ∷ 7 ∷ 10 ∷ []
-codesFor (Join n m) = 1 ∷ 3 ∷ 4 ∷ 15 ∷ 7 ∷ 11 ∷ []
-codesFor (Sync m) = 1 ∷ 3 ∷ 4 ∷ 15 ∷ 7 ∷ 11 ∷ []
-codesFor (Bundle c n batch) = 1 ∷ 14 ∷ 2 ∷ 3 ∷ 4 ∷ 5 ∷ 6 ∷ 7 ∷ 8 ∷ 9 ∷ []
+codesFor (Join n m) = 1 ∷ 3 ∷ 4 ∷ 15 ∷ 16 ∷ 7 ∷ 11 ∷ []
+codesFor (Sync m) = 1 ∷ 3 ∷ 4 ∷ 15 ∷ 16 ∷ 7 ∷ 11 ∷ []
+codesFor (Mark n name) = 1 ∷ 3 ∷ 4 ∷ 15 ∷ 7 ∷ 10 ∷ 17 ∷ []
+codesFor (Drop name) = 1 ∷ 18 ∷ []
+codesFor (Bundle c n batch) = 1 ∷ 14 ∷ 2 ∷ 3 ∷ 4 ∷ 16 ∷ 5 ∷ 6 ∷ 7 ∷ 8 ∷ 9 ∷ []
 codesFor (Looks (Show n sheet)) = 1 ∷ 3 ∷ 4 ∷ 7 ∷ 12 ∷ []
 codesFor (Looks (Fill n)) = 1 ∷ 3 ∷ 4 ∷ []
-codesFor (Looks (Preview n m bib)) = 1 ∷ 3 ∷ 4 ∷ 15 ∷ 7 ∷ 11 ∷ 5 ∷ []
+codesFor (Looks (Preview n m bib)) = 1 ∷ 3 ∷ 4 ∷ 15 ∷ 16 ∷ 7 ∷ 11 ∷ 5 ∷ []

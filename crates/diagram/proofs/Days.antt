@@ -3,6 +3,7 @@ pub mod Accepting
 pub mod Moves
 pub mod Found
 pub mod Naming
+pub mod Marking
 pub mod Waiting
 pub mod Real
 pub mod Sound
@@ -12,3 +13,4 @@ pub mod Entering
 pub mod Yielding
 pub mod Forking
 pub mod Joining
+pub mod Dropping

@@ -1,13 +1,15 @@
 -- 01, "Codes of the desk": each check that the day alone decides, as a test that is true where its code applies.
--- Code 3 is `meant`, and code 4 the day's `joined`; 5, 12 and 14 need what this crate does not know.
+-- Code 3 is `isGiven`, code 4 the day's `joined`, and code 18 `isNamed`; 5, 12, 14 and 15 need what this crate does not know.
 use Prim.Native.Nat.{ℕ}
 use mathlib.Core.Bool.{Bool, false, not, _||_, _&&_}
 use mathlib.Core.Option.{Option, none, some}
 use lib.Dec.{eqb, ltb}
 use Rattle.lists.specs.Sums.{anyBelow}
+use Rattle.lists.specs.Names.{Name, fourLetters}
 use Rattle.diagram.specs.Sizes.{revisionLimit, clientLimit, updateLimit}
 use Rattle.diagram.specs.Diagram.{Diagram, leads}
-use Rattle.diagram.specs.Day.{Day, outCount}
+use Rattle.diagram.specs.Names.{isSome}
+use Rattle.diagram.specs.Day.{Day, isNamed, outCount}
 
 -- 2: "tablet above 15"
 unfoldable pub unknownClient : ℕ → Bool
@@ -54,3 +56,11 @@ noneLeft y = not (ltb (outCount y) revisionLimit)
 unfoldable pub notJoinable : Day → ℕ → ℕ → Bool
 notJoinable y a b =
     eqb b 0 || (eqb b a || (not (leads (y .diagram) (y .forkOf b) (y .terminal a)) || leads (y .diagram) (y .startOf b) (y .terminal a)))
+
+-- 16, 02, U9: "marked box"
+unfoldable pub marked : Day → ℕ → Bool
+marked y r = isSome (y .mark r)
+
+-- 17: "bad name, for a mark: not four letters, or in use"
+unfoldable pub badName : Day → Name → Bool
+badName y n = not (fourLetters n) || isNamed y n

@@ -5,9 +5,11 @@ use mathlib.Core.Path.{_≡_}
 use mathlib.Core.Option.{Option, none, some}
 use mathlib.Core.List.{List, [], _∷_}
 use lib.Dec.{eqb}
-use Rattle.lists.specs.Sums.{anyBelow, sumBelow}
+use Rattle.lists.specs.Sums.{anyBelow, lastBelow, sumBelow}
+use Rattle.lists.specs.Names.{Name}
 use Rattle.diagram.specs.Diagram.{root, Diagram}
-use Rattle.diagram.specs.Numbering.{Numbering, freshNumbering, next, latest}
+use Rattle.diagram.specs.Numbering.{Numbering, freshNumbering, next}
+use Rattle.diagram.specs.Names.{isName}
 
 -- 01, "Words": "A tablet's events between yields form one transaction", in the order entered. `closed` says how many
 -- vertices there were at its yield; a transaction is open until then.
@@ -26,10 +28,11 @@ pub record Day : Type 0 where
   pub startOf : ℕ → ℕ
   pub forkOf : ℕ → ℕ
   pub terminal : ℕ → ℕ
-  -- 01: handed in
+  -- 01: handed in; 02, U9: or dropped
   pub joined : ℕ → Bool
-  -- 02, U7: the numbers that they bear
+  -- 02, U7: the numbers that they bear; U9: the names of the marks that are out
   pub numbering : Numbering
+  pub mark : ℕ → Option Name
   -- how many updates have been taken
   pub updates : ℕ
   -- of each client (01: tablet): its last event and its open transaction
@@ -49,6 +52,7 @@ fresh = record {
   terminal = λ r. 0;
   joined = λ r. false;
   numbering = freshNumbering;
+  mark = λ r. none;
   updates = 0;
   lastEvent = λ c. none;
   openBy = λ c. none;
@@ -62,7 +66,7 @@ isGiven y n = anyBelow (y .revisions) (λ r. eqb (y .numbering .of r) n)
 
 -- 02, U7: "A number means the latest box that bore it". Of a number that is not given out no call asks further.
 unfoldable pub meant : Day → ℕ → ℕ
-meant y n = latest (y .numbering .of) n (y .revisions)
+meant y n = lastBelow (y .revisions) (λ r. eqb (y .numbering .of r) n)
 
 -- number n means revision r
 abbrev pub Means : Day → ℕ → ℕ → Type 0
@@ -76,7 +80,15 @@ nextNumber y = next (y .numbering)
 abbrev pub numberOf : Day → ℕ → ℕ
 numberOf y r = y .numbering .of r
 
--- 01, "Words": "A box is out until it is handed in by a join"
+-- 02, U9: whether a mark that is out bears a name; else 18 applies, "no such mark, for a drop"
+unfoldable pub isNamed : Day → Name → Bool
+isNamed y n = anyBelow (y .revisions) (λ r. isName (y .mark r) n)
+
+-- and which: the latest that does. Of a name that none bears no call asks further.
+unfoldable pub markNamed : Day → Name → ℕ
+markNamed y n = lastBelow (y .revisions) (λ r. isName (y .mark r) n)
+
+-- 01, "Words": "A box is out until it is handed in by a join"; a mark, until it is dropped
 abbrev pub IsOut : Day → ℕ → Type 0
 IsOut y r = (r < y .revisions) × (y .joined r ≡ false)
 

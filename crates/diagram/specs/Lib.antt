@@ -5,8 +5,9 @@ pub mod Diagram
 pub mod Effects
 pub mod RootPaths
 pub mod Construction
-pub mod Day
 pub mod Numbering
+pub mod Names
+pub mod Day
 pub mod Checks
 pub mod Steps
 pub mod Rules
@@ -18,5 +19,6 @@ pub mod Arbitration
 pub mod Witness
 pub mod Single
 pub mod Lawful
+pub mod Marks
 pub mod Accepted
 pub mod Examples

@@ -1,8 +1,8 @@
 -- The numbers that revisions bear: 02, U7. Revisions themselves are numbered by creation, without bound; this is what a table calls them.
-use Prim.Native.Nat.{ℕ, zero, suc}
+use Prim.Native.Nat.{ℕ, suc}
 use mathlib.Core.Bool.{cond}
 use mathlib.Core.List.{List, [], _∷_, _++_}
-use lib.Dec.{eqb, ltb}
+use lib.Dec.{ltb}
 use Rattle.lists.specs.Lists.{changed, firstOf, restOf}
 use Rattle.diagram.specs.Sizes.{revisionLimit}
 
@@ -11,7 +11,7 @@ pub record Numbering : Type 0 where
   pub of : ℕ → ℕ
   -- the numbers used so far are those below this
   pub given : ℕ
-  -- "the order of hand-ins": the numbers handed in and not used again, the one handed in longest ago first
+  -- "the order of hand-ins": the numbers handed in (02, U9: or dropped) and not used again, the longest ago first
   pub freed : List ℕ
 
 -- revision 0 bears 0
@@ -30,11 +30,6 @@ started n r = record {
   freed = cond (ltb (n .given) revisionLimit) (n .freed) (restOf (n .freed));
 }
 
--- revision r is handed in
+-- revision r is handed in, or dropped
 abbrev pub handedIn : Numbering → ℕ → Numbering
 handedIn n r = record { of = n .of; given = n .given; freed = n .freed ++ (n .of r ∷ []) }
-
--- "A number means the latest box that bore it": of the revisions below m; 0 where none bore it
-abbrev pub latest : (ℕ → ℕ) → ℕ → ℕ → ℕ
-latest of n zero = 0
-latest of n (suc m) = cond (eqb (of m) n) m (latest of n m)

@@ -7,14 +7,15 @@ use mathlib.Core.List.{List, [], _∷_}
 use Rattle.lists.specs.Pool.{Pool, forkPool, joinPool}
 use Rattle.diagram.specs.Day.{Day, IsOut, fresh}
 use Rattle.diagram.specs.Construction.{Joinable}
-use Rattle.diagram.specs.Steps.{Step, Event, Yield, Fork, Join, after, run}
+use Rattle.diagram.specs.Steps.{Step, Event, Yield, Fork, Join, Drop, after, run}
 
 -- the new server of a fork is the next in number
 abbrev pub poolAfter : Day → Pool → Step → Pool
 poolAfter y J (Event c r u) = J
 poolAfter y J (Yield c) = J
-poolAfter y J (Fork r) = forkPool J r (y .revisions)
+poolAfter y J (Fork r name) = forkPool J r (y .revisions)
 poolAfter y J (Join a b) = joinPool J a b
+poolAfter y J (Drop r) = J
 
 unfoldable pub poolFrom : Day → Pool → List Step → Pool
 poolFrom y J [] = J

@@ -3,21 +3,24 @@ use Prim.Native.Nat.{ℕ, _<_, _≤_}
 use mathlib.Core.Bool.{Bool, not, _&&_}
 use mathlib.Core.Path.{_≡_}
 use mathlib.Core.Logic.{_↔_}
+use mathlib.Core.Option.{Option}
 use mathlib.Core.List.{List, [], _∷_, _++_}
 use lib.Dec.{eqb, ltb}
 use Rattle.lists.specs.Lists.{keep, named}
 use Rattle.lists.specs.Sums.{anyBelow}
+use Rattle.lists.specs.Names.{Name}
 use Rattle.diagram.specs.Sizes.{revisionLimit}
 use Rattle.diagram.specs.Day.{Day, IsOut, Means, numberOf, outCount}
-use Rattle.diagram.specs.Steps.{Step, Event, Yield, Fork, Join, run}
+use Rattle.diagram.specs.Steps.{Step, Event, Yield, Fork, Join, Drop, run}
 
--- the revisions handed in, in the order of their hand-ins
+-- the revisions handed in, in the order of their hand-ins; U9: a drop "frees its number as a hand-in does"
 abbrev pub handIns : List Step → List ℕ
 handIns [] = []
 handIns (Event c r u ∷ ss) = handIns ss
 handIns (Yield c ∷ ss) = handIns ss
-handIns (Fork r ∷ ss) = handIns ss
+handIns (Fork r name ∷ ss) = handIns ss
 handIns (Join a b ∷ ss) = b ∷ handIns ss
+handIns (Drop r ∷ ss) = r ∷ handIns ss
 
 -- a later revision bears the number of revision r
 abbrev pub usedAgain : Day → ℕ → Bool
@@ -45,7 +48,8 @@ pub data Takes (ss : List Step) (n : ℕ) : Type 0 where
 pub record ByNumbers (ss : List Step) : Type 0 where
   -- the main revision bears 0, and each other one the number that its fork took
   pub main : numberOf (run ss) 0 ≡ 0
-  pub forked : (before rest : List Step) (r : ℕ) → ss ≡ before ++ (Fork r ∷ rest) → Takes before (numberOf (run ss) (run before .revisions))
+  pub forked : (before rest : List Step) (r : ℕ) (name : Option Name) → ss ≡ before ++ (Fork r name ∷ rest)
+      → Takes before (numberOf (run ss) (run before .revisions))
   -- "A number means the latest box that bore it"; that of a revision out means it
   pub means : (n r : ℕ) → Means (run ss) n r ↔ Bears (run ss) r n
   pub out : (r : ℕ) → IsOut (run ss) r → Means (run ss) (numberOf (run ss) r) r

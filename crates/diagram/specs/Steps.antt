@@ -5,16 +5,18 @@ use mathlib.Core.Option.{Option, none, some}
 use mathlib.Core.List.{List, [], _∷_, _++_}
 use lib.ListN.{length}
 use Rattle.lists.specs.Lists.{changed}
+use Rattle.lists.specs.Names.{Name}
 use Rattle.diagram.specs.Diagram.{start, event, fork, join}
 use Rattle.diagram.specs.Numbering.{started, handedIn}
 use Rattle.diagram.specs.Day.{Transaction, Day, fresh}
 
--- a step names clients and revisions; an event is an update or a query
+-- a step names clients and revisions; an event is an update or a query; 02, U9: a mark is a fork that gives a name
 pub data Step : Type 0 where
   Event : (client revision : ℕ) (isUpdate : Bool) → Step
   Yield : (client : ℕ) → Step
-  Fork : (revision : ℕ) → Step
+  Fork : (revision : ℕ) (name : Option Name) → Step
   Join : (joiner joinee : ℕ) → Step
+  Drop : (revision : ℕ) → Step
 
 -- "Update, query: a vertex at the box's line end. It goes into the tablet's open transaction or opens one, and is the
 -- tablet's last event."
@@ -42,6 +44,7 @@ enter y c r u = record {
   terminal = changed (y .terminal) r (length (y .diagram));
   joined = y .joined;
   numbering = y .numbering;
+  mark = y .mark;
   updates = cond u (suc (y .updates)) (y .updates);
   lastEvent = changed (y .lastEvent) c (some (length (y .diagram)));
   openBy = changed (y .openBy) c (some (entersInto y (y .openBy c)));
@@ -63,6 +66,7 @@ yield y c (some t) = record {
   terminal = y .terminal;
   joined = y .joined;
   numbering = y .numbering;
+  mark = y .mark;
   updates = y .updates;
   lastEvent = y .lastEvent;
   openBy = changed (y .openBy) c none;
@@ -70,9 +74,9 @@ yield y c (some t) = record {
   transaction = changed (y .transaction) t (closedNow y (y .transaction t));
 }
 
--- "Fork: the fork vertex and a new box."
-abbrev pub forkAt : Day → ℕ → Day
-forkAt y r = record {
+-- "Fork: the fork vertex and a new box." 02, U9: "A mark forks an idle box, marked or not, and gives the new box a name"
+abbrev pub forkAt : Day → ℕ → Option Name → Day
+forkAt y r name = record {
   diagram = start (length (y .diagram)) ∷ fork (y .terminal r) ∷ y .diagram;
   revisions = suc (y .revisions);
   startOf = changed (y .startOf) (y .revisions) (suc (length (y .diagram)));
@@ -80,6 +84,7 @@ forkAt y r = record {
   terminal = changed (changed (y .terminal) r (length (y .diagram))) (y .revisions) (suc (length (y .diagram)));
   joined = changed (y .joined) (y .revisions) false;
   numbering = started (y .numbering) (y .revisions);
+  mark = changed (y .mark) (y .revisions) name;
   updates = y .updates;
   lastEvent = y .lastEvent;
   openBy = y .openBy;
@@ -97,6 +102,26 @@ joinInto y a b = record {
   terminal = changed (y .terminal) a (length (y .diagram));
   joined = changed (y .joined) b true;
   numbering = handedIn (y .numbering) b;
+  mark = y .mark;
+  updates = y .updates;
+  lastEvent = y .lastEvent;
+  openBy = y .openBy;
+  transactions = y .transactions;
+  transaction = y .transaction;
+}
+
+-- 02, U9: "Dropping a mark, by its name, frees its number as a hand-in does, so that it gives 4 until used again." "Nothing is rewound": no vertex
+-- is added or taken away
+abbrev pub dropAt : Day → ℕ → Day
+dropAt y r = record {
+  diagram = y .diagram;
+  revisions = y .revisions;
+  startOf = y .startOf;
+  forkOf = y .forkOf;
+  terminal = y .terminal;
+  joined = changed (y .joined) r true;
+  numbering = handedIn (y .numbering) r;
+  mark = changed (y .mark) r none;
   updates = y .updates;
   lastEvent = y .lastEvent;
   openBy = y .openBy;
@@ -107,8 +132,9 @@ joinInto y a b = record {
 unfoldable pub after : Day → Step → Day
 after y (Event c r u) = enter y c r u
 after y (Yield c) = yield y c (y .openBy c)
-after y (Fork r) = forkAt y r
+after y (Fork r name) = forkAt y r name
 after y (Join a b) = joinInto y a b
+after y (Drop r) = dropAt y r
 
 -- a run from a day, and from the fresh one
 unfoldable pub runFrom : Day → List Step → Day

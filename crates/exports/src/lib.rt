@@ -4,7 +4,7 @@ ghost use mathlib.Core.Bool.{not};
 ghost use mathlib.Core.Path.{_≡_};
 ghost use lib.Dec.{eqb};
 ghost use Prim.Native.Nat.{_≤_};
-ghost use Rattle.table.specs.Calls.{bundleOut, fillOut, forkOut, freshOut, joinOut, listOut, previewOut, queryOut, syncOut, updateOut, yieldOut};
+ghost use Rattle.table.specs.Calls.{bundleOut, dropOut, fillOut, forkOut, freshOut, joinOut, listOut, markOut, previewOut, queryOut, syncOut, updateOut, yieldOut};
 ghost use Rattle.exports.specs.Packed.{exported, exportedLevel, exportedProspect, returned, packed, packedGain, packedState, stateNumber};
 use updates::standing::State;
 
@@ -109,6 +109,22 @@ pub extern "C" fn silttongs_sync(t: &mut [u8], joinee: u8) -> u64
     ensures { λ r. ⌜ returned r (now (t .exit)) ≡ exported (syncOut (now (t .entry)) joinee) ⌝ }
 {
     let a = forking::sync::sync(t, joinee);
+    pack(a.code, a.value)
+}
+
+#[no_mangle]
+pub extern "C" fn silttongs_mark(t: &mut [u8], revision: u8, name: &[u8]) -> u64
+    ensures { λ r. ⌜ returned r (now (t .exit)) ≡ exported (markOut (now (t .entry)) revision (now (name .entry))) ⌝ }
+{
+    let a = forking::mark::mark(t, revision, name);
+    pack(a.code, a.value)
+}
+
+#[no_mangle]
+pub extern "C" fn silttongs_drop(t: &mut [u8], name: &[u8]) -> u64
+    ensures { λ r. ⌜ returned r (now (t .exit)) ≡ exported (dropOut (now (t .entry)) (now (name .entry))) ⌝ }
+{
+    let a = forking::drop::drop(t, name);
     pack(a.code, a.value)
 }
 

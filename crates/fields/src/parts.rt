@@ -29,11 +29,11 @@ pub const OPENED: usize = 39808;
 
 pub const COUNTERS: usize = 39824;
 
-// Names, closed and started are 0 until a request uses them.
 pub const NAMES: usize = 39828;
 
 pub const SINGLE: usize = 40084;
 
+// Closed and started are 0 until a request uses them.
 pub const CLOSED_UPDATES: usize = 40085;
 
 pub const STARTED: usize = 40087;

@@ -2,10 +2,12 @@
 ghost use mathlib.Core.Path.{_≡_};
 ghost use Prim.Native.Nat.{_<_};
 ghost use lib.ListN.{length};
+ghost use Rattle.lists.specs.Names.{sameName};
 ghost use Rattle.cells.specs.Sizes.{lowerBytes, clients, revisions, updates};
 ghost use Rattle.cells.specs.Words.{byte};
 ghost use Rattle.cells.specs.Cells.{flagged};
 ghost use Rattle.cells.specs.Decode.{cells};
+use crate::names::is_name;
 use crate::numbers::byte_at;
 use crate::numbers::half_at;
 use crate::numbers::word_at;
@@ -31,7 +33,7 @@ use sizes::numbers::Revision;
 use sizes::numbers::wide;
 use sizes::table::Table;
 
-// One of the three states of `Table`, on every table in range.
+// One of the four states of `Table`, on every table in range.
 pub fn state(d: &[u8], r: Revision) -> usize
     requires { ⌜ (length (now d) ≡ lowerBytes) × (r .0 < revisions) ⌝ }
     ensures { λ v. ⌜ (v ≡ cells (now (d .entry)) .state (r .0)) × (v < 256) ⌝ }
@@ -170,6 +172,14 @@ pub fn updates(d: &[u8]) -> usize
     ensures { λ v. ⌜ (v ≡ cells (now (d .entry)) .updates) × (v < 65536) ⌝ }
 {
     word_at(&d[COUNTERS..NAMES], Table::UPDATES_TAKEN)
+}
+
+// Whether the name of r is the lent one, which may be of any length.
+pub fn is_named(d: &[u8], r: Revision, name: &[u8]) -> bool
+    requires { ⌜ (length (now d) ≡ lowerBytes) × (r .0 < revisions) ⌝ }
+    ensures { λ same. ⌜ same ≡ sameName (cells (now (d .entry)) .name (r .0)) (now (name .entry)) ⌝ }
+{
+    is_name(&d[NAMES..SINGLE], wide(r.0), name)
 }
 
 // The choice given to fresh: whether the day is a single-main day (02, U8).

@@ -8,8 +8,8 @@ ghost use Rattle.lists.specs.Lists.{restOf};
 ghost use Rattle.lists.specs.Arranged.{insertBefore, remove};
 ghost use Rattle.cells.specs.Sizes.{lowerBytes, clients, revisions, updates};
 ghost use Rattle.cells.specs.Parts.{split, wrote, lowPart, highPart, seenPart, caughtPart, statePart, usedPart, lastPart, firstPart};
-ghost use Rattle.cells.specs.Parts.{countPart, basePart, layoutPart, queuePart, openedPart, countersPart, rowsPart};
-ghost use Rattle.cells.specs.Words.{putHalf, putWord};
+ghost use Rattle.cells.specs.Parts.{countPart, basePart, layoutPart, queuePart, openedPart, countersPart, namesPart, rowsPart};
+ghost use Rattle.cells.specs.Words.{putHalf, putName, putWord};
 ghost use Rattle.cells.specs.Flags.{flagAt, pack, putRow};
 ghost use Rattle.cells.specs.Decode.{cells};
 ghost use Rattle.lists.specs.Pool.{forkPool, joinPool};
@@ -17,6 +17,7 @@ ghost use Rattle.cells.specs.CellSteps.{forkCaught, joinCaught};
 ghost use Rattle.cells.specs.Steps.{putRowOf};
 use crate::gaps;
 use crate::layout;
+use crate::names::put_name;
 use crate::numbers::put_byte;
 use crate::numbers::put_half;
 use crate::numbers::put_word;
@@ -34,6 +35,7 @@ use crate::parts::OPENED;
 use crate::parts::QUEUE;
 use crate::parts::ROWS;
 use crate::parts::SEEN;
+use crate::parts::SINGLE;
 use crate::parts::STATE;
 use crate::parts::USED;
 use sizes::numbers::Client;
@@ -124,6 +126,14 @@ pub fn given(d: &mut [u8], v: usize)
     ensures { λ _. ⌜ now (d .exit) ≡ wrote (now (d .entry)) countersPart (set (split (now (d .entry)) countersPart) 3 v) ⌝ }
 {
     put_byte(&mut d[COUNTERS..NAMES], Table::NUMBERS_GIVEN, v);
+}
+
+// The name of r, of four bytes.
+pub fn name(d: &mut [u8], r: Revision, name: &[u8])
+    requires { ⌜ (length (now d) ≡ lowerBytes) × (r .0 < revisions) × (length (now name) ≡ 4) ⌝ }
+    ensures { λ _. ⌜ now (d .exit) ≡ wrote (now (d .entry)) namesPart (putName (split (now (d .entry)) namesPart) (r .0) (now (name .entry))) ⌝ }
+{
+    put_name(&mut d[NAMES..SINGLE], wide(r.0), name);
 }
 
 // Client c has caught up with r alone.

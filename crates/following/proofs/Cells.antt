@@ -4,7 +4,9 @@ pub mod Represents
 pub mod Ordered
 pub mod Entering
 pub mod Forking
+pub mod Leaving
 pub mod Joining
+pub mod Dropping
 pub mod Kept
 pub mod Answers
 pub mod Passing

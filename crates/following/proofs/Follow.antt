@@ -2,10 +2,11 @@
 use Prim.Native.Nat.{ℕ}
 use mathlib.Core.Bool.{Bool, false, true}
 use mathlib.Core.Path.{_∙_, _≡_, ap, refl, subst, sym}
+use mathlib.Core.Option.{none, some}
 use mathlib.Core.List.{List, [], _∷_}
 use Rattle.diagram.specs.Day.{Day, fresh}
 use Rattle.machine.specs.Machine.{Machine, freshMachine, machineAfter, machineFrom}
-use Rattle.diagram.specs.Steps.{Event, Fork, Join, Step, Yield, after, run, runFrom}
+use Rattle.diagram.specs.Steps.{Drop, Event, Fork, Join, Step, Yield, after, run, runFrom}
 use Rattle.diagram.specs.Accepted.{Accepted, AcceptedFrom, accepted}
 use Rattle.machine.proofs.Follow.Shown.{follows}
 use Rattle.cells.specs.Cells.{Cells}
@@ -22,7 +23,7 @@ use Rattle.following.specs.Numbers.{NumbersFollowDays}
 use Rattle.following.proofs.Bytes.Stored.{Stored, fresh-stored, step-stored}
 
 kept-follows : (y : Day) (m : Machine) (k : Cells) → Kept y m k → CellsFollow y k
-kept-follows y m k K = answers y m k (follows y m (K .agree)) (laid y m (K .agree) (K .named)) (K .represents)
+kept-follows y m k K = answers y m k (follows y m (K .agree)) (laid y m (K .agree) (K .named) (K .marks)) (K .represents)
 
 kept-from : (ss : List Step) (y : Day) (m : Machine) (k : Cells) → AcceptedFrom y ss → Kept y m k → Kept (runFrom y ss) (machineFrom m ss) (cellsFrom y k ss)
 unfolding runFrom machineFrom cellsFrom
@@ -71,8 +72,10 @@ unfolding stepCells
 choice-step k (Event c r true) = refl
 choice-step k (Event c r false) = refl
 choice-step k (Yield c) = refl
-choice-step k (Fork n) = refl
+choice-step k (Fork n none) = refl
+choice-step k (Fork n (some w)) = refl
 choice-step k (Join a b) = refl
+choice-step k (Drop n) = refl
 
 choice-from : (ss : List Step) (y : Day) (k : Cells) → cellsFrom y k ss .single ≡ k .single
 unfolding cellsFrom

@@ -7,7 +7,8 @@ use mathlib.Core.Path.{_≡_}
 use mathlib.Core.List.{List}
 use lib.ListN.{length}
 use Rattle.diagram.specs.Effects
-use Rattle.diagram.specs.Day.{Day, IsOut, Means, isGiven, nextNumber, numberOf}
+use Rattle.lists.specs.Names.{Name}
+use Rattle.diagram.specs.Day.{Day, IsOut, Means, isGiven, isNamed, markNamed, nextNumber, numberOf}
 use Rattle.diagram.specs.Checks
 use Rattle.diagram.specs.Steps.{Step, run}
 use Rattle.diagram.specs.Accepted.{Accepted}
@@ -32,6 +33,8 @@ pub record CellsFollow (y : Day) (k : Cells) : Type 0 where
   pub same-given : (n : ℕ) → Asked.givenOut k n ≡ isGiven y n
   -- 4 "box already a joinee"
   pub same-joined : (n r : ℕ) → Means y n r → Asked.joined k n ≡ y .joined r
+  -- 16 "marked box"
+  pub same-marked : (n r : ℕ) → Means y n r → Asked.isMark k n ≡ Checks.marked y r
   -- 6 "the tablet's open transaction is on another box"
   pub same-elsewhere : (c n r : ℕ) → c < clients → Means y n r → Asked.openElsewhere k c n ≡ Checks.openElsewhere y c r
   -- 7 "update, query: another tablet has the box busy. Fork, list, join: the box, or either box, is busy"
@@ -45,6 +48,10 @@ pub record CellsFollow (y : Day) (k : Cells) : Type 0 where
   -- 11 "joinee is box 0, is the joiner, its fork isn't seen, or its start is": a seen flag alone is this rule
   pub same-seen : (a b : ℕ) → IsOut y a → IsOut y b → k .seen (numberOf y a) (numberOf y b) ≡ not (Checks.notJoinable y a b)
   pub same-joinable : (a b : ℕ) → IsOut y a → IsOut y b → Asked.joinable k (numberOf y a) (numberOf y b) ≡ not (Checks.notJoinable y a b)
+  -- 17 "not four letters, or in use"; 18 "no such mark"; and the number that is found means the mark
+  pub same-badName : (n : Name) → Asked.badName k n ≡ Checks.badName y n
+  pub same-noMark : (n : Name) → Asked.noSuchMark k n ≡ not (isNamed y n)
+  pub same-bearer : (n : Name) → isNamed y n ≡ true → Means y (Asked.bearer k n) (markNamed y n)
   -- "Values when taken: update, the count of updates taken before it; .. fork, the new number"
   pub same-updates : k .updates ≡ y .updates
   pub same-number : Checks.noneLeft y ≡ false → Cells.nextNumber k ≡ nextNumber y

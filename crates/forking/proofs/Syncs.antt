@@ -11,7 +11,7 @@ use Rattle.cells.specs.Sizes.{revisions}
 use Rattle.cells.specs.Cells.{nextNumber}
 use Rattle.cells.specs.Decode.{cells}
 use Rattle.cells.specs.Range.{inRange}
-use Rattle.cells.specs.Checks.{givenOut, joined, offLine, busy, joinable}
+use Rattle.cells.specs.Checks.{givenOut, joined, offLine, isMark, busy, joinable}
 use Rattle.cells.specs.Steps.{forkBytes, joinBytes}
 use Rattle.cells.proofs.Range.{next-ranged, ranges}
 use Rattle.sizes.specs.declared.numbers.Revision.{Revision}
@@ -53,10 +53,12 @@ checks-are : (d : List ℕ) (n m : ℕ)
     cond (joined (cells d) n) (pair.Refused 4) (
     cond (joined (cells d) m) (pair.Refused 4) (
     cond (offLine (cells d) n) (pair.Refused 15) (
+    cond (isMark (cells d) n) (pair.Refused 16) (
+    cond (isMark (cells d) m) (pair.Refused 16) (
     cond (busy (cells d) n) (pair.Refused 7) (
     cond (busy (cells d) m) (pair.Refused 7) (
     cond (not (joinable (cells d) n m)) (pair.Refused 11) (
-    pair.Allowed (record { 0 = n }) (record { 0 = m })))))))))
+    pair.Allowed (record { 0 = n }) (record { 0 = m })))))))))))
 unfolding joinCheck
 checks-are d n m = simp given-is
 
@@ -67,7 +69,9 @@ joins d n m a b e =
     let out-n = failed (joined (cells d) n) _ _ _ (λ h. cc) (given-m .1) in
     let out-m = failed (joined (cells d) m) _ _ _ (λ h. cc) (out-n .1) in
     let line = failed (offLine (cells d) n) _ _ _ (λ h. cc) (out-m .1) in
-    let idle-n = failed (busy (cells d) n) _ _ _ (λ h. cc) (line .1) in
+    let plain-n = failed (isMark (cells d) n) _ _ _ (λ h. cc) (line .1) in
+    let plain-m = failed (isMark (cells d) m) _ _ _ (λ h. cc) (plain-n .1) in
+    let idle-n = failed (busy (cells d) n) _ _ _ (λ h. cc) (plain-m .1) in
     let idle-m = failed (busy (cells d) m) _ _ _ (λ h. cc) (idle-n .1) in
     let found = failed (not (joinable (cells d) n m)) _ _ _ (λ h. cc) (idle-m .1) .1 in
     record { joiner = cc found; joinee = cc found; given = not-false (givenOut (cells d) n) (given-n .0); out = out-n .0; idle = idle-n .0 }

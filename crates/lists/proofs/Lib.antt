@@ -12,3 +12,4 @@ pub mod Replaced
 pub mod Rows
 pub mod Told
 pub mod Renamed
+pub mod Names

@@ -1,4 +1,4 @@
--- Sums of the same values, of values that end, and with one value changed; and a test of the numbers below n.
+-- Sums of the same values, of values that end, and with one value changed; a test of the numbers below n, and the last that passes it.
 use Prim.Native.Nat.{_+_, _<_, _≤_, suc, zero, ℕ}
 use mathlib.Core.Bool.{Bool, false, false≢true, true}
 use mathlib.Core.Path.{_∙_, _≡_, refl, sym}
@@ -7,7 +7,7 @@ use native.Mathlib.Omega.{arith}
 use lib.Dec.{eqb}
 use borrow.Author.Tests.{eqb-false, eqb-true}
 use Rattle.lists.proofs.Cases.{cases, or-left, or-right}
-use Rattle.lists.specs.Sums.{anyBelow, sumBelow}
+use Rattle.lists.specs.Sums.{anyBelow, lastBelow, sumBelow}
 
 pub sum-same : (n : ℕ) (f g : ℕ → ℕ) → ((x : ℕ) → x < n → f x ≡ g x) → sumBelow n f ≡ sumBelow n g
 sum-same zero f g h = refl
@@ -51,3 +51,8 @@ pub any-never : (n : ℕ) (f : ℕ → Bool) → ((x : ℕ) → x < n → f x �
 unfolding anyBelow
 any-never zero f h = refl
 any-never (suc n) f h = rw (h n (omega arith), any-never n f (λ x l. h x (omega arith)))
+
+pub last-passes : (n : ℕ) (f : ℕ → Bool) → anyBelow n f ≡ true → (lastBelow n f < n) × (f (lastBelow n f) ≡ true)
+unfolding anyBelow
+last-passes zero f e = absurd (false≢true e)
+last-passes (suc n) f e = cases (f n) (λ q. rw q (omega arith, q)) (λ q. let k = last-passes n f (rw q at e) in rw q (omega (arith, k .0), k .1))

@@ -3,3 +3,4 @@ pub mod Lists
 pub mod Arranged
 pub mod Pool
 pub mod Sums
+pub mod Names

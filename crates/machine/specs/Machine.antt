@@ -13,7 +13,7 @@ use Rattle.lists.specs.Arranged.{insertBefore, remove, member, flatBack, behind
 use Rattle.diagram.specs.Effects.{entry, own, view}
 use Rattle.diagram.specs.Day.{Transaction, Day, IsOut}
 use Rattle.diagram.specs.Checks.{stale, notJoinable}
-use Rattle.diagram.specs.Steps.{Step, Event, Yield, Fork, Join}
+use Rattle.diagram.specs.Steps.{Step, Event, Yield, Fork, Join, Drop}
 
 pub record Machine : Type 0 where
   pub revisions : ℕ
@@ -100,11 +100,26 @@ joinOn k a b = record {
   layout = remove b (k .layout);
 }
 
+-- 02, U9: a mark leaves; it has no own list
+abbrev pub dropOn : Machine → ℕ → Machine
+dropOn k r = record {
+  revisions = k .revisions;
+  joined = changed (k .joined) r true;
+  joinable = k .joinable;
+  caughtUp = k .caughtUp;
+  openOn = k .openOn;
+  updates = k .updates;
+  own = k .own;
+  inherited = k .inherited;
+  layout = remove r (k .layout);
+}
+
 unfoldable pub machineAfter : Machine → Step → Machine
 machineAfter k (Event c r u) = enterOn k c r u
 machineAfter k (Yield c) = yieldOn k c
-machineAfter k (Fork r) = forkOn k r
+machineAfter k (Fork r name) = forkOn k r
 machineAfter k (Join a b) = joinOn k a b
+machineAfter k (Drop r) = dropOn k r
 
 unfoldable pub machineFrom : Machine → List Step → Machine
 machineFrom k [] = k

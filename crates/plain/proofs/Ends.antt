@@ -2,24 +2,27 @@
 use Prim.Native.Nat.{ℕ}
 use mathlib.Core.Bool.{true, false, not, _&&_, _||_, true≢false}
 use mathlib.Core.Path.{_≡_, refl}
-use mathlib.Core.Option.{some}
+use mathlib.Core.Option.{Option, none, some}
 use lib.Dec.{eqb}
 use borrow.Author.Tests.{not-false}
+use Rattle.lists.specs.Names.{Name}
 use Rattle.lists.proofs.Cases.{or-false}
 use Rattle.updates.specs.declared.kind.KindCheck.{KindCheck}
 use Rattle.updates.specs.declared.kind.KindCheck.the-variants.{Known, Unknown}
 use Rattle.updates.specs.Kinds.{badBib, badKind, isUnknown, kindCheck, kindIn, kindOf}
-use Rattle.desk.specs.Calls.{Call, Update, Query, Yield, Fork, Join, Looks, Preview}
+use Rattle.desk.specs.Calls.{Call, Update, Query, Yield, Fork, Join, Mark, Drop, Looks, Preview}
 use Rattle.desk.specs.Checks.{checks}
 use Rattle.desk.proofs.Checks as Rows
 use Rattle.desk.proofs.Checks.{Passed, _also_, took}
-use Rattle.diagram.specs.Day.{Day, Means, isGiven, meant}
+use Rattle.diagram.specs.Day.{Day, Means, isGiven, markNamed, meant}
 use Rattle.diagram.proofs.Days.Found.{found, is-found}
-use Rattle.diagram.specs.Checks.{busy, notJoinable}
+use Rattle.diagram.specs.Checks.{busy, marked, notJoinable}
 use Rattle.diagram.specs.Steps as Steps
 use Rattle.diagram.specs.Accepted.{accepted, notGiven}
 use Rattle.diagram.proofs.Days.Naming.{meant-given}
 use Rattle.diagram.proofs.Days.Accepting.{accept-event, accept-yield, accept-fork, accept-join}
+use Rattle.diagram.proofs.Days.Marking as Marking
+use Rattle.diagram.proofs.Days.Marking.{Marks}
 use Rattle.plain.specs.Record.{PlainDay}
 use Rattle.plain.specs.Allowed.{Meaning}
 use Rattle.plain.specs.Answers.{Outcome, refused, asked, ending, called}
@@ -58,16 +61,23 @@ module _ (p : PlainDay) where
   known n e = meant-given y n (meant y n) (means n e)
 
   pub update-accepts : (c n k bib v : ℕ) → Passes p (Update c n k bib v) → accepted y (Steps.Event c (meant y n) true) ≡ true
-  update-accepts c n k bib v (e1 also e2 also e3 also e4 also e5 also e6 also e7 also e8 also e9 also Rows.none) = accept-event y c (meant y n) true e2 (known n e3) e4 e6 e7 e8 e9
+  update-accepts c n k bib v (e1 also e2 also e3 also e4 also e16 also e5 also e6 also e7 also e8 also e9 also Rows.none) = accept-event y c (meant y n) true e2 (known n e3) e4 e16 e6 e7 e8 e9
 
   pub query-accepts : (c n bib : ℕ) → Passes p (Query c n bib) → accepted y (Steps.Event c (meant y n) false) ≡ true
-  query-accepts c n bib (e1 also e2 also e3 also e4 also e5 also e6 also e7 also e8 also Rows.none) = accept-event y c (meant y n) false e2 (known n e3) e4 e6 e7 e8 refl
+  query-accepts c n bib (e1 also e2 also e3 also e4 also e16 also e5 also e6 also e7 also e8 also Rows.none) = accept-event y c (meant y n) false e2 (known n e3) e4 e16 e6 e7 e8 refl
 
   pub yield-accepts : (c : ℕ) → Passes p (Yield c) → accepted y (Steps.Yield c) ≡ true
   yield-accepts c (e1 also e2 also Rows.none) = accept-yield y c e2
 
-  pub fork-accepts : (n : ℕ) → Passes p (Fork n) → accepted y (Steps.Fork (meant y n)) ≡ true
-  fork-accepts n (e1 also e3 also e4 also e15 also e7 also e10 also Rows.none) = accept-fork y (meant y n) (known n e3) e4 e7 e10
+  pub fork-accepts : (n : ℕ) → Passes p (Fork n) → accepted y (Steps.Fork (meant y n) none) ≡ true
+  fork-accepts n (e1 also e3 also e4 also e15 also e7 also e10 also Rows.none) = accept-fork y (meant y n) none (known n e3) e4 e7 e10 refl
+
+  pub mark-accepts : (n : ℕ) (name : Name) → Passes p (Mark n name) → accepted y (Steps.Fork (meant y n) (some name)) ≡ true
+  mark-accepts n name (e1 also e3 also e4 also e15 also e7 also e10 also e17 also Rows.none) = accept-fork y (meant y n) (some name) (known n e3) e4 e7 e10 e17
+
+  -- a mark is out, so that a drop has no refusal but 18
+  pub drop-accepts : Marks y → (name : Name) → Passes p (Drop name) → accepted y (Steps.Drop (markNamed y name)) ≡ true
+  drop-accepts M name (e1 also e18 also Rows.none) = Marking.drop-accepts y M name (not-false _ e18)
 
   -- of a join, and so of a preview and a sync
   pub record Joins (n m : ℕ) : Type 0 where
@@ -77,16 +87,18 @@ module _ (p : PlainDay) where
     pub accepts : accepted y (Steps.Join (meant y n) (meant y m)) ≡ true
 
   joins-by : (n m : ℕ) → (not (isGiven y n) || not (isGiven y m)) ≡ false → (y .joined (meant y n) || y .joined (meant y m)) ≡ false → (p .single && not (eqb n 0)) ≡ false
-      → (busy y (meant y n) || busy y (meant y m)) ≡ false → notJoinable y (meant y n) (meant y m) ≡ false → Joins n m
-  joins-by n m e3 e4 e15 e7 e11 =
+      → (marked y (meant y n) || marked y (meant y m)) ≡ false → (busy y (meant y n) || busy y (meant y m)) ≡ false → notJoinable y (meant y n) (meant y m) ≡ false → Joins n m
+  joins-by n m e3 e4 e15 e16 e7 e11 =
       let g = or-false (not (isGiven y n)) (not (isGiven y m)) e3 in
       let o = or-false (y .joined (meant y n)) (y .joined (meant y m)) e4 in
+      let k = or-false (marked y (meant y n)) (marked y (meant y m)) e16 in
       let i = or-false (busy y (meant y n)) (busy y (meant y m)) e7 in
-      record { joiner = not-false (isGiven y n) (g .0); joinee = not-false (isGiven y m) (g .1); on-line = e15; accepts = accept-join y (meant y n) (meant y m) (known n (g .0)) (known m (g .1)) (o .0) (o .1) (i .0) (i .1) e11 }
+      record { joiner = not-false (isGiven y n) (g .0); joinee = not-false (isGiven y m) (g .1); on-line = e15; accepts = accept-join y (meant y n) (meant y m) (known n (g .0)) (known m (g .1)) (o .0) (o .1) (k .0) (k .1) (i .0) (i .1) e11 }
 
   pub join-passes : (n m : ℕ) → Passes p (Join n m) → Joins n m
-  join-passes n m (e1 also e3 also e4 also e15 also e7 also e11 also Rows.none) = joins-by n m e3 e4 e15 e7 e11
+  join-passes n m (e1 also e3 also e4 also e15 also e16 also e7 also e11 also Rows.none) = joins-by n m e3 e4 e15 e16 e7 e11
 
   -- a preview's row has the join's
   pub preview-passes : (n m bib : ℕ) → Passes p (Looks (Preview n m bib)) → Passes p (Join n m) × (badBib bib ≡ false)
-  preview-passes n m bib (e1 also e3 also e4 also e15 also e7 also e11 also e5 also Rows.none) = (e1 also e3 also e4 also e15 also e7 also e11 also Rows.none, e5)
+  preview-passes n m bib (e1 also e3 also e4 also e15 also e16 also e7 also e11 also e5 also Rows.none) =
+      (e1 also e3 also e4 also e15 also e16 also e7 also e11 also Rows.none, e5)

@@ -3,6 +3,7 @@ use Prim.Native.Nat.{ℕ, _<_, _/_, _%_}
 use mathlib.Core.Bool.{Bool, true, false, not, _&&_, _||_, and-false}
 use mathlib.Core.Path.{_≡_, refl, sym, _∙_, ap, subst}
 use mathlib.Core.Logic.{_↔_}
+use mathlib.Core.Option.{none, some}
 use mathlib.Core.List.{List, [], _∷_, _++_}
 use native.Mathlib.Omega.{arith}
 use lib.Dec.{eqb}
@@ -15,17 +16,18 @@ use Rattle.updates.specs.declared.kind.KindCheck.the-variants.{Known, Unknown}
 use Rattle.updates.specs.Kinds.{badBib, badKind, isUnknown, kindCheck}
 use Rattle.bundles.specs.declared.entry.Entry.{Entry}
 use Rattle.bundles.specs.Records.{isWrong}
-use Rattle.desk.specs.Calls.{Batch, Call, Update, Query, Yield, Fork, Join, Sync, Bundle, Looks, Show, Fill, Preview, Entries, Records, entriesOf, isWrongBatch}
+use Rattle.desk.specs.Calls.{Batch, Call, Update, Query, Yield, Fork, Join, Sync, Mark, Drop, Bundle, Looks, Show, Fill, Preview, Entries, Records, entriesOf, isWrongBatch}
 use Rattle.desk.specs.Checks.{checks}
 use Rattle.desk.proofs.Checks as Rows
 use Rattle.desk.proofs.Checks.{_also_, goes-on, passed-both}
-use Rattle.diagram.specs.Day.{Day, Means, fresh, isGiven, meant}
+use Rattle.diagram.specs.Day.{Day, Means, fresh, isGiven, markNamed, meant}
 use Rattle.diagram.specs.Steps as Steps
 use Rattle.diagram.specs.Steps.{Event, Step, after, run}
 use Rattle.diagram.specs.Accepted.{Accepted, AcceptedFrom, accepted}
 use Rattle.diagram.specs.Lawful.{MayFollow}
 use Rattle.diagram.proofs.Days.Accepting.{event-tests, fork-tests, join-tests, yield-test}
 use Rattle.diagram.proofs.Days.Naming.{meant-low}
+use Rattle.diagram.proofs.Days.Marking.{in-use, named-is}
 use Rattle.diagram.proofs.Order.Growth.{Fine, busy-idle}
 use Rattle.diagram.proofs.Order.Lawful.{runs-exactly, taken-exactly}
 use Rattle.diagram.proofs.Order.Reuse.{by-numbers}
@@ -36,9 +38,9 @@ use Rattle.plain.specs.Answers.{Outcome, asOne, asked, called, dayAfter,
 use Rattle.plain.specs.Bundles.{AllTaken, parts}
 use Rattle.plain.specs.Taken.{bundleSteps, endOf, stepsAfter}
 use Rattle.plain.specs.Allowed.{Allowed, AreEntries, IsBatch, IsBib, IsKind, JoinAllowed, Meaning, OnLine}
-use Rattle.plain.proofs.Ends.{Joins, Passes, fork-accepts, given, join-passes, known-kind, means, preview-passes, query-accepts, update-accepts, was-taken, yield-accepts}
+use Rattle.plain.proofs.Ends.{Joins, Passes, drop-accepts, fork-accepts, mark-accepts, given, join-passes, known-kind, means, preview-passes, query-accepts, update-accepts, was-taken, yield-accepts}
 use Rattle.plain.proofs.Bundles.{after-bundled, first-of, parts-sent, sent-parts}
-use Rattle.plain.proofs.Steps.{all-accepted, same-choice, same-day, sent-ran}
+use Rattle.plain.proofs.Steps.{all-accepted, marks-after, same-choice, same-day, sent-ran}
 
 -- the limits: 5
 good-bib : (bib : ℕ) → badBib bib ≡ false → IsBib bib
@@ -104,7 +106,7 @@ update-given : (p : PlainDay) (c n k bib v : ℕ) → Passes p (Update c n k bib
 update-given p c n k bib v (e1 also e2 also e3 also P) = e3
 
 update-entry : (p : PlainDay) (c n k bib v : ℕ) → Passes p (Update c n k bib v) → IsBib bib × IsKind k
-update-entry p c n k bib v (e1 also e2 also e3 also e4 also e5 also P) = let b = known-kind bib k e5 in (good-bib bib (b .0), good-kind k _ (b .1))
+update-entry p c n k bib v (e1 also e2 also e3 also e4 also e16 also e5 also P) = let b = known-kind bib k e5 in (good-bib bib (b .0), good-kind k _ (b .1))
 
 bad-kind : (k : ℕ) → IsKind k → badKind k ≡ false
 bad-kind k h = ap isUnknown (kind-good k h .1)
@@ -112,7 +114,7 @@ bad-kind k h = ap isUnknown (kind-good k h .1)
 update-row : (p : PlainDay) (c n k bib v : ℕ) → not (isGiven (p .day) n) ≡ false → IsBib bib × IsKind k → accepted (p .day) (Event c (meant (p .day) n) true) ≡ true → Passes p (Update c n k bib v)
 update-row p c n k bib v g i a =
     let t = event-tests (p .day) c (meant (p .day) n) true a in
-    refl also t .0 also g also t .1 also neither (bib-good bib (i .0)) (bad-kind k (i .1)) also t .2 also t .3 also t .4 also t .5 also Rows.none
+    refl also t .0 also g also t .1 also t .2 also neither (bib-good bib (i .0)) (bad-kind k (i .1)) also t .3 also t .4 also t .5 also t .6 also Rows.none
 
 -- the parts of a bundle, where all are taken, are entries; and back, where the steps are accepted
 good-entries : (es : List Entry) (p : PlainDay) (c n : ℕ) → AllTaken p (parts c n es) → AreEntries es
@@ -188,11 +190,16 @@ module _ (single : Bool) (before : List (Call ℕ)) where
 
   passed-allowed : (c : Call ℕ) → Passes p c → ending p c .answer .code ≡ 0 → Allowed single before c
   passed-allowed (Update c n k bib v) P z = let i = update-entry p c n k bib v P in (meaning n (update-given p c n k bib v P) (follows _ (update-accepts p c n k bib v P)), i .0, i .1)
-  passed-allowed (Query c n bib) (e1 also e2 also e3 also e4 also e5 also P) z = (meaning n e3 (follows _ (query-accepts p c n bib (e1 also e2 also e3 also e4 also e5 also P))), good-bib bib e5)
+  passed-allowed (Query c n bib) (e1 also e2 also e3 also e4 also e16 also e5 also P) z =
+      (meaning n e3 (follows _ (query-accepts p c n bib (e1 also e2 also e3 also e4 also e16 also e5 also P))), good-bib bib e5)
   passed-allowed (Yield c) P z = follows _ (yield-accepts p c P)
   passed-allowed (Fork n) (e1 also e3 also e4 also e15 also P) z = (meaning n e3 (follows _ (fork-accepts p n (e1 also e3 also e4 also e15 also P))), on-line n e15)
   passed-allowed (Join n m) P z = join-means n m (join-passes p n m P)
   passed-allowed (Sync m) P z = join-means 0 m (join-passes p 0 m P)
+  passed-allowed (Mark n name) (e1 also e3 also e4 also e15 also P) z =
+      (meaning n e3 (follows _ (mark-accepts p n name (e1 also e3 also e4 also e15 also P))), sym (same-choice single before) ∙ e15)
+  passed-allowed (Drop name) (e1 also e18 also Rows.none) z =
+      (markNamed y name, named-is y name (not-false _ e18), follows _ (drop-accepts p (marks-after single before) name (e1 also e18 also Rows.none)))
   passed-allowed (Bundle c n batch) (e1 also e14 also Rows.none) z = bundle-means c n batch e14 (after-bundled p (sent p c n (entriesOf batch)) z .0)
   passed-allowed (Looks (Show n room)) (e1 also e3 also e4 also e7 also e12 also Rows.none) z = meaning n e3 (record { out = (is-out n e3, e4); idle = busy-idle y fine (meant y n) .0 e7; fits = ltb-false room _ e12 })
   passed-allowed (Looks (Fill n)) (e1 also e3 also e4 also Rows.none) z = meaning n e3 (is-out n e3, e4)
@@ -205,7 +212,7 @@ module _ (single : Bool) (before : List (Call ℕ)) where
   join-row : (n m : ℕ) → JoinAllowed single before n m → Passes p (Join n m)
   join-row n m A =
       let t = join-tests y (meant y n) (meant y m) (passes _ (A .0 .holds .holds)) in
-      refl also neither (given (A .0)) (given (A .0 .holds)) also neither (t .0) (t .1) also line-on n (A .1) also neither (t .2) (t .3) also t .4 also Rows.none
+      refl also neither (given (A .0)) (given (A .0 .holds)) also neither (t .0) (t .1) also line-on n (A .1) also neither (t .2) (t .3) also neither (t .4) (t .5) also t .6 also Rows.none
 
   -- box 0 is the main revision, after every list of calls
   pub main-means : Means y 0 0
@@ -215,15 +222,15 @@ module _ (single : Bool) (before : List (Call ℕ)) where
       subst (λ y. Means y 0 0) (sym (same-day single before)) (subst (λ n. Means (run ss) n 0) (N .main) m)
 
   -- where a join into box 0 passes, so does a fork of box 0 after it
-  fork-after : (b : ℕ) → accepted y (Steps.Join 0 b) ≡ true → accepted (after y (Steps.Join 0 b)) (Steps.Fork 0) ≡ true
-  fork-after b = subst (λ y. accepted y (Steps.Join 0 b) ≡ true → accepted (after y (Steps.Join 0 b)) (Steps.Fork 0) ≡ true) (sym (same-day single before)) (syncs-go-on ss (all-accepted single before) b)
+  fork-after : (b : ℕ) → accepted y (Steps.Join 0 b) ≡ true → accepted (after y (Steps.Join 0 b)) (Steps.Fork 0 none) ≡ true
+  fork-after b = subst (λ y. accepted y (Steps.Join 0 b) ≡ true → accepted (after y (Steps.Join 0 b)) (Steps.Fork 0 none) ≡ true) (sym (same-day single before)) (syncs-go-on ss (all-accepted single before) b)
 
   pub sync-forks : (m : ℕ) → Passes p (Join 0 m) → Passes (joined p 0 m .next) (Fork 0)
   unfolding isGiven meant after
   sync-forks m P =
       let a = join-passes p 0 m P .accepts in
       let f = fork-after (meant y m) (subst (λ r. accepted y (Steps.Join r (meant y m)) ≡ true) (main-means .1) a) in
-      let t = fork-tests _ (meant y 0) (subst (λ r. accepted (after y (Steps.Join r (meant y m))) (Steps.Fork r) ≡ true) (sym (main-means .1)) f) in
+      let t = fork-tests _ (meant y 0) none (subst (λ r. accepted (after y (Steps.Join r (meant y m))) (Steps.Fork r none) ≡ true) (sym (main-means .1)) f) in
       refl also ap not (main-means .0) also t .0 also and-false (p .single) also t .1 also t .2 also Rows.none
 
   pub sync-ends : (m : ℕ) → Passes p (Join 0 m) → ending p (Sync m) ≡ called (joined p 0 m .next) (Fork 0)
@@ -234,9 +241,15 @@ module _ (single : Bool) (before : List (Call ℕ)) where
   allowed-taken (Update c n k bib v) A = passed-on p (Update c n k bib v) (update-row p c n k bib v (given (A .0)) (A .1, A .2) (passes _ (A .0 .holds)))
   allowed-taken (Query c n bib) A =
       let t = event-tests y c (meant y n) false (passes _ (A .0 .holds)) in
-      passed-on p (Query c n bib) (refl also t .0 also given (A .0) also t .1 also bib-good bib (A .1) also t .2 also t .3 also t .4 also Rows.none)
+      passed-on p (Query c n bib) (refl also t .0 also given (A .0) also t .1 also t .2 also bib-good bib (A .1) also t .3 also t .4 also t .5 also Rows.none)
   allowed-taken (Yield c) A = passed-on p (Yield c) (refl also yield-test y c (passes _ A) also Rows.none)
-  allowed-taken (Fork n) A = let t = fork-tests y (meant y n) (passes _ (A .0 .holds)) in passed-on p (Fork n) (refl also given (A .0) also t .0 also line-on n (A .1) also t .1 also t .2 also Rows.none)
+  allowed-taken (Fork n) A =
+      let t = fork-tests y (meant y n) none (passes _ (A .0 .holds)) in
+      passed-on p (Fork n) (refl also given (A .0) also t .0 also line-on n (A .1) also t .1 also t .2 also Rows.none)
+  allowed-taken (Mark n name) A =
+      let t = fork-tests y (meant y n) (some name) (passes _ (A .0 .holds)) in
+      passed-on p (Mark n name) (refl also given (A .0) also t .0 also (same-choice single before ∙ A .1) also t .1 also t .2 also t .3 also Rows.none)
+  allowed-taken (Drop name) A = passed-on p (Drop name) (refl also ap not (in-use y (marks-after single before) name (A .0) (A .1)) also Rows.none)
   allowed-taken (Join n m) A = passed-on p (Join n m) (join-row n m A)
   allowed-taken (Sync m) A = let P = join-row 0 m A in passed-on p (Sync m) P ∙ ap (λ o. o .answer .code) (sync-ends m P ∙ passed-is _ (Fork 0) (sync-forks m P))
   allowed-taken (Bundle c n batch) A =

@@ -11,14 +11,16 @@ use Rattle.lists.proofs.Cases.{cases}
 use Rattle.lists.specs.Sums.{sumBelow}
 use Rattle.lists.proofs.Sums.{sum-same}
 use Rattle.bundles.specs.declared.entry.Entry.{Entry}
-use Rattle.desk.specs.Calls.{Call, Update, Query, Yield, Fork, Join, Sync, Bundle, Looks, Fill, entriesOf, level}
+use Rattle.desk.specs.Calls.{Call, Update, Query, Yield, Fork, Join, Sync, Mark, Drop, Bundle, Looks, Fill, entriesOf, level}
 use Rattle.desk.specs.Checks.{_if_, settle}
 use Rattle.diagram.specs.Summed.{OwnAddsUp, ownIfOut}
 use Rattle.diagram.specs.Day.{Day}
-use Rattle.diagram.proofs.Days.Found.{found, given-found, isSome, meant-found, orMain}
+use Rattle.diagram.proofs.Days.Found.{found, given-found, meant-found, orMain}
+use Rattle.diagram.specs.Names.{isSome}
 use Rattle.diagram.specs.Steps as Steps
 use Rattle.diagram.specs.Steps.{Event, Step, after, runFrom}
 use Rattle.diagram.proofs.Days.Moves.{yield-updates}
+use Rattle.diagram.proofs.Days.Marking.{Marks, marks-fresh}
 use Rattle.diagram.proofs.Days.Naming.{Named, countFor, earlier-in, not-meant, sum-latest}
 use Rattle.diagram.proofs.Order.Counted.{own-adds-up}
 use Rattle.plain.specs.Record.{PlainDay, freshDay}
@@ -26,15 +28,16 @@ use Rattle.plain.specs.Answers.{answers, answersFrom, called, dayAfter, 
 use Rattle.plain.specs.Fills.{FillsAddUp, acceptedIn, codesOf, enters}
 use Rattle.plain.specs.Taken.{bundleSteps, stepOf, stepsAfter, stepsOf}
 use Rattle.plain.proofs.Ends.{was-taken}
-use Rattle.plain.proofs.Steps.{all-accepted, did, named, same-day}
+use Rattle.plain.proofs.Steps.{all-accepted, did, marks-next, named, same-day}
 
 -- the updates among some steps
 abbrev one : Step → ℕ
 one (Event c r true) = 1
 one (Event c r false) = 0
 one (Steps.Yield c) = 0
-one (Steps.Fork r) = 0
+one (Steps.Fork r name) = 0
 one (Steps.Join a b) = 0
+one (Steps.Drop r) = 0
 
 abbrev updatesIn : List Step → ℕ
 updatesIn [] = 0
@@ -45,8 +48,9 @@ unfolding after
 after-one y (Event c r true) = omega arith
 after-one y (Event c r false) = omega arith
 after-one y (Steps.Yield c) = let z = yield-updates y c (y .openBy c) in omega arith
-after-one y (Steps.Fork r) = omega arith
+after-one y (Steps.Fork r name) = omega arith
 after-one y (Steps.Join a b) = omega arith
+after-one y (Steps.Drop r) = omega arith
 
 run-updates : (ss : List Step) (y : Day) → runFrom y ss .updates ≡ y .updates + updatesIn ss
 unfolding runFrom
@@ -65,6 +69,8 @@ steps-enter p (Yield c) = refl
 steps-enter p (Fork n) = refl
 steps-enter p (Join n m) = refl
 steps-enter p (Sync m) = refl
+steps-enter p (Mark n name) = refl
+steps-enter p (Drop name) = refl
 steps-enter p (Bundle c n batch) = bundle-enters c _ (entriesOf batch)
 steps-enter p (Looks l) = refl
 
@@ -72,22 +78,22 @@ if-taken : (b : Bool) (ss : List Step) → updatesIn (cond b ss []) ≡ cond b (
 if-taken true ss = refl
 if-taken false ss = refl
 
-adds : (p : PlainDay) (c : Call ℕ) → called p c .next .day .updates ≡ p .day .updates + cond (eqb (called p c .answer .code) 0) (enters c) 0
-adds p c =
-    ap (λ y. y .updates) (did p c .same) ∙ run-updates (stepsOf p c) (p .day)
+adds : (p : PlainDay) → Marks (p .day) → (c : Call ℕ) → called p c .next .day .updates ≡ p .day .updates + cond (eqb (called p c .answer .code) 0) (enters c) 0
+adds p M c =
+    ap (λ y. y .updates) (did p M c .same) ∙ run-updates (stepsOf p c) (p .day)
     ∙ ap (λ k. p .day .updates + k) (if-taken (eqb (called p c .answer .code) 0) (stepOf p c) ∙ ap (λ k. cond (eqb (called p c .answer .code) 0) k 0) (steps-enter p c))
 
-counted-from : (cs : List (Call ℕ)) (p : PlainDay) → dayFrom p cs .day .updates ≡ p .day .updates + acceptedIn cs (codesOf (answersFrom p cs))
+counted-from : (cs : List (Call ℕ)) (p : PlainDay) → Marks (p .day) → dayFrom p cs .day .updates ≡ p .day .updates + acceptedIn cs (codesOf (answersFrom p cs))
 unfolding dayFrom answersFrom acceptedIn
-counted-from [] p = omega arith
-counted-from (c ∷ cs) p = let a = adds p c in let b = counted-from cs (called p c .next) in omega arith
+counted-from [] p M = omega arith
+counted-from (c ∷ cs) p M = let a = adds p M c in let b = counted-from cs (called p c .next) (marks-next p M c) in omega arith
 
 nothing-before : (n : ℕ) → 0 + n ≡ n
 nothing-before n = omega arith
 
 counted : (single : Bool) (cs : List (Call ℕ)) → dayAfter single cs .day .updates ≡ acceptedIn cs (codesOf (answers single cs))
 unfolding dayAfter answers
-counted single cs = counted-from cs (freshDay single) ∙ nothing-before (acceptedIn cs (codesOf (answersFrom (freshDay single) cs)))
+counted single cs = counted-from cs (freshDay single) marks-fresh ∙ nothing-before (acceptedIn cs (codesOf (answersFrom (freshDay single) cs)))
 
 -- a fill tells what the revision that the number means, if it is out, has of its own; of a number not given out nothing
 abbrev toldBy : PlainDay → Bool → ℕ → ℕ

@@ -7,5 +7,6 @@ pub mod Exactly
 pub mod Values
 pub mod Previews
 pub mod Syncs
+pub mod Marks
 pub mod LineUp
 pub mod Fills

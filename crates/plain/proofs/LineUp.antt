@@ -9,6 +9,7 @@ use lib.ListN.{length}
 use Rattle.desk.specs.Calls.{Bundle, Call, Fork, Join, Looks, Query, Show, Sync, Update, Batch, entriesOf, isWrongBatch}
 use Rattle.desk.proofs.Checks.{_also_}
 use Rattle.diagram.proofs.Days.Naming.{meant-low}
+use Rattle.diagram.proofs.Days.Marking.{Marks, marks-fresh}
 use Rattle.entries.specs.Folded.{ofBib}
 use Rattle.diagram.proofs.Graph.Tables.{numberStep, tabulate-newest}
 use Rattle.diagram.proofs.Order.Growth.{Fine, busy-idle, fine-fresh, tabulate-stays}
@@ -36,7 +37,8 @@ use Rattle.plain.proofs.Exactly.{exactly}
 use Rattle.plain.proofs.Values.{fill-value, fork-none, fork-takes, fork-value, join-value}
 use Rattle.plain.proofs.Previews.{foresees}
 use Rattle.plain.proofs.Syncs.{never-ten, on-single-main, sync-is}
-use Rattle.plain.proofs.Steps.{after-steps, all-accepted, day-both, did, named, ran, same-day, taken-steps}
+use Rattle.plain.proofs.Marks.{on-marks}
+use Rattle.plain.proofs.Steps.{after-steps, all-accepted, day-both, did, marks-after, marks-next, named, ran, same-day, taken-steps}
 use Rattle.plain.specs.Taken.{Taken, endOf, stepsAfter, stepsFrom, stepsOf}
 use Rattle.plain.specs.Answers.{called, dayAfter, dayFrom, ending, sent, shownAt, stepped}
 use Rattle.plain.specs.Bundles.{AllTaken, Bundled, parts}
@@ -65,11 +67,11 @@ linesOf-same f g [] h = refl
 linesOf-same f g (n ∷ ns) h = rw (h n (List·Memᴰ·head refl), linesOf-same f g ns (λ m i. h m (List·Memᴰ·tail i)))
 
 -- growth at each call, along its steps
-grows-from : (cs : List (Call ℕ)) (p : PlainDay) → Fine (p .day) → GrowsEach p cs
-grows-from [] p F = tt
-grows-from (c ∷ cs) p F =
-    let d = did p c in
-    (subst (λ y. Extends (p .day) y) (sym (d .same)) (extends-run (stepsOf p c) (p .day) F (d .accepts)), grows-from cs (called p c .next) (subst Fine (sym (d .same)) (along Fine fine-step (stepsOf p c) (p .day) (d .accepts) F)))
+grows-from : (cs : List (Call ℕ)) (p : PlainDay) → Marks (p .day) → Fine (p .day) → GrowsEach p cs
+grows-from [] p M F = tt
+grows-from (c ∷ cs) p M F =
+    let d = did p M c in
+    (subst (λ y. Extends (p .day) y) (sym (d .same)) (extends-run (stepsOf p c) (p .day) F (d .accepts)), grows-from cs (called p c .next) (marks-next p M c) (subst Fine (sym (d .same)) (along Fine fine-step (stepsOf p c) (p .day) (d .accepts) F)))
 
 -- what the rows of a list and of a bundle say
 show-idle : (p : PlainDay) (n room : ℕ) → Passes p (Looks (Show n room)) → IsOut (p .day) (meant (p .day) n) × (busy (p .day) (meant (p .day) n) ≡ false)
@@ -96,7 +98,7 @@ module _ (single : Bool) (cs : List (Call ℕ)) where
 
     -- the entries that were there are there at the end
     entries-stay : (n : ℕ) → n < p .day .updates → p .entries n ≡ dayAfter single cs .entries n
-    entries-stay n h = sym (ap (λ z. z .entries n) day-is ∙ ran (c ∷ rest) p .kept n h)
+    entries-stay n h = sym (ap (λ z. z .entries n) day-is ∙ ran (c ∷ rest) p (marks-after single before) .kept n h)
 
   queries : (before rest : List (Call ℕ)) (c n bib : ℕ) → Taken single cs before (Query c n bib) rest → AnsweredBy single cs (A .order) (length (endOf single before .diagram)) bib (called (dayAfter single before) (Query c n bib) .answer)
   unfolding after
@@ -189,8 +191,8 @@ module _ (single : Bool) (cs : List (Call ℕ)) where
   number-at before rest c r k bib v T =
       ap (λ z. number (z .day .diagram) x) (day-is before (Update c r k bib v) rest T)
       ∙ ap (λ o. number (dayFrom (o .next) rest .day .diagram) x) is
-      ∙ ap (λ y. number (y .diagram) x) (ran rest next .same)
-      ∙ tabulate-stays numberStep none (older-from (stepsFrom next rest) (next .day) (ran rest next .accepts)) x (omega arith)
+      ∙ ap (λ y. number (y .diagram) x) (ran rest next marks .same)
+      ∙ tabulate-stays numberStep none (older-from (stepsFrom next rest) (next .day) (ran rest next marks .accepts)) x (omega arith)
       ∙ tabulate-newest numberStep none _ (q .day .diagram)
       ∙ ap some (sym (ap (λ o. o .answer .value) is))
     where
@@ -206,12 +208,15 @@ module _ (single : Bool) (cs : List (Call ℕ)) where
       next : PlainDay
       next = noted q c (meant (q .day) r) (kindOf k) bib v
 
+      marks : Marks (next .day)
+      marks = subst (λ o. Marks (o .next .day)) is (marks-next q (marks-after single before) (Update c r k bib v))
+
   noted-is : (before rest : List (Call ℕ)) (c r k bib v : ℕ) → Taken single cs before (Update c r k bib v) rest
       → dayAfter single cs .entries (called (dayAfter single before) (Update c r k bib v) .answer .value) ≡ record { kind = kindOf k; client = c; bib = bib; v = v }
   unfolding dayFrom after
   noted-is before rest c r k bib v T =
       ap (dayAfter single cs .entries) (ap (λ o. o .answer .value) is) ∙ ap (λ z. z .entries n) (day-is before (Update c r k bib v) rest T)
-      ∙ ap (λ o. dayFrom (o .next) rest .entries n) is ∙ ran rest next .kept n (omega arith) ∙ changed-same (q .entries) n _
+      ∙ ap (λ o. dayFrom (o .next) rest .entries n) is ∙ ran rest next marks .kept n (omega arith) ∙ changed-same (q .entries) n _
     where
       q : PlainDay
       q = dayAfter single before
@@ -224,6 +229,9 @@ module _ (single : Bool) (cs : List (Call ℕ)) where
 
       next : PlainDay
       next = noted q c (meant (q .day) r) (kindOf k) bib v
+
+      marks : Marks (next .day)
+      marks = subst (λ o. Marks (o .next .day)) is (marks-next q (marks-after single before) (Update c r k bib v))
 
   bundles : (before rest : List (Call ℕ)) (c n : ℕ) (batch : Batch) → Taken single cs before (Bundle c n batch) rest → Bundled single before c n batch
   bundles before rest c n batch T =
@@ -280,11 +288,12 @@ module _ (single : Bool) (cs : List (Call ℕ)) where
     bundles = bundles;
     queries = queries;
     listed = listed;
-    grows = grows-from cs (freshDay single) fine-fresh;
+    grows = grows-from cs (freshDay single) marks-fresh fine-fresh;
     lists = lists;
     previews = λ before rest n m bib T. foresees single before n m bib (T .code);
     unsynced = unsynced;
     syncs = λ before rest m T. sync-is single before m (T .code);
     never-ten = λ before rest m place. never-ten single before m;
     single-main = λ e. on-single-main cs;
+    marks = on-marks single cs;
   }

@@ -2,6 +2,7 @@
 use Prim.Native.Nat.{_<_, _≤_, ℕ}
 use mathlib.Core.Bool.{Bool, cond, false, true}
 use mathlib.Core.Path.{_∙_, _≡_, ap, refl, subst, sym}
+use mathlib.Core.Option.{none, some}
 use mathlib.Core.List.{List, [], _++_, _∷_, append-assoc}
 use native.Mathlib.Omega.{arith}
 use lib.Dec.{eqb}
@@ -9,17 +10,18 @@ use borrow.Author.Tests.{eqb-false, eqb-true, ne-eqb}
 use Rattle.lists.proofs.Cases.{cases}
 use Rattle.lists.proofs.Changed.{changed-other}
 use Rattle.bundles.specs.declared.entry.Entry.{Entry}
-use Rattle.desk.specs.Calls.{Bundle, Call, Fill, Fork, Join, Looks, Preview, Query, Show, Sync, Update, Yield, entriesOf}
+use Rattle.desk.specs.Calls.{Bundle, Call, Fill, Fork, Join, Looks, Preview, Query, Show, Sync, Mark, Drop, Update, Yield, entriesOf}
 use Rattle.desk.specs.Checks.{checks}
 use Rattle.desk.proofs.Checks.{Ends, no, yes, ends}
-use Rattle.diagram.proofs.Order.Runs.{accepted-both, named-run, run-both}
-use Rattle.diagram.proofs.Days.Moves.{yield-updates}
+use Rattle.diagram.proofs.Order.Runs.{accepted-both, along, named-run, run-both}
+use Rattle.diagram.proofs.Days.Moves.{step-moves, yield-updates}
+use Rattle.diagram.proofs.Days.Marking.{Marks, marks-fresh, marks-moves}
 use Rattle.diagram.proofs.Days.Naming.{Named}
-use Rattle.diagram.specs.Day.{Day, meant, isGiven}
+use Rattle.diagram.specs.Day.{Day, isGiven, markNamed, meant}
 use Rattle.diagram.specs.Steps as Steps
 use Rattle.diagram.specs.Steps.{Event, Step, after, run, runFrom}
 use Rattle.diagram.specs.Accepted.{Accepted, AcceptedFrom, accepted}
-use Rattle.plain.proofs.Ends.{fork-accepts, join-passes, query-accepts, update-accepts, was-taken, yield-accepts}
+use Rattle.plain.proofs.Ends.{drop-accepts, fork-accepts, join-passes, mark-accepts, query-accepts, update-accepts, was-taken, yield-accepts}
 use Rattle.plain.proofs.Bundles.{after-bundled, one-never, sent-first, sent-never}
 use Rattle.plain.specs.Answers.{Outcome, asOne, asked, bundled, called, dayAfter, dayFrom, ending, joined, refused, sent, stepped}
 use Rattle.plain.specs.Taken.{Taken, bundleSteps, endOf, stepOf, stepsAfter, stepsFrom, stepsOf}
@@ -45,6 +47,8 @@ ending-fair p (Query c n bib) = good refl
 ending-fair p (Yield c) = good refl
 ending-fair p (Fork n) = good refl
 ending-fair p (Join n m) = good refl
+ending-fair p (Mark n name) = good refl
+ending-fair p (Drop name) = good refl
 ending-fair p (Sync m) = let q = joined p 0 m .next in one-fair p (called q (Fork 0)) (one-never q (Fork 0) refl)
 ending-fair p (Bundle c n batch) = bundled-fair p (sent p c n (entriesOf batch)) (sent-never c n (entriesOf batch) p)
 ending-fair p (Looks (Show n room)) = good refl
@@ -94,8 +98,9 @@ unfolding after
 more-after y (Event c r true) = omega arith
 more-after y (Event c r false) = omega arith
 more-after y (Steps.Yield c) = let z = yield-updates y c (y .openBy c) in omega arith
-more-after y (Steps.Fork r) = omega arith
+more-after y (Steps.Fork r name) = omega arith
 more-after y (Steps.Join a b) = omega arith
+more-after y (Steps.Drop r) = omega arith
 
 ran-one : (p q : PlainDay) (s : Step) → accepted (p .day) s ≡ true → q .day ≡ after (p .day) s → ((i : ℕ) → i < p .day .updates → q .entries i ≡ p .entries i) → q .single ≡ p .single → RanTo p q (s ∷ [])
 unfolding runFrom
@@ -128,53 +133,67 @@ sent-ran c n r (e ∷ es) p b z =
 pub after-one : (p : PlainDay) (o : Outcome) → asOne p o .answer .code ≡ 0 → (o .answer .code ≡ 0) × (asOne p o ≡ o)
 after-one p o z = cases (eqb (o .answer .code) 0) (λ q. (eqb-true _ 0 q, rw q)) (λ q. absurd (eqb-false _ 0 q (rw q at z)))
 
--- a call that is taken
-taken-ran : (p : PlainDay) (c : Call ℕ) → called p c .answer .code ≡ 0 → RanTo p (called p c .next) (stepOf p c)
+-- a call that is taken, on a day whose marks are out
+taken-ran : (p : PlainDay) → Marks (p .day) → (c : Call ℕ) → called p c .answer .code ≡ 0 → RanTo p (called p c .next) (stepOf p c)
 unfolding called isGiven meant after
-taken-ran p (Update c n k bib v) e = update-ran p c n k bib v e
-taken-ran p (Query c n bib) e = let w = was-taken p (Query c n bib) e in rw (w .1) (ran-step p _ (query-accepts p c n bib (w .0)))
-taken-ran p (Yield c) e = let w = was-taken p (Yield c) e in rw (w .1) (ran-step p _ (yield-accepts p c (w .0)))
-taken-ran p (Fork n) e = let w = was-taken p (Fork n) e in rw (w .1) (ran-step p _ (fork-accepts p n (w .0)))
-taken-ran p (Join n m) e = let w = was-taken p (Join n m) e in rw (w .1) (ran-step p _ (join-passes p n m (w .0) .accepts))
-taken-ran p (Sync m) e =
+taken-ran p M (Update c n k bib v) e = update-ran p c n k bib v e
+taken-ran p M (Query c n bib) e = let w = was-taken p (Query c n bib) e in rw (w .1) (ran-step p _ (query-accepts p c n bib (w .0)))
+taken-ran p M (Yield c) e = let w = was-taken p (Yield c) e in rw (w .1) (ran-step p _ (yield-accepts p c (w .0)))
+taken-ran p M (Fork n) e = let w = was-taken p (Fork n) e in rw (w .1) (ran-step p _ (fork-accepts p n (w .0)))
+taken-ran p M (Join n m) e = let w = was-taken p (Join n m) e in rw (w .1) (ran-step p _ (join-passes p n m (w .0) .accepts))
+taken-ran p M (Mark n name) e = let w = was-taken p (Mark n name) e in rw (w .1) (ran-step p _ (mark-accepts p n name (w .0)))
+taken-ran p M (Drop name) e = let w = was-taken p (Drop name) e in rw (w .1) (ran-step p _ (drop-accepts p M name (w .0)))
+taken-ran p M (Sync m) e =
     let w = was-taken p (Sync m) e in
     let q = joined p 0 m .next in
     let b = after-one p (called q (Fork 0)) (rw (w .1) at e) in
     let f = was-taken q (Fork 0) (b .0) in
     subst (λ o. RanTo p (o .next) (stepOf p (Sync m))) (sym (w .1 ∙ b .1 ∙ f .1))
-    (ran-both p q _ (Steps.Join (meant (p .day) 0) (meant (p .day) m) ∷ []) (Steps.Fork (meant (p .day) 0) ∷ []) (ran-step p _ (join-passes p 0 m (w .0) .accepts)) (ran-step q _ (fork-accepts q 0 (f .0))))
-taken-ran p (Bundle c n batch) e =
+    (ran-both p q _ (Steps.Join (meant (p .day) 0) (meant (p .day) m) ∷ []) (Steps.Fork (meant (p .day) 0) none ∷ []) (ran-step p _ (join-passes p 0 m (w .0) .accepts)) (ran-step q _ (fork-accepts q 0 (f .0))))
+taken-ran p M (Bundle c n batch) e =
     let w = was-taken p (Bundle c n batch) e in
     let b = after-bundled p (sent p c n (entriesOf batch)) (rw (w .1) at e) in
     subst (λ o. RanTo p (o .next) (bundleSteps c (meant (p .day) n) (entriesOf batch))) (sym (w .1 ∙ b .1)) (sent-ran c n (meant (p .day) n) (entriesOf batch) p refl (b .0))
-taken-ran p (Looks l) e = rw (was-taken p (Looks l) e .1) (ran-none p)
+taken-ran p M (Looks l) e = rw (was-taken p (Looks l) e .1) (ran-none p)
 
 -- any call
-pub did : (p : PlainDay) (c : Call ℕ) → RanTo p (called p c .next) (stepsOf p c)
-did p c = by (called-fair p c) (taken-ran p c)
+pub did : (p : PlainDay) → Marks (p .day) → (c : Call ℕ) → RanTo p (called p c .next) (stepsOf p c)
+did p M c = by (called-fair p c) (taken-ran p M c)
   where
     by : {o : Outcome} → Fair p o → (o .answer .code ≡ 0 → RanTo p (o .next) (stepOf p c)) → RanTo p (o .next) (cond (eqb (o .answer .code) 0) (stepOf p c) [])
     by (good z) f = rw z (f z)
     by (bad k h) f = rw (ne-eqb k 0 (λ e. omega arith)) (ran-none p)
 
+-- marks stay out along a run
+marks-ran : {p q : PlainDay} {ss : List Step} → RanTo p q ss → Marks (p .day) → Marks (q .day)
+marks-ran {p} {q} {ss} R M = subst Marks (sym (R .same)) (along Marks (λ y s e M. marks-moves y M (after y s) (step-moves y s e)) ss (p .day) (R .accepts) M)
+
+pub marks-next : (p : PlainDay) → Marks (p .day) → (c : Call ℕ) → Marks (called p c .next .day)
+marks-next p M c = marks-ran (did p M c) M
+
 -- whole lists of calls
-pub ran : (cs : List (Call ℕ)) (p : PlainDay) → RanTo p (dayFrom p cs) (stepsFrom p cs)
+pub ran : (cs : List (Call ℕ)) (p : PlainDay) → Marks (p .day) → RanTo p (dayFrom p cs) (stepsFrom p cs)
 unfolding stepsFrom dayFrom
-ran [] p = ran-none p
-ran (c ∷ cs) p = ran-both p (called p c .next) _ (stepsOf p c) (stepsFrom (called p c .next) cs) (did p c) (ran cs (called p c .next))
+ran [] p M = ran-none p
+ran (c ∷ cs) p M = ran-both p (called p c .next) _ (stepsOf p c) (stepsFrom (called p c .next) cs) (did p M c) (ran cs (called p c .next) (marks-next p M c))
 
 -- a list of calls as a run of accepted steps
 pub all-accepted : (single : Bool) (cs : List (Call ℕ)) → Accepted (stepsAfter single cs)
-all-accepted single cs = ran cs (freshDay single) .accepts
+all-accepted single cs = ran cs (freshDay single) marks-fresh .accepts
 
 pub same-day : (single : Bool) (cs : List (Call ℕ)) → endOf single cs ≡ run (stepsAfter single cs)
 unfolding dayAfter run
-same-day single cs = ran cs (freshDay single) .same
+same-day single cs = ran cs (freshDay single) marks-fresh .same
 
 -- the choice given to fresh is there after every list of calls
 pub same-choice : (single : Bool) (cs : List (Call ℕ)) → dayAfter single cs .single ≡ single
 unfolding dayAfter
-same-choice single cs = ran cs (freshDay single) .choice
+same-choice single cs = ran cs (freshDay single) marks-fresh .choice
+
+-- the marks that are there are out
+pub marks-after : (single : Bool) (cs : List (Call ℕ)) → Marks (endOf single cs)
+unfolding dayAfter
+marks-after single cs = marks-ran (ran cs (freshDay single) marks-fresh) marks-fresh
 
 -- the numbers of the revisions out are apart
 pub named : (single : Bool) (cs : List (Call ℕ)) → Named (endOf single cs)

@@ -2,6 +2,7 @@
 use Prim.Native.Nat.{ℕ, _<_, _≤_}
 use mathlib.Core.Bool.{Bool, true, false, not, _||_, true≢false}
 use mathlib.Core.Path.{_≡_, refl, sym, _∙_, ap, subst}
+use mathlib.Core.Option.{none}
 use mathlib.Core.List.{List, [], _∷_, _++_, append-assoc}
 use native.Mathlib.Omega.{arith}
 use lib.Dec.{eqb}
@@ -11,7 +12,7 @@ use Rattle.lists.proofs.Cases.{cases, or-false}
 use Rattle.lists.proofs.Keep.{in-member}
 use Rattle.updates.specs.Kinds.{badBib}
 use Rattle.bundles.specs.declared.entry.Entry.{Entry}
-use Rattle.desk.specs.Calls.{Call, Update, Query, Yield, Fork, Join, Sync, Bundle, Looks, Preview, entriesOf}
+use Rattle.desk.specs.Calls.{Call, Update, Query, Yield, Fork, Join, Sync, Mark, Drop, Bundle, Looks, Preview, entriesOf}
 use Rattle.desk.specs.Checks.{Check, Tests, _if_, checks}
 use Rattle.desk.proofs.Checks as Rows
 use Rattle.desk.proofs.Checks.{Passed, Settled, _also_, code-exactly, goes, numbersOf, settled, stops, stops-after}
@@ -90,9 +91,11 @@ module _ (before : List (Call ℕ)) where
   step-line (Update c n k bib v) A = (tt, tt)
   step-line (Query c n bib) A = (tt, tt)
   step-line (Yield c) A = (tt, tt)
-  step-line (Fork n) A = (is-main n (A .1 refl), tt)
+  step-line (Fork n) A = ((is-main n (A .1 refl), refl), tt)
   step-line (Join n m) A = (is-main n (A .1 refl), tt)
-  step-line (Sync m) A = (is-main 0 refl, (is-main 0 refl, tt))
+  step-line (Sync m) A = (is-main 0 refl, ((is-main 0 refl, refl), tt))
+  step-line (Mark n name) A = absurd (true≢false (A .1))
+  step-line (Drop name) A = (tt, tt)
   step-line (Bundle c n batch) A = events-line c _ (entriesOf batch)
   step-line (Looks l) A = tt
 
@@ -114,7 +117,8 @@ single-steps cs = line-from cs []
 
 -- the join's row up to 11
 abbrev firstChecks : Tests → ℕ → ℕ → List Check
-firstChecks q n m = 1 if q .noTable ∷ 3 if (q .never n || q .never m) ∷ 4 if (q .joined n || q .joined m) ∷ 15 if q .offLine n ∷ 7 if (q .busy n || q .busy m) ∷ []
+firstChecks q n m = 1 if q .noTable ∷ 3 if (q .never n || q .never m) ∷ 4 if (q .joined n || q .joined m) ∷ 15 if q .offLine n ∷ 16 if (q .marked n || q .marked m)
+    ∷ 7 if (q .busy n || q .busy m) ∷ []
 
 module _ (before : List (Call ℕ)) (n m : ℕ) where
   abbrev p2 : PlainDay
@@ -177,7 +181,7 @@ module _ (cs before rest : List (Call ℕ)) (m : ℕ) (T : Taken true cs before 
       → (r : ℕ) → endOf true before .revisions ≤ r → r < endOf true cs .revisions → VisibleTo (endOf true cs) r (nextVertex early)
   seen early middle c u place r l k =
       let more = stepsFrom (called p3 (Sync m) .next) rest in
-      let main : stepOf p3 (Sync m) ≡ sync b = ap (λ a. Steps.Join a b ∷ Steps.Fork a ∷ []) (is-main before 0 refl) in
+      let main : stepOf p3 (Sync m) ≡ sync b = ap (λ a. Steps.Join a b ∷ Steps.Fork a none ∷ []) (is-main before 0 refl) in
       let whole : stepsAfter true cs ≡ early ++ (Event c b u ∷ (middle ++ (sync b ++ more))) =
       taken-steps true cs before (Sync m) rest T (sync b) main ∙ ap (λ ss. ss ++ (sync b ++ more)) place ∙ append-assoc early (Event c b u ∷ middle) (sync b ++ more) in
       let l1 = subst (λ y. y .revisions ≤ r) (same-day true before ∙ ap run place) l in

@@ -1,15 +1,17 @@
--- What the values of a taken fork, join and fill are.
+-- What the values of a taken fork or mark, of a join and of a fill are.
 use Prim.Native.Nat.{ℕ, _≤_}
 use mathlib.Core.Bool.{Bool, true, not, true≢false}
 use mathlib.Core.Logic.{_↔_}
 use mathlib.Core.Path.{_≡_, refl, sym, _∙_, subst}
+use mathlib.Core.Option.{Option, none, some}
 use mathlib.Core.List.{List, [], _∷_}
 use native.Mathlib.Omega.{arith}
 use lib.Dec.{ltb}
 use borrow.Author.Tests.{le-ltb, ltb-false, not-false}
+use Rattle.lists.specs.Names.{Name}
 use Rattle.lists.proofs.Cases.{cases}
 use Rattle.lists.proofs.Changed.{changed-same}
-use Rattle.desk.specs.Calls.{Call, Fill, Fork, Join, Looks}
+use Rattle.desk.specs.Calls.{Call, Fill, Fork, Join, Looks, Mark}
 use Rattle.desk.specs.Checks.{Check, Tests, _if_}
 use Rattle.desk.proofs.Checks as Rows
 use Rattle.desk.proofs.Checks.{Passed, _also_, code-exactly}
@@ -30,11 +32,11 @@ use Rattle.diagram.proofs.Order.Reuse.{takes}
 use Rattle.diagram.proofs.Order.Runs.{fine-run, numbered-run}
 use Rattle.diagram.proofs.Order.Since.{fork-shows, join-gains, own-updates}
 use Rattle.plain.specs.Record.{PlainDay}
-use Rattle.plain.specs.Answers.{Outcome, asked, called, dayAfter, ending, ownAt, refused}
+use Rattle.plain.specs.Answers.{Outcome, asked, called, dayAfter, ending, forked, ownAt, refused}
 use Rattle.plain.specs.Allowed.{Meaning, OnLine}
 use Rattle.plain.specs.Taken.{endOf, stepsAfter}
 use Rattle.plain.specs.Values.{Filled, Forked, Gained}
-use Rattle.plain.proofs.Ends.{Passes, fork-accepts, given, join-passes, means, was-taken}
+use Rattle.plain.proofs.Ends.{Passes, fork-accepts, given, join-passes, mark-accepts, means, was-taken}
 use Rattle.plain.proofs.Exactly.{line-on, on-line}
 use Rattle.plain.proofs.Steps.{all-accepted, same-day}
 
@@ -72,32 +74,39 @@ module _ (single : Bool) (before : List (Call ℕ)) where
       idle (e1 also e3 also e4 also e15 also e7 also P) =
           (record { given = not-false (isGiven y n) e3; holds = ((meant-low y n (meant y n) (means p n e3), e4), busy-idle y fine (meant y n) .0 e7) }, on-line single before n e15)
 
-  shows : (r : ℕ) → accepted y (Steps.Fork r) ≡ true → SeenSince (y .diagram) (y .terminal r) (after y (Steps.Fork r) .diagram) (after y (Steps.Fork r) .terminal (y .revisions)) []
-  shows r e =
-      subst (λ y. SeenSince (y .diagram) (y .terminal r) (after y (Steps.Fork r) .diagram) (after y (Steps.Fork r) .terminal (y .revisions)) []) (sym (same-day single before))
-      (fork-shows (stepsAfter single before) (all-accepted single before) r (subst (λ y. accepted y (Steps.Fork r) ≡ true) (same-day single before) e))
+  shows : (r : ℕ) (name : Option Name) → accepted y (Steps.Fork r name) ≡ true
+      → SeenSince (y .diagram) (y .terminal r) (after y (Steps.Fork r name) .diagram) (after y (Steps.Fork r name) .terminal (y .revisions)) []
+  shows r name e =
+      subst (λ y. SeenSince (y .diagram) (y .terminal r) (after y (Steps.Fork r name) .diagram) (after y (Steps.Fork r name) .terminal (y .revisions)) []) (sym (same-day single before))
+      (fork-shows (stepsAfter single before) (all-accepted single before) r name (subst (λ y. accepted y (Steps.Fork r name) ≡ true) (same-day single before) e))
 
-  forks : (n : ℕ) → Named y → accepted y (Steps.Fork (meant y n)) ≡ true → Forked y n (ending p (Fork n))
+  pub forks : (n : ℕ) (name : Option Name) → Named y → accepted y (Steps.Fork (meant y n) name) ≡ true → Forked y n (forked p n name)
   unfolding nextNumber after
-  forks n N e =
-      let C : CanFork y (meant y n) = can-fork y (meant y n) e in
-      let z = after y (Steps.Fork (meant y n)) in
+  forks n name N e =
+      let C : CanFork y (meant y n) name = can-fork y (meant y n) name e in
+      let z = after y (Steps.Fork (meant y n) name) in
       record {
-        unused = λ s q. let f = found-means y _ s .1 q in cases (y .joined s) (λ e. e) (λ e. absurd (next-apart y N _ C s (meant-low y _ s f, e) (meant-number y _ s f)));
-        others = λ k r d. let old = meant-old y N _ C k d in (λ m. found-means y k r .0 (sym old ∙ found-means z k r .1 m), λ m. found-means z k r .0 (old ∙ found-means y k r .1 m));
-        means = found-means z _ _ .0 (meant-new y N _ C);
+        unused = λ s q. let f = found-means y _ s .1 q in cases (y .joined s) (λ e. e) (λ e. absurd (next-apart y N _ name C s (meant-low y _ s f, e) (meant-number y _ s f)));
+        others = λ k r d. let old = meant-old y N _ name C k d in (λ m. found-means y k r .0 (sym old ∙ found-means z k r .1 m), λ m. found-means z k r .0 (old ∙ found-means y k r .1 m));
+        means = found-means z _ _ .0 (meant-new y N _ name C);
         out = (omega arith, changed-same (y .joined) (y .revisions) _);
-        shows = shows (meant y n) e;
+        shows = shows (meant y n) name e;
       }
 
   pub fork-value : (n : ℕ) → Named y → called p (Fork n) .answer .code ≡ 0 → Forked y n (called p (Fork n))
-  fork-value n N e = let w = was-taken p (Fork n) e in subst (Forked y n) (sym (w .1)) (forks n N (fork-accepts p n (w .0)))
+  fork-value n N e = let w = was-taken p (Fork n) e in subst (Forked y n) (sym (w .1)) (forks n none N (fork-accepts p n (w .0)))
+
+  -- the number is the one by 02, U7
+  forks-take : (n : ℕ) (name : Option Name) → accepted y (Steps.Fork (meant y n) name) ≡ true → Takes (stepsAfter single before) (nextNumber y)
+  forks-take n name e =
+      subst (λ y. Takes (stepsAfter single before) (nextNumber y)) (sym (same-day single before))
+      (takes (stepsAfter single before) (all-accepted single before) _ name (subst (λ y. accepted y (Steps.Fork (meant y n) name) ≡ true) (same-day single before) e))
 
   pub fork-takes : (n : ℕ) → called p (Fork n) .answer .code ≡ 0 → Takes (stepsAfter single before) (called p (Fork n) .answer .value)
-  fork-takes n e =
-      let w = was-taken p (Fork n) e in
-      let a = subst (λ y. accepted y (Steps.Fork (meant y n)) ≡ true) (same-day single before) (fork-accepts p n (w .0)) in
-      rw (w .1, same-day single before) (takes (stepsAfter single before) (all-accepted single before) _ a)
+  fork-takes n e = let w = was-taken p (Fork n) e in rw (w .1) (forks-take n none (fork-accepts p n (w .0)))
+
+  pub mark-takes : (n : ℕ) (name : Name) → called p (Mark n name) .answer .code ≡ 0 → Takes (stepsAfter single before) (called p (Mark n name) .answer .value)
+  mark-takes n name e = let w = was-taken p (Mark n name) e in rw (w .1) (forks-take n (some name) (mark-accepts p n name (w .0)))
 
   -- the own updates of a revision that is out, by paths
   owns : (r : ℕ) → IsOut y r → OwnUpdates y r (ownAt y r)

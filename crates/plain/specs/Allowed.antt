@@ -4,6 +4,7 @@
 use Prim.Native.Nat.{ℕ, _*_, _<_, _≤_}
 use mathlib.Core.Bool.{Bool, true, false}
 use mathlib.Core.Path.{_≡_}
+use mathlib.Core.Option.{none, some}
 use mathlib.Core.List.{List, [], _∷_, _++_}
 use lib.ListN.{length}
 use Rattle.bundles.specs.declared.entry.Entry.{Entry}
@@ -11,7 +12,7 @@ use Rattle.diagram.specs.Day.{Day, IsOut, IsIdle, isGiven, meant}
 use Rattle.diagram.specs.Steps as Steps
 use Rattle.diagram.specs.Steps.{Event}
 use Rattle.diagram.specs.Lawful.{MayFollow, EachMayFollow}
-use Rattle.desk.specs.Calls.{Call, Update, Query, Yield, Fork, Join, Sync, Bundle, Looks, Show, Fill, Preview, Batch, Records, Entries, entriesOf}
+use Rattle.desk.specs.Calls.{Call, Update, Query, Yield, Fork, Join, Sync, Mark, Drop, Bundle, Looks, Show, Fill, Preview, Batch, Records, Entries, entriesOf}
 use Rattle.plain.specs.Answers.{shownAt}
 use Rattle.plain.specs.Taken.{endOf, stepsAfter, bundleSteps}
 
@@ -54,10 +55,14 @@ abbrev pub Allowed : Bool → List (Call ℕ) → Call ℕ → Type 0
 Allowed single before (Update c n k bib v) = Meaning (endOf single before) n (λ r. MayFollow (stepsAfter single before) (Event c r true)) × IsBib bib × IsKind k
 Allowed single before (Query c n bib) = Meaning (endOf single before) n (λ r. MayFollow (stepsAfter single before) (Event c r false)) × IsBib bib
 Allowed single before (Yield c) = MayFollow (stepsAfter single before) (Steps.Yield c)
-Allowed single before (Fork n) = Meaning (endOf single before) n (λ r. MayFollow (stepsAfter single before) (Steps.Fork r)) × OnLine single n
+Allowed single before (Fork n) = Meaning (endOf single before) n (λ r. MayFollow (stepsAfter single before) (Steps.Fork r none)) × OnLine single n
 Allowed single before (Join n m) = JoinAllowed single before n m
 -- 02, U8: "has join's refusals for joiner 0": its fork may always follow
 Allowed single before (Sync m) = JoinAllowed single before 0 m
+-- 02, U9: a fork with this name may follow; "Single-main days have no marks"
+Allowed single before (Mark n name) = Meaning (endOf single before) n (λ r. MayFollow (stepsAfter single before) (Steps.Fork r (some name))) × (single ≡ false)
+-- 18 "no such mark": a mark bears this name
+Allowed single before (Drop name) = (r : ℕ) × (endOf single before .mark r ≡ some name) × MayFollow (stepsAfter single before) (Steps.Drop r)
 -- 02, U4: its updates and its yield may follow, one after another
 Allowed single before (Bundle c n batch) =
     IsBatch batch × AreEntries (entriesOf batch) × Meaning (endOf single before) n (λ r. EachMayFollow (stepsAfter single before ++ bundleSteps c r (entriesOf batch)))

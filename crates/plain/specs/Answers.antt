@@ -2,16 +2,18 @@
 -- codes is `checks` of crate desk.
 use Prim.Native.Nat.{ℕ, _*_}
 use mathlib.Core.Bool.{Bool, false, cond, not, _&&_}
+use mathlib.Core.Option.{Option, none, some}
 use mathlib.Core.List.{List, [], _∷_}
 use lib.ListN.{length}
 use lib.Dec.{eqb, ltb}
+use Rattle.lists.specs.Names.{Name}
 use Rattle.updates.specs.Kinds.{kindOf}
 use Rattle.bundles.specs.declared.entry.Entry as Sent
-use Rattle.desk.specs.Calls.{Call, Update, Query, Yield, Fork, Join, Sync, Bundle, Looks, Look, Show, Fill, Preview, Answer, plainly, reading, level, entriesOf}
+use Rattle.desk.specs.Calls.{Call, Update, Query, Yield, Fork, Join, Sync, Mark, Drop, Bundle, Looks, Look, Show, Fill, Preview, Answer, plainly, reading, level, entriesOf}
 use Rattle.desk.specs.Checks.{Tests, checks, settle}
 use Rattle.diagram.specs.Effects.{own, view}
-use Rattle.diagram.specs.Day.{Day, isGiven, meant, nextNumber}
-use Rattle.diagram.specs.Checks.{unknownClient, openElsewhere, busyByOther, busy, stale, logFull, noneLeft, notJoinable}
+use Rattle.diagram.specs.Day.{Day, isGiven, isNamed, markNamed, meant, nextNumber}
+use Rattle.diagram.specs.Checks.{unknownClient, marked, openElsewhere, busyByOther, busy, stale, logFull, noneLeft, notJoinable, badName}
 use Rattle.diagram.specs.Steps as Steps
 use Rattle.diagram.specs.Steps.{after}
 use Rattle.plain.specs.Record.{PlainDay, Line, freshDay, pathResult, linesOf, noted}
@@ -38,6 +40,8 @@ asked p =
       never = λ n. not (isGiven y n);
       joined = λ n. y .joined (meant y n);
       offLine = λ n. p .single && not (eqb n 0);
+      markless = p .single;
+      marked = λ n. marked y (meant y n);
       elsewhere = λ c n. openElsewhere y c (meant y n);
       byOther = λ c n. busyByOther y c (meant y n);
       busy = λ n. busy y (meant y n);
@@ -46,6 +50,8 @@ asked p =
       allOut = noneLeft y;
       unjoinable = λ n m. notJoinable y (meant y n) (meant y m);
       short = λ n room. ltb room (12 * length (shownAt y (meant y n)));
+      badName = badName y;
+      noMark = λ name. not (isNamed y name);
     }
 
 -- "a refused one changes nothing" and "A refusal gives value 0"
@@ -74,16 +80,16 @@ yielded p c = taken (stepped p (Steps.Yield c)) 0
 abbrev pub joined : PlainDay → ℕ → ℕ → Outcome
 joined p n m = taken (stepped p (Steps.Join (meant (p .day) n) (meant (p .day) m))) (length (ownAt (p .day) (meant (p .day) m)))
 
--- "fork, the new number"
-abbrev pub forked : PlainDay → ℕ → Outcome
-forked p n = taken (stepped p (Steps.Fork (meant (p .day) n))) (nextNumber (p .day))
+-- "fork, the new number"; 02, U9: "Mark has fork's refusals and value", and gives the new box a name
+abbrev pub forked : PlainDay → ℕ → Option Name → Outcome
+forked p n name = taken (stepped p (Steps.Fork (meant (p .day) n) name)) (nextNumber (p .day))
 
 -- 02, U8: "joins it into box 0, then forks box 0; it is one step, answers the new number": where the fork is refused, nothing is done
 abbrev pub asOne : PlainDay → Outcome → Outcome
 asOne p o = cond (eqb (o .answer .code) 0) o (refused p (o .answer .code))
 
 abbrev pub synced : PlainDay → ℕ → Outcome
-synced p m = let q = joined p 0 m .next in asOne p (settled q (Fork 0) (forked q 0))
+synced p m = let q = joined p 0 m .next in asOne p (settled q (Fork 0) (forked q 0 none))
 
 -- 02, U4: "sending the updates one by one and then a yield"; the first that is refused ends it
 abbrev pub afterTaken : Outcome → (PlainDay → Outcome) → Outcome
@@ -115,9 +121,12 @@ ending p (Query c n bib) =
     let q = stepped p (Steps.Event c (meant (p .day) n) false) in
     record { next = q; answer = reading (pathResult q (length (p .day .diagram)) bib) 0 [] }
 ending p (Yield c) = yielded p c
-ending p (Fork n) = forked p n
+ending p (Fork n) = forked p n none
 ending p (Join n m) = joined p n m
 ending p (Sync m) = synced p m
+ending p (Mark n name) = forked p n (some name)
+-- 02, U9: a drop's "value is 0"
+ending p (Drop name) = taken (stepped p (Steps.Drop (markNamed (p .day) name))) 0
 ending p (Bundle c n batch) = bundled p (sent p c n (entriesOf batch))
 ending p (Looks l) = record { next = p; answer = told p l }
 

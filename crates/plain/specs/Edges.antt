@@ -1,11 +1,12 @@
--- 01, "Edges of a race day": the starred edges E1 to E9 as one table of calls with what each gives; and 02, U1 to U4, U6, U7 and U8.
+-- 01, "Edges of a race day": the starred edges E1 to E9 as one table of calls with what each gives; and 02, U1 to U4, U6 to U9.
 use Prim.Native.Nat.{ℕ, zero, suc}
 use mathlib.Core.Bool.{Bool}
 use mathlib.Core.List.{List, [], _∷_, _++_}
 use lib.ListN.{replicate}
+use Rattle.lists.specs.Names.{Name}
 use Rattle.updates.specs.declared.standing.Standing.the-variants.{At, Struck}
 use Rattle.bundles.specs.declared.entry.Entry as Sent
-use Rattle.desk.specs.Calls.{Call, Update, Query, Yield, Fork, Join, Sync, Bundle, Looks, Show, Fill, Preview, Entries, Records, Answer, plainly, reading, level, answerOn}
+use Rattle.desk.specs.Calls.{Call, Update, Query, Yield, Fork, Join, Sync, Mark, Drop, Bundle, Looks, Show, Fill, Preview, Entries, Records, Answer, plainly, reading, level, answerOn}
 use Rattle.plain.specs.Answers.{answers}
 
 -- what a call gives, the sheet apart
@@ -229,6 +230,44 @@ reused =
     ∷ edge (Fork 0 ∷ Fork 1 ∷ Sync 2 ∷ Sync 1 ∷ Sync 2 ∷ []) (ok 1 ∷ ok 2 ∷ refusal 11 ∷ ok 3 ∷ ok 4 ∷ [])
     ∷ []
 
+-- names: `PAST`, `PASU`, and some that are none: `PAS`, `PASTS`, `PaST`
+abbrev pub past : Name
+past = 80 ∷ 65 ∷ 83 ∷ 84 ∷ []
+
+abbrev pasu : Name
+pasu = 80 ∷ 65 ∷ 83 ∷ 85 ∷ []
+
+abbrev short : Name
+short = 80 ∷ 65 ∷ 83 ∷ []
+
+abbrev long : Name
+long = 80 ∷ 65 ∷ 83 ∷ 84 ∷ 83 ∷ []
+
+abbrev lower : Name
+lower = 80 ∷ 97 ∷ 83 ∷ 84 ∷ []
+
+-- 02, U9: marked states
+abbrev pub marks : List Edge
+marks =
+    -- "before the protest": the mark lists and fills, is forked and marked again, and is not written, queried or joined in either role: 16, before 5, 7
+    -- and 11. What comes of it shows what the marked box showed, and box 0 never takes it over
+    edge
+    (Update 0 0 time 7 50 ∷ Yield 0 ∷ Fork 0 ∷ Mark 0 past ∷ Update 0 0 penalty 7 5 ∷ Yield 0 ∷ Update 0 2 time 1000 1 ∷ Query 1 2 1000 ∷ Join 0 2 ∷ Join 2 1 ∷ preview 0 2 1000 ∷ Sync 2
+    ∷ sends 0 2 (small time 7 1) ∷ list 2 12 ∷ fill 2 ∷ Fork 2 ∷ Mark 2 pasu ∷ Query 1 3 7 ∷ Update 1 3 penalty 7 1 ∷ Yield 1 ∷ Join 0 3 ∷ Query 2 0 7 ∷ [])
+    (ok 0 ∷ ok 0 ∷ ok 1 ∷ ok 2 ∷ ok 1 ∷ ok 0 ∷ refusal 16 ∷ refusal 16 ∷ refusal 16 ∷ refusal 16 ∷ refusal 16 ∷ refusal 16
+    ∷ refusal 16 ∷ ok 1 ∷ filled 0 2 ∷ ok 3 ∷ ok 4 ∷ timed 50 ∷ ok 2 ∷ ok 0 ∷ refusal 11 ∷ timed 55 ∷ [])
+    -- 16 before 7, and 4 before it; 7 and 17 of a mark, 17 last; 18 of a drop, also for a name that is none. A dropped name is free again
+    ∷ edge
+    (Mark 0 short ∷ Mark 0 long ∷ Mark 0 lower ∷ Mark 0 [] ∷ Mark 1 short ∷ Mark 0 past ∷ Query 0 0 7 ∷ Join 0 1 ∷ Mark 0 short ∷ Yield 0 ∷ Mark 0 past ∷ Drop pasu ∷ Drop lower ∷ Drop past
+    ∷ Drop past ∷ Query 0 1 7 ∷ list 1 0 ∷ Fork 1 ∷ Mark 1 past ∷ Mark 0 past ∷ Drop past ∷ Query 1 2 7 ∷ [])
+    (refusal 17 ∷ refusal 17 ∷ refusal 17 ∷ refusal 17 ∷ refusal 3 ∷ ok 1 ∷ neither ∷ refusal 16 ∷ refusal 7 ∷ ok 0 ∷ refusal 17 ∷ refusal 18 ∷ refusal 18 ∷ ok 0
+    ∷ refusal 18 ∷ refusal 4 ∷ refusal 4 ∷ refusal 4 ∷ refusal 4 ∷ ok 2 ∷ ok 0 ∷ refusal 4 ∷ [])
+    -- "At most 64 boxes out, marked ones included": 10 before 17; drops and hand-ins wait in one order
+    ∷ edge
+    (forks 62 ++ (Mark 0 past ∷ Mark 0 short ∷ Fork 0 ∷ Join 0 7 ∷ Drop past ∷ Join 0 5 ∷ Fork 0 ∷ Mark 0 past ∷ Fork 0 ∷ Drop past ∷ Fork 0 ∷ []))
+    (upFrom 1 62 ++ (ok 63 ∷ refusal 10 ∷ refusal 10 ∷ ok 0 ∷ ok 0 ∷ ok 0 ∷ ok 7 ∷ ok 63 ∷ ok 5 ∷ ok 0 ∷ ok 63 ∷ []))
+    ∷ []
+
 -- 02, U8, on a single-main day
 abbrev pub onLine : List Edge
 onLine =
@@ -239,6 +278,10 @@ onLine =
     ∷ Join 1 2 ∷ Fork 1 ∷ Query 1 2 7 ∷ Sync 2 ∷ Yield 1 ∷ Sync 0 ∷ Join 0 0 ∷ Sync 9 ∷ Sync 1 ∷ Sync 2 ∷ [])
     (ok 1 ∷ refusal 15 ∷ refusal 3 ∷ ok 0 ∷ refusal 15 ∷ refusal 15 ∷ refusal 15 ∷ refusal 7 ∷ refusal 7 ∷ ok 0 ∷ ok 2
     ∷ refusal 4 ∷ refusal 4 ∷ timed 50 ∷ refusal 7 ∷ ok 0 ∷ refusal 11 ∷ refusal 11 ∷ refusal 3 ∷ refusal 4 ∷ ok 3 ∷ [])
+    -- 02, U9: "Single-main days have no marks: mark gives 15", after 3 and 4 and before 7 and 17, and so every drop gives 18
+    ∷ edge
+    (Mark 1 past ∷ Mark 0 past ∷ Fork 0 ∷ Query 0 1 7 ∷ Mark 1 short ∷ Drop past ∷ Yield 0 ∷ Sync 1 ∷ Mark 1 past ∷ [])
+    (refusal 3 ∷ refusal 15 ∷ ok 1 ∷ neither ∷ refusal 15 ∷ refusal 18 ∷ ok 0 ∷ ok 2 ∷ refusal 4 ∷ [])
     -- "sync never meets 10": with 64 boxes out it answers the number that it was given
     ∷ edge (forks 63 ++ (Fork 0 ∷ Sync 5 ∷ Fork 0 ∷ [])) (upFrom 1 63 ++ (refusal 10 ∷ ok 5 ∷ refusal 10 ∷ []))
     ∷ []

@@ -7,7 +7,7 @@ use mathlib.Core.List.{List, [], _∷_}
 use lib.Dec.{eqb}
 use lib.ListN.{length}
 use Rattle.lists.specs.Sums.{sumBelow}
-use Rattle.desk.specs.Calls.{Call, Update, Query, Yield, Fork, Join, Sync, Bundle, Looks, Fill, Answer, entriesOf}
+use Rattle.desk.specs.Calls.{Call, Update, Query, Yield, Fork, Join, Sync, Mark, Drop, Bundle, Looks, Fill, Answer, entriesOf}
 use Rattle.plain.specs.Record.{PlainDay}
 use Rattle.plain.specs.Answers.{called, dayAfter, answers}
 
@@ -23,6 +23,8 @@ enters (Yield c) = 0
 enters (Fork n) = 0
 enters (Join n m) = 0
 enters (Sync m) = 0
+enters (Mark n name) = 0
+enters (Drop name) = 0
 enters (Bundle c n batch) = length (entriesOf batch)
 enters (Looks l) = 0
 

@@ -1,5 +1,5 @@
 -- What a reader has to believe of whole days: the record on paper, each call's answer, the claim about every
--- list of calls, and 02's U1, U4, U6 and U8. It is fed the calls' arguments alone.
+-- list of calls, and 02's U1, U4, U6, U8 and U9. It is fed the calls' arguments alone.
 pub mod Record
 pub mod Answers
 pub mod Edges
@@ -9,5 +9,6 @@ pub mod Allowed
 pub mod Values
 pub mod Previews
 pub mod Syncs
+pub mod Marks
 pub mod LineUp
 pub mod Fills

@@ -29,6 +29,7 @@ use Rattle.plain.specs.Allowed.{Allowed, Meaning, OnLine}
 use Rattle.plain.specs.Values.{Forked, Gained, Filled}
 use Rattle.plain.specs.Previews.{Foresees}
 use Rattle.plain.specs.Syncs.{OnSingleMain, Synced}
+use Rattle.plain.specs.Marks.{OnMarks}
 
 -- what is shown at vertex x, in the order of a line-up, with the state and value of one bib
 pub record AnsweredBy (single : Bool) (cs : List (Call ℕ)) (order : List ℕ) (x bib : ℕ) (answer : Answer (List Line)) : Type 0 where
@@ -103,3 +104,5 @@ pub record LineUp (single : Bool) (cs : List (Call ℕ)) : Type 0 where
   pub syncs : (before rest : List (Call ℕ)) (m : ℕ) → Taken single cs before (Sync m) rest → Synced single before m
   pub never-ten : (before rest : List (Call ℕ)) (m : ℕ) → cs ≡ before ++ (Sync m ∷ rest) → called (dayAfter single before) (Sync m) .answer .code ≡ 10 → ⊥
   pub single-main : single ≡ true → OnSingleMain cs
+  -- 02, U9
+  pub marks : OnMarks single cs

@@ -2,11 +2,12 @@
 use Prim.Native.Nat.{ℕ}
 use mathlib.Core.Bool.{Bool, cond, false, true}
 use mathlib.Core.Path.{_≡_}
+use mathlib.Core.Option.{none, some}
 use mathlib.Core.List.{List, [], _∷_, _++_}
 use lib.Dec.{eqb}
 use Rattle.bundles.specs.declared.entry.Entry.{Entry}
-use Rattle.desk.specs.Calls.{Call, Update, Query, Yield, Fork, Join, Sync, Bundle, Looks, entriesOf}
-use Rattle.diagram.specs.Day.{Day, meant}
+use Rattle.desk.specs.Calls.{Call, Update, Query, Yield, Fork, Join, Sync, Mark, Drop, Bundle, Looks, entriesOf}
+use Rattle.diagram.specs.Day.{Day, markNamed, meant}
 use Rattle.diagram.specs.Steps as Steps
 use Rattle.diagram.specs.Steps.{Step, Event}
 use Rattle.plain.specs.Record.{PlainDay, freshDay}
@@ -22,10 +23,13 @@ abbrev pub stepOf : PlainDay → Call ℕ → List Step
 stepOf p (Update c n k bib v) = Event c (meant (p .day) n) true ∷ []
 stepOf p (Query c n bib) = Event c (meant (p .day) n) false ∷ []
 stepOf p (Yield c) = Steps.Yield c ∷ []
-stepOf p (Fork n) = Steps.Fork (meant (p .day) n) ∷ []
+stepOf p (Fork n) = Steps.Fork (meant (p .day) n) none ∷ []
 stepOf p (Join n m) = Steps.Join (meant (p .day) n) (meant (p .day) m) ∷ []
 -- 02, U8: a sync is a join and a fork
-stepOf p (Sync m) = Steps.Join (meant (p .day) 0) (meant (p .day) m) ∷ Steps.Fork (meant (p .day) 0) ∷ []
+stepOf p (Sync m) = Steps.Join (meant (p .day) 0) (meant (p .day) m) ∷ Steps.Fork (meant (p .day) 0) none ∷ []
+-- 02, U9: a mark is a fork with a name
+stepOf p (Mark n name) = Steps.Fork (meant (p .day) n) (some name) ∷ []
+stepOf p (Drop name) = Steps.Drop (markNamed (p .day) name) ∷ []
 stepOf p (Bundle c n batch) = bundleSteps c (meant (p .day) n) (entriesOf batch)
 stepOf p (Looks l) = []
 

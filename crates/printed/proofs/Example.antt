@@ -10,7 +10,7 @@ use Rattle.diagram.specs.Sizes.{revisionLimit, clientLimit, updateLimit}
 use Rattle.diagram.specs.Diagram.{leads}
 use Rattle.diagram.specs.Effects.{tabulate}
 use Rattle.diagram.specs.Day.{isGiven, meant, nextNumber}
-use Rattle.diagram.specs.Checks.{unknownClient, openElsewhere, busyByOther, busy, stale, logFull, noneLeft, notJoinable}
+use Rattle.diagram.specs.Checks.{unknownClient, marked, openElsewhere, busyByOther, busy, stale, logFull, noneLeft, notJoinable}
 use Rattle.diagram.specs.Steps.{after}
 use Rattle.plain.specs.Answers.{called}
 use Rattle.text.specs.Decimal.{places, decimal}
@@ -38,7 +38,7 @@ as-named = refl
 
 on-paper : paper crossing ≡ given
 unfolding crossing given paper paperLines paperAfter fileCheck number stepAt stepOf line valueText decimal places called after leads tabulate isGiven
-    meant nextNumber unknownClient openElsewhere busyByOther busy anyBelow stale logFull noneLeft notJoinable revisionLimit clientLimit updateLimit kindCheck effect earliest penalized stateOf valueIn applied
+    meant nextNumber unknownClient marked openElsewhere busyByOther busy anyBelow stale logFull noneLeft notJoinable revisionLimit clientLimit updateLimit kindCheck effect earliest penalized stateOf valueIn applied
 on-paper = refl
 
 pub example-printed : printed crossing ≡ given

@@ -24,6 +24,8 @@ use checks::given::GivenCheck;
 use checks::given::check_given;
 use checks::joined::JoinedCheck;
 use checks::joined::check_joined;
+use checks::marked::MarkedCheck;
+use checks::marked::check_marked;
 use checks::open::OpenCheck;
 use checks::open::check_open;
 use checks::stale::StaleCheck;
@@ -47,7 +49,7 @@ fn record(t: &mut [u8], c: Client, r: Revision)
     revisions::record::query(&mut t[0..Table::LOWER], c, r);
 }
 
-// Checks 2 to 8, on the lower half.
+// Checks 2 to 8, and 16 after 4, on the lower half.
 fn check_lower(d: &[u8], client: u8, revision: u8, bib: u16) -> EventCheck
     requires { ⌜ length (now d) ≡ Lower.lowerBytes ⌝ }
     ensures { λ a. ⌜ (a ≡ queryCheck (now (d .entry)) client revision bib) × eventIn a ⌝ }
@@ -60,6 +62,9 @@ fn check_lower(d: &[u8], client: u8, revision: u8, bib: u16) -> EventCheck
     };
     let JoinedCheck::Out = check_joined(d, r) else {
         return EventCheck::Refused(4);
+    };
+    let MarkedCheck::Unmarked = check_marked(d, r) else {
+        return EventCheck::Refused(16);
     };
     let BibCheck::Known = check_bib(bib) else {
         return EventCheck::Refused(5);

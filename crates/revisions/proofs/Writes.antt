@@ -7,26 +7,29 @@ use native.Mathlib.Numerals.{add-one}
 use native.Mathlib.Omega.{arith}
 use lib.Dec.{eqb, ltb}
 use lib.ListN.{length, set, take, replicate, length-replicate, length-set}
-use lib.Seq.{getD-set-other, set-getD}
+use lib.Seq.{getD-set-other, set-getD, set-set}
 use borrow.Author.Tests.{eq-eqb, eqb-true, le-ltb, lt-ltb, ne-eqb}
 use Rattle.lists.specs.Lists.{restOf}
 use Rattle.lists.specs.Arranged.{insertBefore, remove, replaced}
+use Rattle.lists.specs.Names.{Name}
 use Rattle.lists.proofs.Cases.{cases}
-use Rattle.cells.specs.Sizes.{lowerBytes, revisions, clients, closed, main, stateOut}
+use Rattle.cells.specs.Sizes.{lowerBytes, revisions, clients, closed, main, stateOut, stateJoined, stateMarked}
 use Rattle.cells.specs.Parts.{Parts, Sized, parts, offset, size, split, glue, wrote, _⟨_≔_⟩, rowsPart, lowPart, highPart, seenPart, caughtPart, statePart, usedPart, lastPart, firstPart}
-use Rattle.cells.specs.Parts.{countPart, basePart, layoutPart, queuePart, openedPart, countersPart, singlePart, signaturePart}
+use Rattle.cells.specs.Parts.{countPart, basePart, layoutPart, queuePart, openedPart, countersPart, namesPart, singlePart, signaturePart}
 use Rattle.cells.specs.Range.{signature}
-use Rattle.cells.specs.Words.{putWord, putHalf}
+use Rattle.cells.specs.Words.{putWord, putHalf, putName}
 use Rattle.cells.specs.Flags.{pack, putRow}
 use Rattle.cells.specs.Decode.{decode}
 use Rattle.lists.specs.Pool.{forkPool, joinPool}
 use Rattle.cells.specs.CellSteps.{counted, oneFewer, forkCaught, forkRow, joinCaught}
-use Rattle.cells.specs.Steps.{queryParts, linkParts, appendParts, putRowOf, inheritParts, forkParts, spliceParts, freshBytes, queryBytes, updateBytes, forkBytes, joinBytes}
+use Rattle.cells.specs.Steps.{queryParts, linkParts, appendParts, putRowOf, inheritParts, forkParts, spliceParts, mergeParts, dropParts}
+use Rattle.cells.specs.Steps.{freshBytes, queryBytes, updateBytes, forkBytes, markBytes, joinBytes, dropBytes}
 use Rattle.cells.proofs.Parts.{Holds, glue-split, holds-split, holds-put, holds-step, holds-wrote, sized-with, split-is, with-same}
-use Rattle.cells.proofs.Words.{putWord-length, putHalf-length}
-use Rattle.cells.proofs.Sized.{append-sized, caught-sized, caughtRow-sized, inherit-sized, layout-sized, link-sized, query-sized, row-sized, seen-sized, seenRow-sized, splice-sized}
+use Rattle.cells.proofs.Words.{putWord-length, putHalf-length, putName-length}
+use Rattle.cells.proofs.Sized.{append-sized, caught-sized, caughtRow-sized, drop-sized, fork-sized, inherit-sized}
+use Rattle.cells.proofs.Sized.{layout-sized, link-sized, merge-sized, query-sized, row-sized, seen-sized, seenRow-sized, splice-sized}
 use Rattle.cells.proofs.Places.{insert-length, remove-length}
-use Rattle.revisions.specs.Pieces.{freshCounts, freshRevisions, numberParts, retireParts, startParts}
+use Rattle.revisions.specs.Pieces.{freshCounts, freshRevisions, numberParts, startParts}
 
 -- a byte, and a word, of one part
 byte-wrote : {d d′ : List ℕ} {p : Parts} (i r v : ℕ) → Holds d p → d′ ≡ wrote d i (set (split d i) r v) → Holds d′ (p ⟨ i ≔ set (p i) r v ⟩)
@@ -147,27 +150,36 @@ module _ (d : List ℕ) (l : length d ≡ lowerBytes) where
       let h₂ = word-wrote lastPart a end h₁ e₂ in
       word-wrote firstPart a first h₂ e₃ .eq ∙ rw (ne-eqb (decode (split d) .count b) 0 (λ z. nz (en ∙ z)), eg, ef, et, ee)
 
-  pub retire-done : (d₁ d₂ d₃ d₄ d₅ d₆ : List ℕ) (a b i n : ℕ) → a < revisions
-      → d₁ ≡ wrote d seenPart (putRow 8 (split d seenPart) a (joinPool (decode (split d) .seen) a b a)) → d₂ ≡ wrote d₁ caughtPart (pack clients (joinCaught (decode (split d₁) .caught) a b))
-      → d₃ ≡ wrote d₂ statePart (set (split d₂ statePart) b 2) → d₄ ≡ wrote d₃ layoutPart (take revisions (remove b (split d₃ layoutPart) ++ (0 ∷ [])))
-      → d₅ ≡ wrote d₄ queuePart (set (split d₄ queuePart) i b) → d₆ ≡ wrote d₅ countersPart (set (split d₅ countersPart) 2 n) → d₆ ≡ glue (retireParts (split d) a b i n)
-  retire-done d₁ d₂ d₃ d₄ d₅ d₆ a b i n al e₁ e₂ e₃ e₄ e₅ e₆ =
-      let h = holds-split d l in
-      let h₁ = holds-step (λ q. q ⟨ seenPart ≔ putRow 8 (q seenPart) a (joinPool (decode q .seen) a b a) ⟩) h e₁ (seenRow-sized (h .sized) a _ al) in
-      let h₂ = caught-wrote (λ f. joinCaught f a b) h₁ e₂ in
-      let h₃ = byte-wrote statePart b 2 h₂ e₃ in
-      let h₄ = holds-step (λ q. q ⟨ layoutPart ≔ take revisions (remove b (q layoutPart) ++ (0 ∷ [])) ⟩) h₃ e₄ (layout-sized (h₃ .sized) (remove b (split d layoutPart) ++ (0 ∷ [])) (remove-length b (split d layoutPart))) in
-      let h₅ = byte-wrote queuePart i b h₄ e₅ in
-      byte-wrote countersPart 2 n h₅ e₆ .eq
-
-  pub join-done : (d₁ d₂ d₃ : List ℕ) (a b m n t i o : ℕ) → m ≡ decode (split d) .count a → n ≡ decode (split d) .count b → t ≡ counted (m + n) → i ≡ decode (split d) .given - decode (split d) .out → o ≡ oneFewer (decode (split d) .out)
-      → d₁ ≡ glue (spliceParts (split d) a b) → d₂ ≡ wrote d₁ countPart (putWord (split d₁ countPart) a t) → d₃ ≡ glue (retireParts (split d₂) a b i o) → d₃ ≡ joinBytes d a b
-  unfolding joinBytes
-  join-done d₁ d₂ d₃ a b m n t i o em en et ei eo e₁ e₂ e₃ =
+  pub merge-done : (d₁ d₂ d₃ d₄ : List ℕ) (a b m n t : ℕ) → a < revisions → m ≡ decode (split d) .count a → n ≡ decode (split d) .count b → t ≡ counted (m + n)
+      → d₁ ≡ glue (spliceParts (split d) a b) → d₂ ≡ wrote d₁ countPart (putWord (split d₁ countPart) a t)
+      → d₃ ≡ wrote d₂ seenPart (putRow 8 (split d₂ seenPart) a (joinPool (decode (split d₂) .seen) a b a))
+      → d₄ ≡ wrote d₃ caughtPart (pack clients (joinCaught (decode (split d₃) .caught) a b)) → d₄ ≡ glue (mergeParts (split d) a b)
+  merge-done d₁ d₂ d₃ d₄ a b m n t al em en et e₁ e₂ e₃ e₄ =
       let h = holds-split d l in
       let h₁ = holds-step (λ q. spliceParts q a b) h e₁ (splice-sized (h .sized) a b) in
       let h₂ = word-wrote countPart a t h₁ e₂ in
-      e₃ ∙ ap (λ q. glue (retireParts q a b i o)) (split-is h₂) ∙ rw (et, em, en, ei, eo)
+      let h₃ = holds-step (λ q. q ⟨ seenPart ≔ putRow 8 (q seenPart) a (joinPool (decode q .seen) a b a) ⟩) h₂ e₃ (seenRow-sized (h₂ .sized) a _ al) in
+      caught-wrote (λ f. joinCaught f a b) h₃ e₄ .eq ∙ rw (et, em, en)
+
+  pub drop-done : (d₁ d₂ d₃ d₄ : List ℕ) (r i o : ℕ) → i ≡ decode (split d) .given - decode (split d) .out → o ≡ oneFewer (decode (split d) .out)
+      → d₁ ≡ wrote d statePart (set (split d statePart) r stateJoined) → d₂ ≡ wrote d₁ layoutPart (take revisions (remove r (split d₁ layoutPart) ++ (0 ∷ [])))
+      → d₃ ≡ wrote d₂ queuePart (set (split d₂ queuePart) i r) → d₄ ≡ wrote d₃ countersPart (set (split d₃ countersPart) 2 o) → d₄ ≡ dropBytes d r
+  unfolding dropBytes
+  drop-done d₁ d₂ d₃ d₄ r i o ei eo e₁ e₂ e₃ e₄ =
+      let h = holds-split d l in
+      let t = split d layoutPart in
+      let h₁ = byte-wrote statePart r stateJoined h e₁ in
+      let s = layout-sized (h₁ .sized) (remove r t ++ (0 ∷ [])) (remove-length r t) in
+      let h₂ = holds-step (λ q. q ⟨ layoutPart ≔ take revisions (remove r (q layoutPart) ++ (0 ∷ [])) ⟩) h₁ e₂ s in
+      let h₃ = byte-wrote queuePart i r h₂ e₃ in
+      byte-wrote countersPart 2 o h₃ e₄ .eq ∙ rw (ei, eo)
+
+  pub join-done : (d₁ d₂ : List ℕ) (a b : ℕ) → a < revisions → d₁ ≡ glue (mergeParts (split d) a b) → d₂ ≡ dropBytes d₁ b → d₂ ≡ joinBytes d a b
+  unfolding dropBytes joinBytes
+  join-done d₁ d₂ a b al e₁ e₂ =
+      let h = holds-split d l in
+      let h₁ = holds-step (λ q. mergeParts q a b) h e₁ (merge-sized (h .sized) a b al) in
+      holds-step (λ q. dropParts q b) h₁ e₂ (drop-sized (h₁ .sized) b) .eq
 
   -- what c inherits
   pub by-count-done : (d₁ d₂ d₃ : List ℕ) (c base : ℕ) → base ≡ decode (split d) .count 0
@@ -218,6 +230,17 @@ module _ (d : List ℕ) (l : length d ≡ lowerBytes) where
       let h₁ = holds-step (λ p. inheritParts p q c) h e₁ (inherit-sized (h .sized) q c cl) in
       let h₂ = holds-step (λ p. startParts p q c (o + 1)) h₁ e₂ (start-sized (h₁ .sized) q c (o + 1)) in
       e₃ ∙ ap (λ p. glue (numberParts p g)) (split-is h₂) ∙ rw (add-one, eo, eg) (ap glue (forked (split d) q c))
+
+  pub mark-done : (d₁ d₂ d₃ : List ℕ) (q c : ℕ) (n : Name) → c < revisions
+      → d₁ ≡ forkBytes d q c → d₂ ≡ wrote d₁ statePart (set (split d₁ statePart) c stateMarked)
+      → d₃ ≡ wrote d₂ namesPart (putName (split d₂ namesPart) c n) → d₃ ≡ markBytes d q c n
+  unfolding forkBytes markBytes
+  mark-done d₁ d₂ d₃ q c n cl e₁ e₂ e₃ =
+      let h = holds-split d l in
+      let h₁ = holds-step (λ p. forkParts p q c) h e₁ (fork-sized (h .sized) q c cl) in
+      let h₂ = byte-wrote statePart c stateMarked h₁ e₂ in
+      let s = putName-length (split d namesPart) c n ∙ h .sized .of namesPart in
+      holds-wrote namesPart (λ t. putName t c n) h₂ e₃ s .eq ∙ rw (set-set (split d statePart) c stateOut stateMarked)
 
 -- a new day: bytes that are all 0, the caught-up flags, then each part put in whole
 fresh-revisions-sized : {p : Parts} → Sized p → Sized (freshRevisions p)

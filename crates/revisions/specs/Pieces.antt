@@ -6,14 +6,14 @@ use mathlib.Core.List.{[], _∷_, _++_}
 use lib.Dec.{ltb}
 use lib.ListN.{replicate, set, take}
 use Rattle.lists.specs.Lists.{restOf}
-use Rattle.lists.specs.Arranged.{insertBefore, remove}
-use Rattle.cells.specs.Sizes.{revisions, clients, closed, main, stateOut, stateJoined}
+use Rattle.lists.specs.Arranged.{insertBefore}
+use Rattle.cells.specs.Sizes.{revisions, clients, closed, main, stateOut}
 use Rattle.cells.specs.Parts.{Parts, _⟨_≔_⟩, seenPart, caughtPart, statePart, layoutPart, queuePart, openedPart, countersPart, signaturePart}
 use Rattle.cells.specs.Range.{signature}
-use Rattle.cells.specs.Flags.{pack, putRow}
+use Rattle.cells.specs.Flags.{pack}
 use Rattle.cells.specs.Decode.{decode}
-use Rattle.lists.specs.Pool.{forkPool, joinPool}
-use Rattle.cells.specs.CellSteps.{forkCaught, joinCaught}
+use Rattle.lists.specs.Pool.{forkPool}
+use Rattle.cells.specs.CellSteps.{forkCaught}
 
 -- a fresh day's parts, but for the caught-up flags
 abbrev pub freshRevisions : Parts → Parts
@@ -29,18 +29,6 @@ freshCounts p =
     ⟨ openedPart ≔ replicate clients closed ⟩
     ⟨ countersPart ≔ 0 ∷ 0 ∷ 1 ∷ 1 ∷ [] ⟩
     ⟨ signaturePart ≔ signature ⟩
-
--- b is joined into a: the flags, b's state, the layout, place i of the queue, and n revisions out
-abbrev pub retireParts : Parts → ℕ → ℕ → ℕ → ℕ → Parts
-retireParts p a b i n =
-    let k = decode p in
-    p
-    ⟨ seenPart ≔ putRow 8 (p seenPart) a (joinPool (k .seen) a b a) ⟩
-    ⟨ caughtPart ≔ pack clients (joinCaught (k .caught) a b) ⟩
-    ⟨ statePart ≔ set (p statePart) b stateJoined ⟩
-    ⟨ layoutPart ≔ take revisions (remove b (p layoutPart) ++ (0 ∷ [])) ⟩
-    ⟨ queuePart ≔ set (p queuePart) i b ⟩
-    ⟨ countersPart ≔ set (p countersPart) 2 n ⟩
 
 -- q's fork c is out: the flags, c's state, the layout, and n revisions out
 abbrev pub startParts : Parts → ℕ → ℕ → ℕ → Parts

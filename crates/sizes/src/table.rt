@@ -38,8 +38,14 @@ impl Table {
     // The state of a revision that is out.
     pub const STATE_OUT: usize = 1;
 
-    // The state of a revision that was joined.
+    // The state of a revision that was joined, or of a mark that was dropped.
     pub const STATE_JOINED: usize = 2;
+
+    // The state of a mark, which is out.
+    pub const STATE_MARKED: usize = 3;
+
+    // Letters of a mark's name.
+    pub const NAME: usize = 4;
 
     // In the cell of a client's open transaction: there is none.
     pub const CLOSED: usize = 64;
@@ -57,7 +63,7 @@ impl Table {
     pub const NUMBERS_GIVEN: usize = 3;
 
     // The limit of a state cell: every state is below it.
-    pub const STATE_LIMIT: usize = Table::STATE_JOINED + 1;
+    pub const STATE_LIMIT: usize = Table::STATE_MARKED + 1;
 
     // The limit of a cell that says whether a row is in use: 0 or 1.
     pub const USED_LIMIT: usize = 2;

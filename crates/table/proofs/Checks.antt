@@ -13,13 +13,14 @@ use Rattle.sizes.specs.declared.numbers.Client.{Client}
 use Rattle.sizes.specs.declared.numbers.Revision.{Revision}
 use Rattle.cells.specs.Sizes.{clients, revisions}
 use Rattle.cells.specs.Decode.{cells}
-use Rattle.cells.specs.Checks.{givenOut, joined, offLine, openElsewhere, busy, busyByOther, stale, joinable}
-use Rattle.checks.specs.Answers.{clientCheck, givenCheck, joinedCheck, lineCheck, openCheck, useCheck, otherUseCheck, staleCheck, joinableCheck}
+use Rattle.cells.specs.Checks.{givenOut, joined, offLine, isMark, openElsewhere, busy, busyByOther, stale, joinable}
+use Rattle.checks.specs.Answers.{clientCheck, givenCheck, joinedCheck, lineCheck, markedCheck, openCheck, useCheck, otherUseCheck, staleCheck, joinableCheck}
 use Rattle.checks.specs.declared.client.ClientCheck.the-variants as client
 use Rattle.checks.specs.declared.given.GivenCheck.{GivenCheck}
 use Rattle.checks.specs.declared.given.GivenCheck.the-variants as given
 use Rattle.checks.specs.declared.joined.JoinedCheck.the-variants as out
 use Rattle.checks.specs.declared.line.LineCheck.the-variants as line
+use Rattle.checks.specs.declared.marked.MarkedCheck.the-variants as mark
 use Rattle.checks.specs.declared.open.OpenCheck.the-variants as transaction
 use Rattle.checks.specs.declared.busy.UseCheck.the-variants as revision
 use Rattle.checks.specs.declared.stale.StaleCheck.the-variants as event
@@ -62,6 +63,11 @@ module _ (d : List ℕ) where
   pub line-told : (n : ℕ) → Told (offLine (cells d) n) line.Off line.On (lineCheck d n)
   unfolding lineCheck
   line-told n = told _ _ _ (λ h. cc)
+
+  -- code 16
+  pub marked-told : (n : ℕ) → Told (isMark (cells d) n) mark.Marked mark.Unmarked (markedCheck d n)
+  unfolding markedCheck
+  marked-told n = told _ _ _ (λ h. cc)
 
   -- code 6
   pub open-told : (c n : ℕ) → Told (openElsewhere (cells d) c n) transaction.Elsewhere transaction.Clear (openCheck d c n)

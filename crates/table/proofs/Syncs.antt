@@ -63,7 +63,7 @@ module _ (t : List ℕ) (h : isTable t ≡ true) (m : ℕ) (ml : m < revisions) 
 -- so a sync whose checks find nothing is taken
 pub sync-ends : (t : List ℕ) (m : ℕ) → Passed (checks (asked t) (Sync m))
     → asOne t (forkOut (joinEnd t 0 m .lent) 0) ≡ taken (forkBytes (joinBytes (low t) 0 m) 0 (nextNumber (cells (joinBytes (low t) 0 m))) ++ high t) (nextNumber (cells (joinBytes (low t) 0 m)))
-sync-ends t m (e1 also e3 also e4 also e15 also e7 also e11 also P) =
+sync-ends t m (e1 also e3 also e4 also e15 also e16 also e7 also e11 also P) =
     let k = cellsOf t in
     let given = or-false (not (givenOut k 0)) (not (givenOut k m)) e3 in
     let out = or-false (joined k 0) (joined k m) e4 in

@@ -6,17 +6,18 @@ use mathlib.Core.Bool.{Bool, not, cond}
 use mathlib.Core.List.{List, [], _∷_, _++_}
 use lib.Dec.{eqb, ltb}
 use lib.ListN.{length, replicate}
+use Rattle.lists.specs.Names.{Name}
 use Rattle.bundles.specs.declared.entry.Entry.{Entry}
 use Rattle.updates.specs.Kinds.{kindOf}
 use Rattle.updates.specs.Effect.{stateOf, valueIn}
 use Rattle.updates.specs.declared.standing.Standing.{Standing}
 use Rattle.updates.specs.declared.standing.State.the-variants.{Neither}
-use Rattle.desk.specs.Calls.{Update, Query, Yield, Fork, Join, Sync, Bundle, Looks, Show, Fill, Preview, Batch, Records, Entries, entriesOf}
+use Rattle.desk.specs.Calls.{Update, Query, Yield, Fork, Join, Sync, Mark, Drop, Bundle, Looks, Show, Fill, Preview, Batch, Records, Entries, entriesOf}
 use Rattle.desk.specs.Checks.{Tests, _if_, checks, settle}
 use Rattle.cells.specs.Cells.{Cells, nextNumber}
 use Rattle.cells.specs.Order.{order}
-use Rattle.cells.specs.Checks.{isClient, givenOut, joined, offLine, openElsewhere, busy, busyByOther, stale, logFull, noneLeft, joinable}
-use Rattle.cells.specs.Steps.{freshBytes, updateBytes, queryBytes, closeBytes, forkBytes, joinBytes}
+use Rattle.cells.specs.Checks.{isClient, givenOut, joined, offLine, isMark, openElsewhere, busy, busyByOther, stale, logFull, noneLeft, joinable, badName, noSuchMark, bearer}
+use Rattle.cells.specs.Steps.{freshBytes, updateBytes, queryBytes, closeBytes, forkBytes, joinBytes, markBytes, dropBytes}
 use Rattle.entries.specs.Sizes as Upper
 use Rattle.entries.specs.Stored.{entry}
 use Rattle.entries.specs.Entries.{entryAt, wrote}
@@ -41,6 +42,8 @@ asked t = record {
   never = λ n. not (givenOut (cellsOf t) n);
   joined = joined (cellsOf t);
   offLine = offLine (cellsOf t);
+  markless = cellsOf t .single;
+  marked = isMark (cellsOf t);
   elsewhere = openElsewhere (cellsOf t);
   byOther = busyByOther (cellsOf t);
   busy = busy (cellsOf t);
@@ -49,6 +52,8 @@ asked t = record {
   allOut = noneLeft (cellsOf t);
   unjoinable = λ n m. not (joinable (cellsOf t) n m);
   short = λ n room. ltb room (12 * length (order (cellsOf t) n));
+  badName = badName (cellsOf t);
+  noMark = noSuchMark (cellsOf t);
 }
 
 -- fresh: of 1, the length only. 02, U8: "Fresh gains a choice of such a day."
@@ -81,6 +86,14 @@ asOne t o = cond (eqb (o .code) 0) o (refused t (o .code))
 
 unfoldable pub syncOut : List ℕ → ℕ → Out
 syncOut t m = settle (checks (asked t) (Sync m)) (refused t) (asOne t (forkOut (joinEnd t 0 m .lent) 0))
+
+-- 02, U9: "Mark has fork's refusals and value"
+unfoldable pub markOut : List ℕ → ℕ → Name → Out
+markOut t n name = settle (checks (asked t) (Mark n name)) (refused t) (taken (markBytes (low t) n (nextNumber (cellsOf t)) name ++ high t) (nextNumber (cellsOf t)))
+
+-- "Dropping a mark, by its name"; "its value is 0"
+unfoldable pub dropOut : List ℕ → Name → Out
+dropOut t name = settle (checks (asked t) (Drop name)) (refused t) (taken (dropBytes (low t) (bearer (cellsOf t) name) ++ high t) 0)
 
 unfoldable pub listOut : List ℕ → ℕ → List ℕ → Out
 listOut t n s =

@@ -8,7 +8,7 @@ use lib.ListN.{length}
 use Rattle.updates.specs.Kinds.{badBib}
 use Rattle.cells.specs.Sizes.{clients, revisions}
 use Rattle.cells.specs.Decode.{cells}
-use Rattle.cells.specs.Checks.{joined, offLine, busy, joinable}
+use Rattle.cells.specs.Checks.{joined, offLine, isMark, busy, joinable}
 use Rattle.checks.specs.Answers.{givenCheck}
 use Rattle.table.specs.Halves.{isTable}
 use Rattle.table.specs.Out.{tableBytes}
@@ -46,7 +46,7 @@ idleCheck d n =
     cond (busy (cells d) (r .0)) (idle.Refused 7) (
     idle.Idle r)))
 
--- 3, 4, 15, 7, 11 of a join
+-- 3, 4, 15, 16, 7, 11 of a join
 unfoldable pub joinCheck : List ℕ → ℕ → ℕ → PairCheck
 joinCheck d n m =
     onGiven (givenCheck d n) (pair.Refused 3) (λ a.
@@ -54,10 +54,12 @@ joinCheck d n m =
     cond (joined (cells d) (a .0)) (pair.Refused 4) (
     cond (joined (cells d) (b .0)) (pair.Refused 4) (
     cond (offLine (cells d) (a .0)) (pair.Refused 15) (
+    cond (isMark (cells d) (a .0)) (pair.Refused 16) (
+    cond (isMark (cells d) (b .0)) (pair.Refused 16) (
     cond (busy (cells d) (a .0)) (pair.Refused 7) (
     cond (busy (cells d) (b .0)) (pair.Refused 7) (
     cond (not (joinable (cells d) (a .0) (b .0))) (pair.Refused 11) (
-    pair.Allowed a b))))))))
+    pair.Allowed a b))))))))))
 
 -- what is found is in range
 abbrev pub eventIn : EventCheck → Type 0

@@ -1,4 +1,4 @@
-// The checks of a join, on the lower half: 3, 4, 15, 7 and 11.
+// The checks of a join, on the lower half: 3, 4, 15, 16, 7 and 11.
 ghost use mathlib.Core.Path.{_≡_};
 ghost use lib.ListN.{length};
 ghost use Rattle.cells.specs.Sizes as Lower;
@@ -14,8 +14,10 @@ use checks::joined::JoinedCheck;
 use checks::joined::check_joined;
 use checks::line::LineCheck;
 use checks::line::check_line;
+use checks::marked::MarkedCheck;
+use checks::marked::check_marked;
 
-// Checks 3, 4, 15, 7, 11: each of the joiner, then of the joinee; 15 of the joiner alone.
+// Checks 3, 4, 15, 16, 7, 11: each of the joiner, then of the joinee; 15 of the joiner alone.
 pub fn check_join(d: &[u8], joiner: u8, joinee: u8) -> PairCheck
     requires { ⌜ length (now d) ≡ Lower.lowerBytes ⌝ }
     ensures { λ r. ⌜ (r ≡ joinCheck (now (d .entry)) joiner joinee) × joinIn r ⌝ }
@@ -34,6 +36,12 @@ pub fn check_join(d: &[u8], joiner: u8, joinee: u8) -> PairCheck
     };
     let LineCheck::On = check_line(d, a) else {
         return PairCheck::Refused(15);
+    };
+    let MarkedCheck::Unmarked = check_marked(d, a) else {
+        return PairCheck::Refused(16);
+    };
+    let MarkedCheck::Unmarked = check_marked(d, b) else {
+        return PairCheck::Refused(16);
     };
     let UseCheck::Free = check_use(d, a) else {
         return PairCheck::Refused(7);

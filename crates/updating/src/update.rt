@@ -26,6 +26,8 @@ use checks::joined::JoinedCheck;
 use checks::joined::check_joined;
 use checks::log::LogCheck;
 use checks::log::check_log;
+use checks::marked::MarkedCheck;
+use checks::marked::check_marked;
 use checks::open::OpenCheck;
 use checks::open::check_open;
 use checks::stale::StaleCheck;
@@ -42,7 +44,7 @@ use updates::kind::Kind;
 use updates::kind::KindCheck;
 use updates::kind::check_kind;
 
-// What checks 2 to 9 find.
+// What checks 2 to 9, and 16 after 4, find.
 pub enum UpdateCheck {
     Allowed(Client, Revision, Kind),
     Refused(u8),
@@ -60,7 +62,7 @@ impl UpdateCheck {
     }
 }
 
-// Checks 2 to 9, on the lower half.
+// Checks 2 to 9, and 16 after 4, on the lower half.
 fn check_lower(d: &[u8], client: u8, revision: u8, kind: u8, bib: u16) -> UpdateCheck
     requires { ⌜ length (now d) ≡ Lower.lowerBytes ⌝ }
     ensures { λ a. ⌜ (a ≡ updateCheck (now (d .entry)) client revision kind bib) × updateIn (now (d .entry)) bib a ⌝ }
@@ -73,6 +75,9 @@ fn check_lower(d: &[u8], client: u8, revision: u8, kind: u8, bib: u16) -> Update
     };
     let JoinedCheck::Out = check_joined(d, r) else {
         return UpdateCheck::Refused(4);
+    };
+    let MarkedCheck::Unmarked = check_marked(d, r) else {
+        return UpdateCheck::Refused(16);
     };
     let BibCheck::Known = check_bib(bib) else {
         return UpdateCheck::Refused(5);

@@ -20,6 +20,7 @@ pub fn bundle(t: &mut [u8], client: u8, revision: u8, records: &[u8]) -> Result<
     let client = Client::checked(client)?;
     let revision = t.check_given(revision)?;
     t.check_out(revision)?;
+    t.check_unmarked(revision)?;
     for (place, record) in records.iter().enumerate() {
         checked_entry(record, client)?;
         // The first entry opens the transaction or finds it open; so the others find it.

@@ -1,4 +1,4 @@
-//! The calls on lent bytes: the checks of each in ascending order, 15 after 4, then what it does.
+//! The calls on lent bytes: the checks of each in ascending order, 15 and 16 after 4, then what it does.
 
 use calls::Code;
 
@@ -49,6 +49,7 @@ pub fn update(
     let client = Client::checked(client)?;
     let revision = t.check_given(revision)?;
     t.check_out(revision)?;
+    t.check_unmarked(revision)?;
     let bib = Bib::checked(bib)?;
     let kind = Kind::checked(kind)?;
     t.check_may_enter(client, revision)?;
@@ -64,6 +65,7 @@ pub fn query(t: &mut [u8], client: u8, revision: u8, bib: u16) -> Result<Standin
     let client = Client::checked(client)?;
     let revision = t.check_given(revision)?;
     t.check_out(revision)?;
+    t.check_unmarked(revision)?;
     let bib = Bib::checked(bib)?;
     t.check_may_enter(client, revision)?;
 
@@ -91,6 +93,29 @@ pub fn fork(t: &mut [u8], revision: u8) -> Result<u32, Code> {
 
     t.fork(parent, child);
     Ok(u32::from(child.0))
+}
+
+/// As a fork, and the new revision is marked with a name; its number.
+pub fn mark(t: &mut [u8], revision: u8, name: &[u8]) -> Result<u32, Code> {
+    let mut t = checked(t)?;
+    let parent = t.check_given(revision)?;
+    t.check_out(parent)?;
+    t.check_ordinary()?;
+    t.check_idle(parent)?;
+    let child = t.check_left()?;
+    let name = t.check_name(name)?;
+
+    t.mark(parent, child, name);
+    Ok(u32::from(child.0))
+}
+
+/// The mark of a name is out no more; 0.
+pub fn drop(t: &mut [u8], name: &[u8]) -> Result<u32, Code> {
+    let mut t = checked(t)?;
+    let revision = t.check_mark(name)?;
+
+    t.hand_in(revision);
+    Ok(0)
 }
 
 /// The joiner takes over the joinee's updates; how many.

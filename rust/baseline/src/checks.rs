@@ -1,9 +1,9 @@
-//! The checks that look at cells: codes 3, 4, 6 to 11 and 15.
+//! The checks that look at cells: codes 3, 4, 6 to 11 and 15 to 18.
 
 use calls::Code;
 
 use crate::numbers::{Client, Revision, LOG, REVISIONS};
-use crate::parts::{CLOSED, IS_JOINED, NEVER};
+use crate::parts::{CLOSED, IS_JOINED, IS_MARKED, NAME, NEVER};
 use crate::table::Table;
 
 impl Table<'_> {
@@ -27,6 +27,20 @@ impl Table<'_> {
         refuse(self.is_single_main() && revision != Revision::MAIN, Code::OffTheLine)
     }
 
+    /// Code 15 of a mark: a single-main day has none.
+    pub(crate) fn check_ordinary(&self) -> Result<(), Code> {
+        refuse(self.is_single_main(), Code::OffTheLine)
+    }
+
+    /// Code 16.
+    pub(crate) fn check_unmarked(&self, revision: Revision) -> Result<(), Code> {
+        refuse(self.is_marked(revision), Code::Marked)
+    }
+
+    fn is_marked(&self, revision: Revision) -> bool {
+        self.state(revision) == IS_MARKED
+    }
+
     /// Codes 6, 7 and 8 of update and query.
     pub(crate) fn check_may_enter(&self, client: Client, revision: Revision) -> Result<(), Code> {
         let opened = self.opened();
@@ -38,7 +52,7 @@ impl Table<'_> {
         refuse(!self.caught(client).has(revision), Code::Stale)
     }
 
-    /// Code 7 of fork, join and list.
+    /// Code 7 of fork, mark, join and list.
     pub(crate) fn check_idle(&self, revision: Revision) -> Result<(), Code> {
         refuse(self.opened().contains(&revision.0), Code::InUse)
     }
@@ -59,7 +73,7 @@ impl Table<'_> {
         Ok(self.next())
     }
 
-    /// One that was never used, else the one handed in longest ago.
+    /// One that was never used, else the one joined or dropped longest ago.
     pub(crate) fn next(&self) -> Revision {
         let given = self.given();
         Revision(if usize::from(given) < REVISIONS { given } else { self.queue()[0] })
@@ -71,6 +85,8 @@ impl Table<'_> {
         self.check_out(joiner)?;
         self.check_out(joinee)?;
         self.check_line(joiner)?;
+        self.check_unmarked(joiner)?;
+        self.check_unmarked(joinee)?;
         self.check_idle(joiner)?;
         self.check_idle(joinee)?;
         self.check_joinable(joiner, joinee)?;
@@ -82,6 +98,25 @@ impl Table<'_> {
         let joinable =
             joinee != Revision::MAIN && joiner != joinee && self.seen(joiner).has(joinee);
         refuse(!joinable, Code::NotJoinable)
+    }
+
+    /// Code 17: four letters A to Z, which no mark that is out bears.
+    pub(crate) fn check_name(&self, name: &[u8]) -> Result<[u8; NAME], Code> {
+        let name = <[u8; NAME]>::try_from(name).map_err(|_| Code::BadName)?;
+        refuse(!name.iter().all(u8::is_ascii_uppercase), Code::BadName)?;
+        refuse(self.bearer(&name).is_some(), Code::BadName)?;
+        Ok(name)
+    }
+
+    /// Code 18, or the mark that bears the name.
+    pub(crate) fn check_mark(&self, name: &[u8]) -> Result<Revision, Code> {
+        self.bearer(name).ok_or(Code::NoSuchMark)
+    }
+
+    /// The main revision is no mark. On a day at most one bears a name; else the highest number is meant.
+    fn bearer(&self, name: &[u8]) -> Option<Revision> {
+        let mut numbers = (1..REVISIONS as u8).rev().map(Revision);
+        numbers.find(|&revision| self.is_marked(revision) && self.name(revision) == name)
     }
 }
 

@@ -3,7 +3,9 @@
 use calls::{Answer, Call, Code, Line, State};
 
 use crate::bundle::bundle;
-use crate::calls::{fill, fork, fresh, join, list, preview, query, sync, update, yield_};
+use crate::calls::{
+    drop, fill, fork, fresh, join, list, mark, preview, query, sync, update, yield_,
+};
 use crate::calls::{Fill, Preview, LISTED};
 use crate::numbers::LOG;
 use crate::parts::BYTES;
@@ -57,6 +59,8 @@ pub fn call(t: &mut [u8], call: &Call) -> Result<Answer, Code> {
         }
         Call::Fresh { single_main } => fresh(t, single_main)?,
         Call::Sync { revision } => sync(t, revision)?,
+        Call::Mark { revision, ref name } => mark(t, revision, name)?,
+        Call::Drop { ref name } => drop(t, name)?,
     };
     Ok(Answer::accepted(value))
 }

@@ -11,7 +11,7 @@ mod calls;
 mod checks;
 mod day;
 mod entry;
-mod marks;
+mod flags;
 mod numbers;
 mod order;
 mod parts;
@@ -20,7 +20,9 @@ mod steps;
 mod table;
 mod update;
 
-pub use self::calls::{fill, fork, fresh, join, list, preview, query, sync, update, yield_};
+pub use self::calls::{
+    drop, fill, fork, fresh, join, list, mark, preview, query, sync, update, yield_,
+};
 pub use self::calls::{Fill, Preview};
 pub use bundle::bundle;
 pub use day::{call, Day};

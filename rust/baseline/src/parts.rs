@@ -20,6 +20,7 @@ pub(crate) const OPENED: usize = 39_808;
 pub(crate) const UPDATES: usize = 39_824;
 pub(crate) const OUT: usize = 39_826;
 pub(crate) const GIVEN: usize = 39_827;
+pub(crate) const NAMES: usize = 39_828;
 pub(crate) const SINGLE: usize = 40_084;
 pub(crate) const CLOSED_MAIN: usize = 40_085;
 pub(crate) const SIGNATURE: usize = 40_952;
@@ -32,6 +33,8 @@ pub(crate) const SIGNED: [u8; 8] = *b"SILTTONG";
 pub(crate) const ROW: usize = 512;
 /// Bytes of an entry.
 pub(crate) const ENTRY: usize = 6;
+/// Bytes of a mark's name.
+pub(crate) const NAME: usize = 4;
 
 /// In the cell of a client's open transaction: there is none.
 pub(crate) const CLOSED: u8 = 64;
@@ -39,4 +42,7 @@ pub(crate) const CLOSED: u8 = 64;
 /// The states of a revision.
 pub(crate) const NEVER: u8 = 0;
 pub(crate) const IS_OUT: u8 = 1;
+/// Joined or dropped.
 pub(crate) const IS_JOINED: u8 = 2;
+/// Marked, and out.
+pub(crate) const IS_MARKED: u8 = 3;

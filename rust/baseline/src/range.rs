@@ -25,7 +25,7 @@ fn in_range(t: &[u8; BYTES]) -> bool {
         let (words, _) = t[at..at + 2 * count].as_chunks::<2>();
         words.iter().all(|&word| u16::from_le_bytes(word) <= most)
     };
-    bytes(STATE, REVISIONS, 2)
+    bytes(STATE, REVISIONS, 3)
         && bytes(USED, REVISIONS, 1)
         && words(LAST, REVISIONS, 4_095)
         && words(FIRST, REVISIONS, 4_095)

@@ -1,10 +1,10 @@
 //! What each step writes: docs/CELLS.md, "What each step writes".
 
 use crate::entry::Entry;
-use crate::marks::Marks;
+use crate::flags::Flags;
 use crate::numbers::{Client, Revision, CLIENTS, LOG, REVISIONS};
 use crate::order::insert;
-use crate::parts::{CLOSED, IS_JOINED, IS_OUT};
+use crate::parts::{CLOSED, IS_JOINED, IS_MARKED, IS_OUT, NAME};
 use crate::table::Table;
 
 /// A count stops at its range. On a day none would pass it.
@@ -15,7 +15,7 @@ fn counted(n: u16) -> u16 {
 impl Table<'_> {
     /// An event: the transaction is open, and its client has caught up with this revision alone.
     pub(crate) fn enter(&mut self, c: Client, r: Revision) {
-        self.set_caught(c, Marks::only(r));
+        self.set_caught(c, Flags::only(r));
         self.set_opened(c, r.0);
     }
 
@@ -43,12 +43,12 @@ impl Table<'_> {
         self.inherit(parent, child);
         self.set_seen(child, self.seen(parent));
         for number in 0..REVISIONS as u8 {
-            let marks = self.seen(Revision(number)).with(child, number == parent.0);
-            self.set_seen(Revision(number), marks);
+            let flags = self.seen(Revision(number)).with(child, number == parent.0);
+            self.set_seen(Revision(number), flags);
         }
         for client in (0..CLIENTS as u8).map(Client) {
-            let marks = self.caught(client);
-            self.set_caught(client, marks.with(child, marks.has(parent)));
+            let flags = self.caught(client);
+            self.set_caught(client, flags.with(child, flags.has(parent)));
         }
         self.set_state(child, IS_OUT);
         let layout = self.layout_mut();
@@ -58,6 +58,13 @@ impl Table<'_> {
         }
         self.take_number();
         self.set_out(self.out() + 1);
+    }
+
+    /// The parent forks the child, which is marked.
+    pub(crate) fn mark(&mut self, parent: Revision, child: Revision, name: [u8; NAME]) {
+        self.fork(parent, child);
+        self.set_state(child, IS_MARKED);
+        self.set_name(child, name);
     }
 
     /// The number of a fork is used: it is one more given out, or it leaves the queue.
@@ -103,19 +110,24 @@ impl Table<'_> {
         self.set_count(joiner, counted(before + gained));
         self.set_seen(joiner, self.seen(joiner).or(self.seen(joinee)));
         for client in (0..CLIENTS as u8).map(Client) {
-            let marks = self.caught(client);
-            self.set_caught(client, marks.with(joiner, marks.has(joiner) || marks.has(joinee)));
+            let flags = self.caught(client);
+            self.set_caught(client, flags.with(joiner, flags.has(joiner) || flags.has(joinee)));
         }
-        self.set_state(joinee, IS_JOINED);
+        self.hand_in(joinee);
+        gained
+    }
+
+    /// A revision that is joined, or a mark that is dropped, is out no more, and its number is free.
+    pub(crate) fn hand_in(&mut self, r: Revision) {
+        self.set_state(r, IS_JOINED);
         let layout = self.layout_mut();
-        if let Some(place) = layout.iter().position(|&other| other == joinee.0) {
+        if let Some(place) = layout.iter().position(|&other| other == r.0) {
             layout.copy_within(place + 1.., place);
             layout[REVISIONS - 1] = 0;
         }
         let place = usize::from(self.given().saturating_sub(self.out()));
-        self.queue_mut()[place] = joinee.0;
+        self.queue_mut()[place] = r.0;
         // One at least: on a day the main revision is out.
         self.set_out((self.out() - 1).max(1));
-        gained
     }
 }

@@ -1,10 +1,11 @@
 //! The cells read and written by name: docs/CELLS.md, "What the cells mean".
 
-use crate::marks::Marks;
+use crate::flags::Flags;
 use crate::numbers::{Client, Revision, CLIENTS, REVISIONS};
 use crate::parts::{
     BASE, BYTES, CAUGHT, CLOSED, COUNT, ENTRIES, ENTRY, FIRST, GIVEN, HIGH, IS_OUT, LAST, LAYOUT,
-    LOW, OPENED, OUT, QUEUE, ROW, ROWS, SEEN, SIGNATURE, SIGNED, SINGLE, STATE, UPDATES, USED,
+    LOW, NAME, NAMES, OPENED, OUT, QUEUE, ROW, ROWS, SEEN, SIGNATURE, SIGNED, SINGLE, STATE,
+    UPDATES, USED,
 };
 
 /// A lent buffer that passed the check of code 1.
@@ -38,6 +39,17 @@ impl Table<'_> {
 
     pub(crate) fn set_state(&mut self, r: Revision, v: u8) {
         self.0[STATE + r.index()] = v;
+    }
+
+    /// Of a mark that is out; else it means nothing.
+    pub(crate) fn name(&self, r: Revision) -> &[u8] {
+        let at = NAMES + NAME * r.index();
+        &self.0[at..at + NAME]
+    }
+
+    pub(crate) fn set_name(&mut self, r: Revision, name: [u8; NAME]) {
+        let at = NAMES + NAME * r.index();
+        self.0[at..at + NAME].copy_from_slice(&name);
     }
 
     pub(crate) fn is_used(&self, r: Revision) -> bool {
@@ -127,7 +139,7 @@ impl Table<'_> {
         &mut self.0[LAYOUT..LAYOUT + REVISIONS]
     }
 
-    /// All 64 places. The numbers handed in and not used again stand in the first ones.
+    /// All 64 places. The numbers joined or dropped and not used again stand in the first ones.
     pub(crate) fn queue(&self) -> &[u8] {
         &self.0[QUEUE..QUEUE + REVISIONS]
     }
@@ -151,33 +163,33 @@ impl Table<'_> {
         *byte = *byte & !(0x0f << shift) | high << shift;
     }
 
-    fn marks(&self, at: usize) -> Marks {
+    fn flags(&self, at: usize) -> Flags {
         let mut row = [0; 8];
         row.copy_from_slice(&self.0[at..at + 8]);
-        Marks::from_bytes(row)
+        Flags::from_bytes(row)
     }
 
-    fn set_marks(&mut self, at: usize, marks: Marks) {
-        self.0[at..at + 8].copy_from_slice(&marks.to_bytes());
+    fn set_flags(&mut self, at: usize, flags: Flags) {
+        self.0[at..at + 8].copy_from_slice(&flags.to_bytes());
     }
 
-    pub(crate) fn seen(&self, a: Revision) -> Marks {
-        self.marks(SEEN + 8 * a.index())
+    pub(crate) fn seen(&self, a: Revision) -> Flags {
+        self.flags(SEEN + 8 * a.index())
     }
 
-    pub(crate) fn set_seen(&mut self, a: Revision, marks: Marks) {
-        self.set_marks(SEEN + 8 * a.index(), marks);
+    pub(crate) fn set_seen(&mut self, a: Revision, flags: Flags) {
+        self.set_flags(SEEN + 8 * a.index(), flags);
     }
 
-    pub(crate) fn caught(&self, c: Client) -> Marks {
-        self.marks(CAUGHT + 8 * c.index())
+    pub(crate) fn caught(&self, c: Client) -> Flags {
+        self.flags(CAUGHT + 8 * c.index())
     }
 
-    pub(crate) fn set_caught(&mut self, c: Client, marks: Marks) {
-        self.set_marks(CAUGHT + 8 * c.index(), marks);
+    pub(crate) fn set_caught(&mut self, c: Client, flags: Flags) {
+        self.set_flags(CAUGHT + 8 * c.index(), flags);
     }
 
-    /// The marks of the updates that r inherited otherwise than by count.
+    /// The flags of the updates that r inherited otherwise than by count.
     pub(crate) fn row(&self, r: Revision) -> [u8; ROW] {
         let mut row = [0; ROW];
         if r != Revision::MAIN && self.is_used(r) {

@@ -89,6 +89,19 @@ pub enum Call {
         /// The joinee.
         revision: u8,
     },
+    /// A new revision starts from this one, which can be listed and forked but not written, queried or
+    /// joined. No step of a day file.
+    Mark {
+        /// The forker.
+        revision: u8,
+        /// Of the new revision: four letters A to Z, if it is a good one.
+        name: Vec<u8>,
+    },
+    /// The marked revision of a name ends. No step of a day file.
+    Drop {
+        /// Its name.
+        name: Vec<u8>,
+    },
 }
 
 /// The kinds of update by name, kind 1 first. What each makes of a bib, by 01 and 02's U2:
@@ -117,6 +130,8 @@ impl Call {
             Call::Preview { .. } => "preview",
             Call::Fresh { .. } => "fresh",
             Call::Sync { .. } => "sync",
+            Call::Mark { .. } => "mark",
+            Call::Drop { .. } => "drop",
         }
     }
 }
@@ -143,6 +158,10 @@ impl fmt::Display for Call {
             Call::Preview { joiner, joinee, bib } => write!(f, "{joiner} with {joinee} bib {bib}"),
             Call::Fresh { single_main: false } => f.write_str("ordinary"),
             Call::Fresh { single_main: true } => f.write_str("single-main"),
+            Call::Mark { revision, ref name } => {
+                write!(f, "box {revision} \"{}\"", name.escape_ascii())
+            }
+            Call::Drop { ref name } => write!(f, "\"{}\"", name.escape_ascii()),
         }
     }
 }
@@ -200,6 +219,10 @@ mod tests {
             (Call::Fresh { single_main: false }, "fresh ordinary"),
             (Call::Fresh { single_main: true }, "fresh single-main"),
             (Call::Sync { revision: 5 }, "sync box 5"),
+            (Call::Mark { revision: 5, name: b"JURY".into() }, "mark box 5 \"JURY\""),
+            (Call::Mark { revision: 0, name: vec![] }, "mark box 0 \"\""),
+            (Call::Drop { name: b"JURY".into() }, "drop \"JURY\""),
+            (Call::Drop { name: b"a\"\xff".into() }, r#"drop "a\"\xff""#),
         ];
         for (call, text) in written {
             assert_eq!(call.to_string(), text);

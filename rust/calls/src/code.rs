@@ -15,13 +15,14 @@ pub enum Code {
     UnknownClient = 2,
     /// Revision number not yet given out.
     NeverGiven = 3,
-    /// The latest revision that bore the number was joined.
+    /// The latest revision that bore the number was joined, or was marked and dropped.
     Joined = 4,
     /// Bib above 999, or update kind not 1 to 4.
     BadEntry = 5,
     /// The client's open transaction is on another revision.
     OpenElsewhere = 6,
-    /// Another client has an open transaction there; for fork, join, sync and list any client.
+    /// Another client has an open transaction there; for fork, mark, join, sync and list any
+    /// client.
     InUse = 7,
     /// No path from the client's last event to the terminal.
     Stale = 8,
@@ -37,12 +38,19 @@ pub enum Code {
     UnknownStep = 13,
     /// 02, U4: the records of a bundle are none or above 64, or not whole.
     WrongBundle = 14,
-    /// 02, U8: on a single-main day, a fork of another revision than the main one, or a join into one.
+    /// 02, U8: on a single-main day, a fork of another revision than the main one, a join into one, or a
+    /// mark.
     OffTheLine = 15,
+    /// 02, U9: the revision is marked.
+    Marked = 16,
+    /// 02, U9: the name of a mark is not four letters A to Z, or is in use.
+    BadName = 17,
+    /// 02, U9: no mark that is out has the name.
+    NoSuchMark = 18,
 }
 
 /// Each code with its name, in the order of their numbers.
-const NAMED: [(Code, &str); 16] = [
+const NAMED: [(Code, &str); 19] = [
     (Code::Accepted, "taken"),
     (Code::NoTable, "no table"),
     (Code::UnknownClient, "strange tablet"),
@@ -59,6 +67,9 @@ const NAMED: [(Code, &str); 16] = [
     (Code::UnknownStep, "strange step"),
     (Code::WrongBundle, "wrong bundle"),
     (Code::OffTheLine, "off the line"),
+    (Code::Marked, "marked box"),
+    (Code::BadName, "bad name"),
+    (Code::NoSuchMark, "no such mark"),
 ];
 
 impl Code {
@@ -90,9 +101,9 @@ mod tests {
 
     #[test]
     fn each_number_has_its_code() {
-        for number in 0..=15 {
+        for number in 0..=18 {
             assert_eq!(Code::of(number).map(Code::number), Some(number));
         }
-        assert_eq!(Code::of(16), None);
+        assert_eq!(Code::of(19), None);
     }
 }

@@ -122,7 +122,7 @@ impl Drawing {
             Call::Yield { .. } => {}
             // No steps of a day file.
             Call::List { .. } | Call::Fill { .. } | Call::Bundle { .. } | Call::Preview { .. } => {}
-            Call::Fresh { .. } | Call::Sync { .. } => {}
+            Call::Fresh { .. } | Call::Sync { .. } | Call::Mark { .. } | Call::Drop { .. } => {}
         }
     }
 

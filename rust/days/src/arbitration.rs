@@ -3,7 +3,8 @@
 //! The revisions that are out stand in a row; each has the list of transactions that it took or
 //! took over. A forked revision is put to the right of its forker. A join puts the joinee's list
 //! behind the joiner's and takes the joinee out of the row. The lists from left to right are the order.
-//! Whether it is one is for the checks of `line_up` to say.
+//! A marked revision takes none, so that it does not matter that a dropped one stays in the row. Whether
+//! it is an arbitration order is for the checks of `line_up` to say.
 
 use literal::{Day, VertexId, VertexKind};
 

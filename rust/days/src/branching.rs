@@ -1,4 +1,4 @@
-//! How the generator picks forks, joins, syncs and previews.
+//! How the generator picks forks, joins, syncs and previews, and what is marked.
 
 use calls::{Call, BIBS};
 
@@ -6,13 +6,23 @@ use crate::generator::Generator;
 
 impl Generator<'_> {
     pub(crate) fn fork(&mut self) -> Call {
-        let newest = self.out[self.out.len() - 1];
-        let any = self.any_out();
-        let mut revision = if self.rng.percent(self.profile.newest) { newest } else { any };
-        if self.profile.main > 0 && self.rng.percent(self.profile.main) {
-            revision = 0;
-        }
+        let revision = self.source();
         self.settled(None, &[revision], Call::Fork { revision })
+    }
+
+    /// What is forked or marked.
+    pub(crate) fn source(&mut self) -> u8 {
+        if !self.marks.is_empty() && self.rng.percent(self.profile.from_marks) {
+            let marks: Vec<u8> = self.marks.keys().copied().collect();
+            return self.rng.pick(&marks);
+        }
+        let newest = self.unmarked().last().copied().unwrap_or(0);
+        let any = self.any_unmarked();
+        let revision = if self.rng.percent(self.profile.newest) { newest } else { any };
+        match self.profile.main > 0 && self.rng.percent(self.profile.main) {
+            true => 0,
+            false => revision,
+        }
     }
 
     pub(crate) fn join(&mut self) -> Call {
@@ -20,12 +30,24 @@ impl Generator<'_> {
         self.settled(None, &[joiner, joinee], Call::Join { joiner, joinee })
     }
 
-    /// A joiner and a joinee: in most cases a revision with its forker, else any two.
+    /// A joiner and a joinee: in most cases a revision with one that may take it over, else any two.
     fn pair(&mut self) -> (u8, u8) {
-        let joinee = self.any_out();
-        let any = self.any_out();
+        let joinee = self.likely_out();
+        let any = self.likely_out();
         let likely = self.rng.percent(self.profile.back);
-        (if likely { self.forker[usize::from(joinee)] } else { any }, joinee)
+        (if likely { self.taker(joinee) } else { any }, joinee)
+    }
+
+    /// The forker of a revision; of one that came from a mark, which joins none, the last revision that
+    /// came from there too.
+    fn taker(&self, joinee: u8) -> u8 {
+        let forker = |revision: u8| self.forker[usize::from(revision)];
+        let (from, unmarked) = (forker(joinee), self.unmarked());
+        let beside = |&other: &u8| other != joinee && forker(other) == from;
+        match unmarked.contains(&from) {
+            true => from,
+            false => unmarked.into_iter().rfind(beside).unwrap_or(from),
+        }
     }
 
     /// A join of a revision with its forker, which is accepted where neither is in use.
@@ -36,9 +58,9 @@ impl Generator<'_> {
 
     /// In most cases of a revision that came from the main one, else of any.
     pub(crate) fn sync(&mut self) -> Call {
-        let from_main = |&revision: &u8| revision != 0 && self.forker[usize::from(revision)] == 0;
-        let sent: Vec<u8> = self.out.iter().copied().filter(from_main).collect();
-        let any = self.any_out();
+        let mut sent = self.unmarked();
+        sent.retain(|&revision| revision != 0 && self.forker[usize::from(revision)] == 0);
+        let any = self.likely_out();
         let likely = !sent.is_empty() && self.rng.percent(80);
         let revision = if likely { self.rng.pick(&sent) } else { any };
         self.settled(None, &[0, revision], Call::Sync { revision })
@@ -49,7 +71,7 @@ impl Generator<'_> {
     pub(crate) fn preview(&mut self) -> Call {
         let entered = self.last[usize::from(self.client())];
         let (joiner, joinee) = match self.rng.percent(50) && self.out.contains(&entered) {
-            true => (self.forker[usize::from(entered)], entered),
+            true => (self.taker(entered), entered),
             false => self.pair(),
         };
         let strange = self.rng.pick(&[BIBS, u16::MAX]);

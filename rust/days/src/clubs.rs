@@ -1,4 +1,4 @@
-//! Kinds of single-main day: 02, U8. Some of the forks and joins are off the line.
+//! Kinds of single-main day: 02, U8. Some of the forks and joins, and all marks, are off the line.
 
 use calls::REVISIONS;
 
@@ -9,7 +9,15 @@ impl Profile {
     pub const SINGLE_MAIN: Profile = Profile {
         name: "single-main",
         single_main: true,
-        weights: Weights { fork: 12, join: 12, preview: 18, sync: 14, ..Profile::MIXED.weights },
+        weights: Weights {
+            fork: 12,
+            join: 12,
+            preview: 20,
+            sync: 14,
+            mark: 8,
+            drop: 4,
+            ..Profile::MIXED.weights
+        },
         main: 60,
         back: 60,
         settle: 50,
@@ -22,7 +30,14 @@ impl Profile {
         name: "small, single-main",
         single_main: true,
         revisions: 9,
-        weights: Weights { fork: 14, join: 8, sync: 18, ..Profile::SMALL.weights },
+        weights: Weights {
+            fork: 14,
+            join: 8,
+            sync: 18,
+            mark: 4,
+            drop: 2,
+            ..Profile::SMALL.weights
+        },
         main: 75,
         back: 80,
         roam: 60,
@@ -47,7 +62,14 @@ impl Profile {
     pub const RENEWED: Profile = Profile {
         name: "renewed",
         renewed: 4,
-        weights: Weights { fork: 16, join: 14, sync: 12, ..Profile::MIXED.weights },
+        weights: Weights {
+            fork: 16,
+            join: 14,
+            sync: 12,
+            mark: 12,
+            drop: 6,
+            ..Profile::MIXED.weights
+        },
         main: 40,
         ..Profile::MIXED
     };

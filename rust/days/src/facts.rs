@@ -40,7 +40,7 @@ pub struct Facts {
     /// The calls.
     pub steps: Vec<Step>,
     /// The view of each revision, in the order of their starts, before the first call and after each
-    /// one; none once it is joined.
+    /// one; none once it is joined or dropped.
     pub views: Vec<Vec<Option<View>>>,
 }
 
@@ -107,7 +107,7 @@ pub fn stands(updates: impl Iterator<Item = Update>, bib: u16) -> (State, u32) {
 fn views_now(day: &Day) -> Vec<Option<View>> {
     let view = |(place, revision): (usize, &Revision)| {
         let view = View { terminal: revision.terminal.place(), updates: day.visible(place) };
-        (!revision.joined).then_some(view)
+        revision.out.then_some(view)
     };
     day.revisions().iter().enumerate().map(view).collect()
 }

@@ -1,7 +1,9 @@
 //! Random days. The generator knows no rule of the table: it keeps a picture of the day from the
 //! answers alone and picks calls that are likely to be accepted, and some that are not.
 
-use calls::{Answer, Call, Code, Line, BIBS, CLIENTS, REVISIONS, SHEET};
+use std::collections::BTreeMap;
+
+use calls::{Answer, Call, Code, Line, CLIENTS, REVISIONS, SHEET};
 
 use crate::profile::Profile;
 use crate::rng::Rng;
@@ -30,6 +32,8 @@ pub(crate) struct Generator<'a> {
     pub(crate) given: usize,
     /// Who forked the latest revision of each number, or took over the one that did.
     pub(crate) forker: [u8; REVISIONS as usize],
+    /// The marks that are out: their numbers and names.
+    pub(crate) marks: BTreeMap<u8, Vec<u8>>,
     /// The revision of each client's open transaction.
     open: [Option<u8>; CLIENTS as usize],
     /// Where each client was last, or who took that over.
@@ -38,6 +42,9 @@ pub(crate) struct Generator<'a> {
     /// What was picked together with the call before it.
     pub(crate) next: Option<Call>,
 }
+
+/// Picks a call of some name.
+type Pick<'a> = fn(&mut Generator<'a>) -> Call;
 
 impl<'a> Generator<'a> {
     fn new(profile: &'a Profile, seed: u64) -> Self {
@@ -49,6 +56,7 @@ impl<'a> Generator<'a> {
             out: vec![0],
             given: 1,
             forker: [0; REVISIONS as usize],
+            marks: BTreeMap::new(),
             open: [None; CLIENTS as usize],
             last: [0; CLIENTS as usize],
             updates: 0,
@@ -86,6 +94,11 @@ impl<'a> Generator<'a> {
                 self.updates += records.len() / Line::BYTES;
             }
             Call::Fresh { .. } => self.renewed(),
+            Call::Mark { revision, ref name } => {
+                self.forked(revision, answer.value as u8);
+                self.marks.insert(answer.value as u8, name.clone());
+            }
+            Call::Drop { ref name } => self.dropped(name),
             Call::List { .. } | Call::Fill { .. } | Call::Preview { .. } => {}
         }
     }
@@ -107,11 +120,20 @@ impl<'a> Generator<'a> {
         moved.filter(|revision| **revision == joinee).for_each(|place| *place = joiner);
     }
 
+    fn dropped(&mut self, name: &[u8]) {
+        let mut marks = self.marks.iter();
+        if let Some((&number, _)) = marks.find(|(_, borne)| *borne == name) {
+            self.marks.remove(&number);
+            self.out.retain(|&revision| revision != number);
+        }
+    }
+
     /// What the answers told was of the day before.
     fn renewed(&mut self) {
         let fresh = Generator::new(self.profile, 0);
         (self.out, self.given, self.forker) = (fresh.out, fresh.given, fresh.forker);
         (self.open, self.last, self.updates) = (fresh.open, fresh.last, fresh.updates);
+        self.marks = fresh.marks;
     }
 
     fn pick(&mut self) -> Call {
@@ -129,37 +151,33 @@ impl<'a> Generator<'a> {
         }
     }
 
-    /// A call with numbers in range.
+    /// A call with numbers in range. Where one that is picked may not be made, the next is.
     fn likely(&mut self) -> Call {
         let w = self.profile.weights;
-        let steps = w.update + w.query + w.yields + w.fork + w.join;
-        let mut at = self.rng.below(steps + w.list + w.fill + w.bundle + w.preview + w.sync);
-        let mut falls = |weight: usize| {
-            let here = at < weight;
+        let (start, fork) = (self.may_start(), self.may_fork());
+        let yields = |generator: &mut Self| Call::Yield { client: generator.client() };
+        let picks: [(usize, bool, Pick<'a>); 12] = [
+            (w.update, true, Self::update),
+            (w.query, true, Self::query),
+            (w.yields, true, yields),
+            (w.fork, fork, Self::fork),
+            (w.join, true, Self::join),
+            (w.sync, start, Self::sync),
+            (w.mark, fork, Self::mark),
+            (w.drop, true, Self::drop_mark),
+            (w.list, true, Self::list),
+            (w.bundle, true, Self::bundle),
+            (w.preview, true, Self::preview),
+            (w.fill, true, Self::fill),
+        ];
+        let mut at = self.rng.below(picks.iter().map(|(weight, ..)| weight).sum());
+        for (weight, allowed, pick) in picks {
+            if at < weight && allowed {
+                return pick(self);
+            }
             at = at.saturating_sub(weight);
-            here
-        };
-        if falls(w.update) {
-            self.update()
-        } else if falls(w.query) {
-            self.query()
-        } else if falls(w.yields) {
-            Call::Yield { client: self.client() }
-        } else if falls(w.fork) && self.may_fork() {
-            self.fork()
-        } else if falls(w.join) {
-            self.join()
-        } else if falls(w.sync) && self.may_start() {
-            self.sync()
-        } else if falls(w.list) {
-            self.list()
-        } else if falls(w.bundle) {
-            self.bundle()
-        } else if falls(w.preview) {
-            self.preview()
-        } else {
-            self.fill()
         }
+        self.fill()
     }
 
     fn may_fork(&self) -> bool {
@@ -174,11 +192,37 @@ impl<'a> Generator<'a> {
         self.rng.below(usize::from(self.profile.clients)) as u8
     }
 
-    /// Any revision, or one of the newest, so that others stay out for long.
-    pub(crate) fn any_out(&mut self) -> u8 {
+    /// Any of these revisions, or one of the newest, so that others stay out for long.
+    fn any_of(&mut self, revisions: &[u8]) -> u8 {
         let near = self.profile.recent > 0 && self.rng.percent(self.profile.recent);
-        let from = if near { self.out.len().saturating_sub(5) } else { 0 };
-        self.rng.pick(&self.out[from..])
+        let from = if near { revisions.len().saturating_sub(5) } else { 0 };
+        self.rng.pick(&revisions[from..])
+    }
+
+    pub(crate) fn any_out(&mut self) -> u8 {
+        let out = self.out.clone();
+        self.any_of(&out)
+    }
+
+    /// The revisions that are out and not marked, in the order of their starts.
+    pub(crate) fn unmarked(&self) -> Vec<u8> {
+        let mut unmarked = self.out.clone();
+        unmarked.retain(|revision| !self.marks.contains_key(revision));
+        unmarked
+    }
+
+    pub(crate) fn any_unmarked(&mut self) -> u8 {
+        let unmarked = self.unmarked();
+        self.any_of(&unmarked)
+    }
+
+    /// For what marked revisions refuse: in most cases one that is not.
+    pub(crate) fn likely_out(&mut self) -> u8 {
+        if self.rng.percent(self.profile.to_marks) {
+            self.any_out()
+        } else {
+            self.any_unmarked()
+        }
     }
 
     /// Where a client goes on or starts.
@@ -190,7 +234,7 @@ impl<'a> Generator<'a> {
             None => self.profile.roam,
         };
         if self.rng.percent(roam) || !self.out.contains(&here) {
-            self.any_out()
+            self.likely_out()
         } else {
             here
         }
@@ -250,53 +294,14 @@ impl<'a> Generator<'a> {
         Call::Fill { revision: if self.rng.percent(75) { out } else { any } }
     }
 
-    /// A number for a revision: one that was given out, joined or not, the first that was not, the
-    /// first out of range, or any.
-    fn any_number(&mut self) -> u8 {
+    /// A number for a revision: one that was given out, one that is out no more, the first that was not
+    /// given out, the first out of range, or any.
+    pub(crate) fn any_number(&mut self) -> u8 {
         let given = self.rng.below(self.given) as u8;
+        let mut gone: Vec<u8> = (0..self.given as u8).collect();
+        gone.retain(|number| !self.out.contains(number));
+        let gone = if gone.is_empty() { given } else { self.rng.pick(&gone) };
         let any = self.rng.bits() as u8;
-        self.rng.pick(&[given, given, given, self.given as u8, REVISIONS, any])
-    }
-
-    /// One argument replaced: the first number out of range, or any number.
-    fn spoilt(&mut self, call: Call) -> Call {
-        let any = self.rng.bits();
-        let number = self.any_number();
-        let strange_client = self.rng.pick(&[CLIENTS, any as u8]);
-        let strange_bib = self.rng.pick(&[BIBS - 1, BIBS, any as u16]);
-        let strange_kind = self.rng.pick(&[0, 5, any as u8]);
-        let which = self.rng.below(4);
-        match call {
-            Call::Update { client, revision, kind, bib, v } => match which {
-                0 => Call::Update { client: strange_client, revision, kind, bib, v },
-                1 => Call::Update { client, revision: number, kind, bib, v },
-                2 => Call::Update { client, revision, kind: strange_kind, bib, v },
-                _ => Call::Update { client, revision, kind, bib: strange_bib, v },
-            },
-            Call::Query { client, revision, bib } => match which {
-                0 => Call::Query { client: strange_client, revision, bib },
-                1 | 2 => Call::Query { client, revision: number, bib },
-                _ => Call::Query { client, revision, bib: strange_bib },
-            },
-            Call::Yield { .. } => Call::Yield { client: strange_client },
-            Call::Fork { .. } => Call::Fork { revision: number },
-            Call::Join { joiner, joinee } => match which {
-                0 | 1 => Call::Join { joiner: number, joinee },
-                _ => Call::Join { joiner, joinee: number },
-            },
-            Call::List { room, .. } => Call::List { revision: number, room },
-            Call::Fill { .. } => Call::Fill { revision: number },
-            Call::Sync { .. } => Call::Sync { revision: number },
-            Call::Bundle { client, revision, records } => match which {
-                0 => Call::Bundle { client: strange_client, revision, records },
-                _ => Call::Bundle { client, revision: number, records },
-            },
-            Call::Preview { joiner, joinee, bib } => match which {
-                0 => Call::Preview { joiner: number, joinee, bib },
-                1 => Call::Preview { joiner, joinee: number, bib },
-                _ => Call::Preview { joiner, joinee, bib: strange_bib },
-            },
-            Call::Fresh { .. } => call,
-        }
+        self.rng.pick(&[given, gone, gone, self.given as u8, REVISIONS, any])
     }
 }

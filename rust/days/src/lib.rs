@@ -1,7 +1,7 @@
 //! Random days, and the checkers that judge them.
 //!
 //! Days are made from a seed, but for the short ones of [`late_days`]. A failed check prints the
-//! seed, and the shortest day found that still fails. There are eight checks:
+//! seed, and the shortest day found that still fails. There are ten checks:
 //!
 //! - the literal replay and the baseline agree on every answer;
 //! - an arbitration order (01: line-up) has what demand 3 says of it, by brute force;
@@ -10,7 +10,9 @@
 //! - a bundle is its updates and a yield;
 //! - a preview is the join on a copy, as a list and a query there have it;
 //! - a sync is the join into the main revision and the fork of it;
-//! - single-main days have what 02's U8 asks to show of them.
+//! - single-main days have what 02's U8 asks to show of them;
+//! - marks have names and lists by the calls before, and refuse what they must;
+//! - what comes of a mark is taken over by nothing that does not.
 
 #![forbid(unsafe_code)]
 
@@ -25,18 +27,25 @@ mod copies;
 mod facts;
 mod fills;
 mod generator;
+mod history;
 mod judge;
+mod juries;
 mod late;
 mod line_up;
+mod marks;
 mod meeting;
+mod naming;
 mod numbers;
+mod origins;
 mod previews;
 mod profile;
 mod reads;
 mod records;
+mod reuse;
 mod rng;
 mod sample;
 mod single_main;
+mod spoiling;
 mod syncs;
 
 pub use arbitration::arbitration_order;
@@ -51,8 +60,10 @@ pub use generator::random_day;
 pub use judge::{must_find, must_pass};
 pub use late::late_days;
 pub use line_up::{broken_sentence, SENTENCES};
+pub use marks::fault_of_marks;
 pub use meeting::meeting;
 pub use numbers::fault_of_numbers;
+pub use origins::fault_of_origins;
 pub use previews::fault_of_previews;
 pub use profile::{Profile, Weights};
 pub use reads::{every_fill, every_list, every_preview};

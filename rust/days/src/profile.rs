@@ -25,6 +25,10 @@ pub struct Weights {
     pub preview: usize,
     /// Syncs.
     pub sync: usize,
+    /// Marks.
+    pub mark: usize,
+    /// Drops.
+    pub drop: usize,
 }
 
 /// A kind of day.
@@ -49,9 +53,9 @@ pub struct Profile {
     pub bibs: u16,
     /// The kinds of update, each as often as it stands here.
     pub kinds: &'static [u8],
-    /// No fork or sync is tried with so many numbers given out.
+    /// No fork, mark or sync is tried with so many numbers given out.
     pub revisions: usize,
-    /// No fork is tried with so many revisions out.
+    /// No fork or mark is tried with so many revisions out.
     pub out: usize,
     /// What is tried.
     pub weights: Weights,
@@ -59,6 +63,10 @@ pub struct Profile {
     pub newest: u32,
     /// In so many of a hundred forks, the main revision is forked, whatever else was picked.
     pub main: u32,
+    /// In so many of a hundred forks and marks, a marked revision is forked, if one is out.
+    pub from_marks: u32,
+    /// In so many of a hundred cases, a call that marked revisions refuse may name one.
+    pub to_marks: u32,
     /// In so many of a hundred joins, a revision goes back to its forker, not to any.
     pub back: u32,
     /// In so many of a hundred cases, one of the newest revisions is picked, so that others stay out.
@@ -99,9 +107,13 @@ impl Profile {
             bundle: 5,
             preview: 6,
             sync: 5,
+            mark: 5,
+            drop: 3,
         },
         newest: 20,
         main: 0,
+        from_marks: 25,
+        to_marks: 15,
         back: 60,
         recent: 0,
         settle: 60,
@@ -109,7 +121,7 @@ impl Profile {
         strange: 5,
     };
 
-    /// Short days that brute force can judge, on few revisions and bibs.
+    /// Short days that brute force can judge, on few revisions and bibs, without marks.
     pub const SMALL: Profile = Profile {
         name: "small",
         calls: 64,
@@ -127,6 +139,8 @@ impl Profile {
             bundle: 4,
             preview: 8,
             sync: 6,
+            mark: 0,
+            drop: 0,
         },
         newest: 30,
         settle: 80,
@@ -150,6 +164,8 @@ impl Profile {
             bundle: 4,
             preview: 8,
             sync: 6,
+            mark: 4,
+            drop: 3,
         },
         newest: 75,
         settle: 90,
@@ -173,6 +189,8 @@ impl Profile {
             bundle: 5,
             preview: 6,
             sync: 5,
+            mark: 4,
+            drop: 3,
         },
         settle: 15,
         roam: 90,
@@ -197,6 +215,8 @@ impl Profile {
             bundle: 2,
             preview: 6,
             sync: 5,
+            mark: 4,
+            drop: 3,
         },
         newest: 30,
         settle: 80,
@@ -224,6 +244,8 @@ impl Profile {
             bundle: 3,
             preview: 12,
             sync: 5,
+            mark: 2,
+            drop: 2,
         },
         newest: 30,
         settle: 95,
@@ -249,6 +271,8 @@ impl Profile {
             bundle: 2,
             preview: 6,
             sync: 4,
+            mark: 6,
+            drop: 5,
         },
         newest: 40,
         settle: 95,
@@ -273,6 +297,8 @@ impl Profile {
             bundle: 12,
             preview: 15,
             sync: 14,
+            mark: 10,
+            drop: 8,
         },
         roam: 50,
         strange: 40,
@@ -297,6 +323,8 @@ impl Profile {
             bundle: 4,
             preview: 4,
             sync: 4,
+            mark: 4,
+            drop: 3,
         },
         newest: 30,
         settle: 90,
@@ -323,6 +351,8 @@ impl Profile {
             bundle: 60,
             preview: 4,
             sync: 3,
+            mark: 3,
+            drop: 2,
         },
         newest: 30,
         settle: 80,
@@ -333,69 +363,4 @@ impl Profile {
 
     /// Bundles that fill the log to its last place, or find it full in their midst.
     pub const NEARLY_FULL: Profile = Profile { name: "nearly full", first: 61, ..Profile::BUNDLES };
-
-    /// Hundreds of forks on a few revisions, so that each number is borne many times. Some revisions
-    /// stay out for long.
-    pub const REUSED: Profile = Profile {
-        name: "reused",
-        calls: 4_400,
-        clients: 8,
-        bibs: 3,
-        out: 16,
-        weights: Weights {
-            update: 12,
-            query: 8,
-            yields: 14,
-            fork: 34,
-            join: 34,
-            list: 10,
-            fill: 3,
-            bundle: 3,
-            preview: 4,
-            sync: 4,
-        },
-        newest: 40,
-        main: 25,
-        back: 85,
-        recent: 50,
-        settle: 95,
-        roam: 60,
-        strange: 1,
-        ..Profile::MIXED
-    };
-
-    /// The same with revisions that fork revisions of their own, and clients that roam.
-    pub const REUSED_NESTED: Profile = Profile {
-        name: "reused, nested",
-        clients: CLIENTS,
-        out: 30,
-        newest: 75,
-        roam: 90,
-        ..Profile::REUSED
-    };
-
-    /// Hundreds of forks with nearly all revisions out: a number is free for a short time only.
-    pub const CROWDED: Profile = Profile {
-        name: "crowded",
-        out: REVISIONS as usize + 1,
-        weights: Weights { fork: 55, sync: 8, ..Profile::REUSED.weights },
-        strange: 2,
-        ..Profile::REUSED
-    };
-
-    /// Short days on numbers that were all borne before, for what looks at them after each step.
-    pub const SMALL_REUSED: Profile = Profile {
-        name: "small, reused",
-        handed_in: 8,
-        calls: 80,
-        clients: CLIENTS,
-        revisions: REVISIONS as usize + 1,
-        weights: Weights { fork: 20, join: 20, sync: 3, ..Profile::SMALL.weights },
-        newest: 40,
-        main: 25,
-        back: 80,
-        recent: 90,
-        roam: 60,
-        ..Profile::SMALL
-    };
 }

@@ -46,7 +46,7 @@ impl Profile {
 
 /// How many days of each kind are a thorough replay. Small days come besides: they are short enough
 /// to be looked at after each step.
-const KINDS: [(Profile, u64); 16] = [
+const KINDS: [(Profile, u64); 18] = [
     (Profile::MIXED, 600),
     (Profile::NESTED, 600),
     (Profile::STALE, 400),
@@ -63,6 +63,8 @@ const KINDS: [(Profile, u64); 16] = [
     (Profile::SINGLE_MAIN, 400),
     (Profile::CROWDED_SINGLE_MAIN, 60),
     (Profile::RENEWED, 300),
+    (Profile::MARKED, 400),
+    (Profile::CROWDED_MARKED, 60),
 ];
 
 /// The random days of a thorough replay, or one in so many of each kind.

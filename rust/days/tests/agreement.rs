@@ -8,6 +8,7 @@ use days::{
     chains_of_joins, disagreement, disagreement_with_previews, disagreement_with_reads, late_days,
     must_pass, one_in, seeds, Profile, Sample,
 };
+use literal::Revision;
 
 /// The last revision's number, which is how many can be joined.
 const LAST: u32 = REVISIONS as u32 - 1;
@@ -40,6 +41,15 @@ fn small_single_main_days_agree_after_every_step() {
     });
 }
 
+/// 02, U9: with marked revisions out, and dropped ones.
+#[test]
+fn small_marked_days_agree_after_every_step() {
+    must_pass(Profile::SMALL_MARKED.days(seeds(1_200)), disagreement_with_reads);
+    must_pass(Profile::SMALL_MARKED.days(seeds(60)), |calls| {
+        disagreement_with_previews(calls, &[0, BIBS])
+    });
+}
+
 #[test]
 fn days_of_all_kinds_agree() {
     must_pass(one_in(1), disagreement);
@@ -66,18 +76,20 @@ fn every_call_meets_each_of_its_codes() {
             *met.entry((call.name(), day.call(&call).code.number())).or_default() += 1;
         }
     }
-    let codes: [(&str, &[u8]); 11] = [
-        ("update", &[0, 2, 3, 4, 5, 6, 7, 8, 9]),
-        ("query", &[0, 2, 3, 4, 5, 6, 7, 8]),
+    let codes: [(&str, &[u8]); 13] = [
+        ("update", &[0, 2, 3, 4, 5, 6, 7, 8, 9, 16]),
+        ("query", &[0, 2, 3, 4, 5, 6, 7, 8, 16]),
         ("yield", &[0, 2]),
         ("fork", &[0, 3, 4, 7, 10, 15]),
-        ("join", &[0, 3, 4, 7, 11, 15]),
+        ("join", &[0, 3, 4, 7, 11, 15, 16]),
         ("list", &[0, 3, 4, 7, 12]),
         ("fill", &[0, 3, 4]),
-        ("bundle", &[0, 2, 3, 4, 5, 6, 7, 8, 9, 14]),
-        ("preview", &[0, 3, 4, 5, 7, 11, 15]),
+        ("bundle", &[0, 2, 3, 4, 5, 6, 7, 8, 9, 14, 16]),
+        ("preview", &[0, 3, 4, 5, 7, 11, 15, 16]),
         ("fresh", &[0]),
-        ("sync", &[0, 3, 4, 7, 11]),
+        ("sync", &[0, 3, 4, 7, 11, 16]),
+        ("mark", &[0, 3, 4, 7, 10, 15, 17]),
+        ("drop", &[0, 18]),
     ];
     for (call, codes) in codes {
         let of_call = met.iter().filter(|((name, _), _)| *name == call);
@@ -160,7 +172,7 @@ fn name_of(update: literal::Update) -> &'static str {
 #[test]
 fn fills_of_every_kind_are_made() {
     let mut met: BTreeMap<&str, usize> = BTreeMap::new();
-    for Sample { calls, .. } in one_in(4) {
+    for Sample { calls, .. } in one_in(2) {
         let mut day = literal::Day::fresh();
         for call in calls {
             if let Call::Fill { revision } = call {
@@ -169,7 +181,7 @@ fn fills_of_every_kind_are_made() {
             day.call(&call);
         }
     }
-    let kinds = ["above 63", "busy", "joined", "never forked", "out and idle"];
+    let kinds = ["above 63", "busy", "dropped", "joined", "marked", "never forked", "out and idle"];
     assert!(met.keys().eq(&kinds), "{met:?}");
     assert!(met.values().all(|&times| times >= 100), "{met:?}");
 }
@@ -179,10 +191,12 @@ fn kind_of(day: &literal::Day, number: u8) -> &'static str {
         return if number >= REVISIONS { "above 63" } else { "never forked" };
     };
     let open = |t: &literal::Transaction| t.revision == meant && t.is_open();
-    match day.revisions()[meant].joined {
-        true => "joined",
-        false if day.transactions().iter().any(open) => "busy",
-        false => "out and idle",
+    match day.revisions()[meant] {
+        Revision { out: false, mark: None, .. } => "joined",
+        Revision { out: false, mark: Some(_), .. } => "dropped",
+        Revision { mark: Some(_), .. } => "marked",
+        _ if day.transactions().iter().any(open) => "busy",
+        _ => "out and idle",
     }
 }
 

@@ -190,6 +190,6 @@ fn wrong_bundles_are_found() {
                 _ => day.call(call),
             })
         };
-        must_find(name, kinds.into_iter().flat_map(|kind| kind.days(0..30)), by_wrong);
+        must_find(name, kinds.into_iter().flat_map(|kind| kind.days(0..60)), by_wrong);
     }
 }

@@ -16,6 +16,7 @@ fn fills_come_to_the_updates_accepted() {
     must_pass(one_in(4), by_either);
     must_pass(Profile::SMALL.days(seeds(300)), by_either);
     must_pass(Profile::SMALL_REUSED.days(seeds(30)), by_either);
+    must_pass(Profile::SMALL_MARKED.days(seeds(200)), by_either);
     must_pass(chains_of_joins(seeds(30)), by_either);
 }
 

@@ -43,6 +43,13 @@ fn single_main_days_have_a_line_up() {
     must_pass(days_of(&[(Profile::SMALL_SINGLE_MAIN, 600), (short, 100)]), line_up);
 }
 
+/// 02, U9: "nothing is rewound and the line-up still covers every step".
+#[test]
+fn days_with_marks_have_a_line_up() {
+    let short = Profile { calls: 90, ..Profile::MARKED };
+    must_pass(days_of(&[(Profile::SMALL_MARKED, 1_200), (short, 200)]), line_up);
+}
+
 /// A small day on which every sentence has something to say.
 fn day() -> (Vec<usize>, Facts) {
     let update = |client, revision, v| Call::Update { client, revision, kind: 1, bib: 7, v };

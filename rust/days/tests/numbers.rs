@@ -5,7 +5,7 @@ use std::collections::BTreeMap;
 
 use calls::{Answer, Call, Code, REVISIONS};
 use days::{chains_of_joins, fault_of_numbers, must_pass, one_in, seeds, Profile, Sample};
-use literal::{Day, VertexId};
+use literal::{Day, Revision, VertexId};
 
 /// The kinds of day on which numbers are borne many times.
 const REUSED: [Profile; 3] = [Profile::REUSED, Profile::REUSED_NESTED, Profile::CROWDED];
@@ -20,14 +20,17 @@ fn by_either(calls: &[Call]) -> Option<String> {
 fn numbers_go_by_the_order_of_the_hand_ins() {
     must_pass(one_in(2), by_either);
     must_pass(Profile::SMALL_REUSED.days(seeds(60)), by_either);
+    must_pass(Profile::SMALL_MARKED.days(seeds(200)), by_either);
     must_pass(chains_of_joins(seeds(30)), by_either);
 }
 
 /// What a day of reused numbers met, each by name and how often.
 #[derive(Default)]
 struct Met {
-    /// The numbers handed in and not used again, the one handed in longest ago first.
+    /// The numbers joined or dropped and not used again, the one that was longest ago first.
     free: Vec<u8>,
+    /// Those of them that were dropped.
+    dropped: Vec<u8>,
     forks: usize,
     /// Code 10 was given, and no fork was accepted since.
     full: bool,
@@ -76,7 +79,9 @@ impl Met {
                 Code::NotJoinable => self.refused(day, 0, revision),
                 _ => {}
             },
-            Call::Yield { .. } => {}
+            Call::Mark { revision, .. } if accepted => self.marked(day, revision, value as u8),
+            Call::Drop { ref name } if accepted => self.dropped(day, name),
+            Call::Mark { .. } | Call::Drop { .. } | Call::Yield { .. } => {}
             Call::Fresh { .. } => unreachable!("a day on reused numbers is one day"),
         }
     }
@@ -108,7 +113,7 @@ impl Met {
     fn forked(&mut self, before: &Day, forker: u8, number: u8) {
         let smallest = self.free.iter().min() == Some(&number);
         let used = self.free.contains(&number);
-        let out = before.revisions().iter().filter(|revision| !revision.joined).count();
+        let out = before.revisions().iter().filter(|revision| revision.out).count();
         self.note("a never-used number while others are free", !used && !self.free.is_empty());
         self.note("a number that is not the smallest free one", used && !smallest);
         self.note("a number handed in before others", used && self.free.len() > 1);
@@ -116,9 +121,12 @@ impl Met {
         self.note("a fork once one is handed in after code 10", self.full);
         self.note("a third bearer", used && earlier(before, number).count() >= 1);
         self.note("a fork of a reused number", reused(before, forker));
+        let dropped = self.dropped.contains(&number);
+        self.note("a number dropped before others were joined", dropped && self.free.len() > 1);
         self.full = false;
         self.forks += 1;
         self.free.retain(|&free| free != number);
+        self.dropped.retain(|&free| free != number);
     }
 
     fn joined(&mut self, before: &Day, joinee: u8) {
@@ -137,7 +145,22 @@ impl Met {
         self.note("a sync that gives another number", number != revision);
     }
 
-    /// A stale mark of the joiner would have let it join.
+    fn marked(&mut self, before: &Day, forker: u8, number: u8) {
+        self.note("a mark that takes a number joined before", self.free.contains(&number));
+        self.forked(before, forker, number);
+    }
+
+    fn dropped(&mut self, before: &Day, name: &[u8]) {
+        let borne = |revision: &Revision| revision.mark.is_some_and(|mark| mark[..] == *name);
+        let revision = before.revisions().iter().rposition(borne).unwrap();
+        let number = before.number_of(revision);
+        self.note("a drop behind other hand-ins", !self.free.is_empty());
+        self.note("a drop of a reused number", reused(before, number));
+        self.free.push(number);
+        self.dropped.push(number);
+    }
+
+    /// A stale flag of the joiner would have let it join.
     fn refused(&mut self, before: &Day, joiner: u8, joinee: u8) {
         let terminal = before.revisions()[before.meant(joiner).unwrap()].terminal;
         let diagram = before.diagram();
@@ -160,7 +183,7 @@ impl Met {
         self.note("8 where a client had caught up with an earlier bearer", stale);
         let bearer = before.number_of(place);
         let meant = before.meant(bearer).unwrap();
-        let borne_again = meant != place && !before.revisions()[meant].joined;
+        let borne_again = meant != place && before.revisions()[meant].out;
         self.note("taken, its client's last event on an earlier bearer", accepted && borne_again);
         let stale = code == Code::Stale && borne_again;
         self.note("refused, its client's last event on an earlier bearer", stale);
@@ -183,7 +206,7 @@ fn tally(days: impl Iterator<Item = Sample>, forks: usize) -> BTreeMap<&'static 
 #[test]
 fn days_on_reused_numbers_meet_what_they_are_for() {
     let times = tally(REUSED.into_iter().flat_map(|kind| kind.days(0..12)), 500);
-    assert_eq!(times.len(), 20);
+    assert_eq!(times.len(), 24);
     assert!(times.values().all(|&met| met >= 80), "{times:#?}");
 }
 

@@ -9,7 +9,7 @@ use days::{
 use literal::Day;
 
 /// How many days of each kind are replayed.
-const KINDS: [(Profile, u64); 11] = [
+const KINDS: [(Profile, u64); 12] = [
     (Profile::SMALL, 500),
     (Profile::MIXED, 200),
     (Profile::NESTED, 200),
@@ -21,6 +21,7 @@ const KINDS: [(Profile, u64); 11] = [
     (Profile::REUSED_NESTED, 6),
     (Profile::CROWDED, 6),
     (Profile::SINGLE_MAIN, 100),
+    (Profile::MARKED, 100),
 ];
 
 fn by_baseline(calls: &[Call]) -> Option<String> {
@@ -172,7 +173,7 @@ fn by_wrong(wrong: Wrong) -> impl Fn(&[Call]) -> Option<String> {
 fn wrong_previews_are_found() {
     let kinds = [Profile::NESTED, Profile::STRIKES, Profile::STRANGE];
     for (name, wrong) in WRONG {
-        must_find(name, kinds.into_iter().flat_map(|kind| kind.days(0..30)), by_wrong(wrong));
+        must_find(name, kinds.into_iter().flat_map(|kind| kind.days(0..60)), by_wrong(wrong));
     }
 }
 

@@ -170,7 +170,7 @@ fn busy(day: &Day, number: u8) -> bool {
 }
 
 fn all_out(day: &Day) -> bool {
-    day.revisions().iter().filter(|revision| !revision.joined).count() == usize::from(REVISIONS)
+    day.revisions().iter().filter(|revision| revision.out).count() == usize::from(REVISIONS)
 }
 
 #[test]
@@ -183,7 +183,7 @@ fn syncs_and_codes_of_every_kind_are_met() {
         Profile::CROWDED_SINGLE_MAIN,
         Profile::RENEWED,
     ];
-    for sample in kinds.into_iter().flat_map(|kind| kind.days(0..150)) {
+    for sample in kinds.into_iter().flat_map(|kind| kind.days(0..200)) {
         let (mut day, mut table) = (Day::fresh(), baseline::Day::fresh());
         for call in &sample.calls {
             met.call(&day, call, &table.call(call));

@@ -133,10 +133,10 @@ fn copy(before: &[u8], t: &mut [u8], at: usize, length: usize) {
     t[at..at + length].copy_from_slice(&before[at..at + length]);
 }
 
-/// The marks that were set, too.
+/// The flags that were set, too.
 fn add(before: &[u8], t: &mut [u8], at: usize, length: usize) {
-    let marks = t[at..at + length].iter_mut().zip(&before[at..]);
-    marks.for_each(|(mark, before)| *mark |= before);
+    let flags = t[at..at + length].iter_mut().zip(&before[at..]);
+    flags.for_each(|(flag, before)| *flag |= before);
 }
 
 fn right(table: &mut Table, call: &Call) -> Answer {

@@ -267,6 +267,6 @@ fn wrong_choices_and_syncs_are_found() {
             let mut t = baseline::Day::fresh().bytes().to_vec();
             disagreement_by(calls, |call| wrong(&mut t, call))
         };
-        must_find(name, kinds.into_iter().flat_map(|kind| kind.days(0..40)), by_wrong);
+        must_find(name, kinds.into_iter().flat_map(|kind| kind.days(0..60)), by_wrong);
     }
 }

@@ -1,9 +1,9 @@
-//! The checks behind codes 2 to 12, 14 and 15, each by itself: 01, "Codes of the desk", and 02, U4, U7
-//! and U8.
+//! The checks behind codes 2 to 12 and 14 to 18, each by itself: 01, "Codes of the desk", and 02, U4, U7,
+//! U8 and U9.
 
 use calls::Code;
 
-use crate::day::{Day, CLIENTS};
+use crate::day::{Day, Name, CLIENTS};
 use crate::numbering::NUMBERS;
 use crate::update::BIBS;
 
@@ -53,14 +53,25 @@ impl Day {
         self.meant(number).ok_or(Code::NeverGiven)
     }
 
-    /// 4: "box already a joinee".
+    /// 4: "box already a joinee". Dropping a mark "frees its number as a hand-in does, so that it gives
+    /// 4 until used again".
     pub(crate) fn still_out(&self, revision: usize) -> Result<(), Code> {
-        refuse_if(self.revisions[revision].joined, Code::Joined)
+        refuse_if(!self.revisions[revision].out, Code::Joined)
     }
 
     /// 15: "for a fork of another box than 0 or a join into one on such a day".
     pub(crate) fn on_the_line(&self, revision: usize) -> Result<(), Code> {
         refuse_if(self.single_main && revision != 0, Code::OffTheLine)
+    }
+
+    /// 15: "Single-main days have no marks: mark gives 15."
+    pub(crate) fn marks_allowed(&self) -> Result<(), Code> {
+        refuse_if(self.single_main, Code::OffTheLine)
+    }
+
+    /// 16: a marked box can be "listed and forked but not written, queried or joined, in either role".
+    pub(crate) fn unmarked(&self, revision: usize) -> Result<(), Code> {
+        refuse_if(self.revisions[revision].mark.is_some(), Code::Marked)
     }
 
     /// 6: "the tablet's open transaction is on another box".
@@ -95,7 +106,7 @@ impl Day {
 
     /// 10: "exactly if 64 boxes are out".
     pub(crate) fn number_left(&self) -> Result<(), Code> {
-        let out = self.revisions.iter().filter(|revision| !revision.joined).count();
+        let out = self.revisions.iter().filter(|revision| revision.out).count();
         refuse_if(out >= NUMBERS, Code::NoneLeft)
     }
 
@@ -107,6 +118,27 @@ impl Day {
         let start_seen = self.diagram.leads(start, terminal);
         let refused = joinee == 0 || joinee == joiner || !fork_seen || start_seen;
         refuse_if(refused, Code::NotJoinable)
+    }
+
+    /// 17: "not four letters, or in use"; else the name.
+    pub(crate) fn good_name(&self, name: &[u8]) -> Result<Name, Code> {
+        let name = Name::try_from(name).map_err(|_| Code::BadName)?;
+        let letters = name.iter().all(|byte| (65..=90).contains(byte));
+        refuse_if(!letters || self.bearer(&name).is_some(), Code::BadName)?;
+        Ok(name)
+    }
+
+    /// 18: "no such mark"; else the marked revision of the name.
+    pub(crate) fn marked_so(&self, name: &[u8]) -> Result<usize, Code> {
+        self.bearer(name).ok_or(Code::NoSuchMark)
+    }
+
+    /// The revision of the mark that is out and bears a name.
+    fn bearer(&self, name: &[u8]) -> Option<usize> {
+        let mut revisions = self.revisions.iter();
+        revisions.position(|revision| {
+            revision.out && revision.mark.is_some_and(|mark| mark[..] == *name)
+        })
     }
 
     /// The revision of a client's open transaction.

@@ -7,6 +7,9 @@ use crate::update::Update;
 /// How many clients there are: 0 to 15.
 pub(crate) const CLIENTS: usize = 16;
 
+/// "a name of four letters A to Z"
+pub type Name = [u8; 4];
+
 /// A revision that was started.
 #[derive(Clone, Copy, Debug, PartialEq, Eq)]
 pub struct Revision {
@@ -14,8 +17,17 @@ pub struct Revision {
     pub start: VertexId,
     /// Its last vertex.
     pub terminal: VertexId,
-    /// Whether it was joined.
-    pub joined: bool,
+    /// Whether it was neither joined nor dropped.
+    pub out: bool,
+    /// The name that it got, if a mark started it.
+    pub mark: Option<Name>,
+}
+
+impl Revision {
+    /// One that starts with this vertex.
+    pub(crate) fn starting(start: VertexId, mark: Option<Name>) -> Self {
+        Revision { start, terminal: start, out: true, mark }
+    }
 }
 
 /// The events of a client between yields.
@@ -66,7 +78,7 @@ impl Day {
         let (diagram, root) = Diagram::root();
         Day {
             diagram,
-            revisions: vec![Revision { start: root, terminal: root, joined: false }],
+            revisions: vec![Revision::starting(root, None)],
             numbering: Numbering::fresh(),
             clients: [Client::default(); CLIENTS],
             updates: Vec::new(),

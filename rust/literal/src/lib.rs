@@ -17,6 +17,6 @@ mod numbering;
 mod steps;
 mod update;
 
-pub use day::{Day, Revision, Transaction};
+pub use day::{Day, Name, Revision, Transaction};
 pub use diagram::{Diagram, VertexId, VertexKind};
 pub use update::{Standing, Update};

@@ -10,7 +10,7 @@ pub(crate) struct Numbering {
     of: Vec<u8>,
     /// The numbers used so far are those below this.
     given: u8,
-    /// The numbers handed in and not used again, the one handed in longest ago first.
+    /// The numbers handed in or dropped and not used again, the one that was longest ago first.
     handed_in: Vec<u8>,
 }
 
@@ -43,7 +43,7 @@ impl Numbering {
         number
     }
 
-    /// A revision is handed in.
+    /// A revision is handed in or dropped.
     pub(crate) fn hand_in(&mut self, revision: usize) {
         self.handed_in.push(self.of[revision]);
     }

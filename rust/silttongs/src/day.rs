@@ -8,6 +8,6 @@ pub enum Day {
     #[default]
     Ordinary,
     /// Box 0 alone: boxes come from it and go back to it. For another box a fork, a join and its
-    /// preview are refused with [`Refusal::OffTheLine`](crate::Refusal::OffTheLine).
+    /// preview are refused with [`Refusal::OffTheLine`](crate::Refusal::OffTheLine), and so is every mark.
     SingleMain,
 }

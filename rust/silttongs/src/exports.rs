@@ -24,6 +24,14 @@ extern "C" {
     fn silttongs_fork(table: *mut u8, length: usize, revision: u8) -> u64;
     fn silttongs_join(table: *mut u8, length: usize, joiner: u8, joinee: u8) -> u64;
     fn silttongs_sync(table: *mut u8, length: usize, revision: u8) -> u64;
+    fn silttongs_mark(
+        table: *mut u8,
+        length: usize,
+        revision: u8,
+        name: *const u8,
+        name_length: usize,
+    ) -> u64;
+    fn silttongs_drop(table: *mut u8, length: usize, name: *const u8, name_length: usize) -> u64;
     fn silttongs_list(
         table: *const u8,
         length: usize,
@@ -89,6 +97,16 @@ pub(crate) fn join(t: &mut [u8], joiner: u8, joinee: u8) -> Result<u32, Refusal>
 pub(crate) fn sync(t: &mut [u8], revision: u8) -> Result<u8, Refusal> {
     // SAFETY: as above.
     number(unsafe { silttongs_sync(t.as_mut_ptr(), t.len(), revision) })
+}
+
+pub(crate) fn mark(t: &mut [u8], revision: u8, name: &[u8]) -> Result<u8, Refusal> {
+    // SAFETY: as above. The name is only read, and lies apart from the table.
+    number(unsafe { silttongs_mark(t.as_mut_ptr(), t.len(), revision, name.as_ptr(), name.len()) })
+}
+
+pub(crate) fn drop(t: &mut [u8], name: &[u8]) -> Result<u32, Refusal> {
+    // SAFETY: as above. The name is only read, and lies apart from the table.
+    answer(unsafe { silttongs_drop(t.as_mut_ptr(), t.len(), name.as_ptr(), name.len()) })
 }
 
 /// The number of a new box.

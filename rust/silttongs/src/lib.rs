@@ -24,6 +24,37 @@
 //! assert_eq!(table.query(1, 0, 7), Ok(Standing::Timed(65_000)));
 //! # Ok::<(), Refusal>(())
 //! ```
+//!
+//! Before the protest: the jury marks box 0, which goes on, and comes back by a fork of the mark. Nothing
+//! is rewound. Box 0 never takes over what comes of a mark, so the list of the box that came back is the
+//! result.
+//!
+//! ```
+//! use silttongs::{lines, Day, Kind, Line, Name, Refusal, Table, BYTES, SHEET};
+//!
+//! let mut table = Table::fresh(vec![0; BYTES], Day::Ordinary)?;
+//! table.update(0, 0, Kind::Time, 7, 60_000)?;
+//! table.yield_(0)?;
+//! let name = Name::new("JURY")?;
+//! let mark = table.mark(0, name)?;
+//! table.update(0, 0, Kind::Strike, 7, 0)?;
+//! table.yield_(0)?;
+//!
+//! let back = table.fork(mark)?;
+//! table.update(1, back, Kind::Penalty, 7, 5_000)?;
+//! table.yield_(1)?;
+//! assert_eq!(table.join(0, back), Err(Refusal::NotJoinable));
+//! table.drop(name)?;
+//!
+//! let mut sheet = vec![0; SHEET];
+//! let mut listed = |revision| -> Result<Vec<(u8, u32)>, Refusal> {
+//!     let count = table.list(revision, &mut sheet)?;
+//!     Ok(lines(&sheet, count).map(|Line { kind, v, .. }| (kind, v)).collect())
+//! };
+//! assert_eq!(listed(0)?, [(1, 60_000), (4, 0)]);
+//! assert_eq!(listed(back)?, [(1, 60_000), (3, 5_000)]);
+//! # Ok::<(), Refusal>(())
+//! ```
 
 #![no_std]
 #![deny(unsafe_code)]
@@ -33,6 +64,8 @@ mod entry;
 mod exports;
 mod fill;
 mod line;
+mod mark;
+mod name;
 mod preview;
 mod refusal;
 mod standing;
@@ -42,6 +75,8 @@ pub use day::Day;
 pub use entry::{Entry, BUNDLE};
 pub use fill::Fill;
 pub use line::{lines, Line, SHEET};
+pub use mark::Mark;
+pub use name::Name;
 pub use preview::Preview;
 pub use refusal::Refusal;
 pub use standing::Standing;

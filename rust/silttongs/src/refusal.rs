@@ -20,13 +20,13 @@ pub enum Refusal {
     UnknownClient = 2,
     /// Box number not yet given out.
     NeverGiven = 3,
-    /// The latest box of that number was joined already.
+    /// The latest box of that number was joined already; or it was a mark, and dropped.
     Joined = 4,
     /// Bib above 999, or update kind not 1 to 4.
     BadEntry = 5,
     /// The tablet's open transaction is on another box.
     OpenElsewhere = 6,
-    /// Another tablet has an open transaction on the box; for fork, join, sync and list any tablet.
+    /// Another tablet has an open transaction on the box; for fork, mark, join, sync and list any tablet.
     InUse = 7,
     /// The box has not seen the tablet's last event.
     Stale = 8,
@@ -40,12 +40,19 @@ pub enum Refusal {
     SheetShort = 12,
     /// A bundle of no update or of more than 64, or bytes that are not a multiple of 12.
     WrongBundle = 14,
-    /// On a [single-main day](crate::Day::SingleMain): a fork of another box than 0, or a join into one.
+    /// On a [single-main day](crate::Day::SingleMain): a fork of another box than 0, a join into one, or a
+    /// mark.
     OffTheLine = 15,
+    /// The box is marked: it is not written, queried or joined, in either role.
+    Marked = 16,
+    /// The name of a mark is not four letters A to Z, or is in use.
+    BadName = 17,
+    /// No mark that is out has the name.
+    NoSuchMark = 18,
 }
 
 /// In the order of their numbers. 13 is given by the program `day` alone.
-const ALL: [Refusal; 14] = [
+const ALL: [Refusal; 17] = [
     Refusal::NoTable,
     Refusal::UnknownClient,
     Refusal::NeverGiven,
@@ -60,6 +67,9 @@ const ALL: [Refusal; 14] = [
     Refusal::SheetShort,
     Refusal::WrongBundle,
     Refusal::OffTheLine,
+    Refusal::Marked,
+    Refusal::BadName,
+    Refusal::NoSuchMark,
 ];
 
 impl Refusal {
@@ -85,6 +95,9 @@ impl Refusal {
             Refusal::SheetShort => "sheet short",
             Refusal::WrongBundle => "wrong bundle",
             Refusal::OffTheLine => "off the line",
+            Refusal::Marked => "marked box",
+            Refusal::BadName => "bad name",
+            Refusal::NoSuchMark => "no such mark",
         }
     }
 }
@@ -117,7 +130,7 @@ mod tests {
 
     #[test]
     fn each_number_has_its_refusal() {
-        assert!(ALL.map(Refusal::code).into_iter().eq((1..=12).chain([14, 15])));
+        assert!(ALL.map(Refusal::code).into_iter().eq((1..=12).chain(14..=18)));
         for refusal in ALL {
             assert_eq!(answer(u64::from(refusal.code()) << 32), Err(refusal));
         }

@@ -4,6 +4,7 @@ use crate::day::Day;
 use crate::entry::{records, Entry, BUNDLE};
 use crate::exports;
 use crate::fill::Fill;
+use crate::mark::{marks, Mark};
 use crate::preview::Preview;
 use crate::refusal::Refusal;
 use crate::standing::Standing;
@@ -44,7 +45,7 @@ impl TryFrom<u8> for Kind {
 }
 
 /// A table on bytes of its own, as `[u8; BYTES]` or `Box<[u8]>`, or on lent ones, as `&mut [u8]`,
-/// or `&[u8]` for lists, fills and previews alone.
+/// or `&[u8]` for what only reads: lists, fills, previews and [`marks`](Table::marks).
 ///
 /// Nothing but the bytes is kept. A refused call changes none of them. A box is a revision of the
 /// table, a tablet is a client.
@@ -97,7 +98,7 @@ impl<B: AsMut<[u8]>> Table<B> {
     ///
     /// # Errors
     ///
-    /// Codes 1 to 9.
+    /// Codes 1 to 4, 16 and 5 to 9, in this order.
     pub fn update(
         &mut self,
         client: u8,
@@ -141,7 +142,7 @@ impl<B: AsMut<[u8]>> Table<B> {
     ///
     /// # Errors
     ///
-    /// Codes 1 to 8.
+    /// Codes 1 to 4, 16 and 5 to 8, in this order.
     pub fn query(&mut self, client: u8, revision: u8, bib: u16) -> Result<Standing, Refusal> {
         exports::query(self.0.as_mut(), client, revision, bib)
     }
@@ -167,8 +168,8 @@ impl<B: AsMut<[u8]>> Table<B> {
         exports::yield_(self.0.as_mut(), client).map(|_| ())
     }
 
-    /// Sends a new box off from a box. Its number is the answer: the next that was never used; once
-    /// all were, the number handed in longest ago. A number means the latest box that bore it.
+    /// Sends a new box off from a box, marked or not. Its number is the answer: the next that was never used; once
+    /// all were, the number handed in or dropped longest ago. A number means the latest box that bore it.
     ///
     /// ```
     /// use silttongs::{Day, Refusal, Table, BYTES};
@@ -221,7 +222,7 @@ impl<B: AsMut<[u8]>> Table<B> {
     ///
     /// # Errors
     ///
-    /// Codes 1, 3, 4, 15, 7 and 11, in this order.
+    /// Codes 1, 3, 4, 15, 16, 7 and 11, in this order.
     pub fn join(&mut self, joiner: u8, joinee: u8) -> Result<u32, Refusal> {
         exports::join(self.0.as_mut(), joiner, joinee)
     }
@@ -249,9 +250,70 @@ impl<B: AsMut<[u8]>> Table<B> {
     ///
     /// # Errors
     ///
-    /// Codes 1, 3, 4, 7 and 11, as for a join into box 0.
+    /// Codes 1, 3, 4, 16, 7 and 11, as for a join into box 0.
     pub fn sync(&mut self, revision: u8) -> Result<u8, Refusal> {
         exports::sync(self.0.as_mut(), revision)
+    }
+
+    /// Marks a box, marked or not: a new box is sent off from it as by [`fork`](Table::fork), and bears a
+    /// name of four letters A to Z. Its number is the answer. It can be listed, filled, forked and
+    /// marked, but not written, queried or joined, so that it stays as it is. It counts among the 64 boxes
+    /// out.
+    ///
+    /// The name is a [`Name`](crate::Name), or letters that are checked by the call.
+    ///
+    /// To come back is to fork the mark: box 0 and all others go on. A box that was forked from a mark is
+    /// taken over only by boxes that come later from the same mark, never by box 0; so its list is the
+    /// result.
+    ///
+    /// ```
+    /// use silttongs::{Day, Kind, Name, Refusal, Standing, Table, BYTES};
+    ///
+    /// let mut table = Table::fresh([0; BYTES], Day::Ordinary)?;
+    /// table.update(0, 0, Kind::Time, 7, 60_000)?;
+    /// assert_eq!(table.mark(0, "JURY"), Err(Refusal::InUse));
+    /// table.yield_(0)?;
+    /// assert_eq!(table.mark(0, Name::new("JURY")?), Ok(1));
+    /// assert_eq!(table.mark(0, "JURY"), Err(Refusal::BadName));
+    /// assert_eq!(table.mark(0, "jury"), Err(Refusal::BadName));
+    /// assert_eq!(table.query(1, 1, 7), Err(Refusal::Marked));
+    ///
+    /// table.update(0, 0, Kind::Strike, 7, 0)?;
+    /// table.yield_(0)?;
+    /// let back = table.fork(1)?;
+    /// assert_eq!(table.query(1, back, 7), Ok(Standing::Timed(60_000)));
+    /// table.yield_(1)?;
+    /// assert_eq!(table.join(0, back), Err(Refusal::NotJoinable));
+    /// # Ok::<(), Refusal>(())
+    /// ```
+    ///
+    /// # Errors
+    ///
+    /// Codes 1, 3, 4, 15, 7, 10 and 17, in this order; 15 for every box on a single-main day.
+    pub fn mark(&mut self, revision: u8, name: impl AsRef<[u8]>) -> Result<u8, Refusal> {
+        exports::mark(self.0.as_mut(), revision, name.as_ref())
+    }
+
+    /// Drops the mark of a name. Its number is free as if the box were handed in, in the one order of
+    /// joins, syncs and drops; its name is free again. Boxes that were forked from it stay.
+    ///
+    /// ```
+    /// use silttongs::{Day, Refusal, Table, BYTES};
+    ///
+    /// let mut table = Table::fresh([0; BYTES], Day::Ordinary)?;
+    /// assert_eq!(table.mark(0, "JURY"), Ok(1));
+    /// table.drop("JURY")?;
+    /// assert_eq!(table.drop("JURY"), Err(Refusal::NoSuchMark));
+    /// assert_eq!(table.fork(1), Err(Refusal::Joined));
+    /// assert_eq!(table.mark(0, "JURY"), Ok(2));
+    /// # Ok::<(), Refusal>(())
+    /// ```
+    ///
+    /// # Errors
+    ///
+    /// Codes 1 and 18; 18 for letters that are no name, too.
+    pub fn drop(&mut self, name: impl AsRef<[u8]>) -> Result<(), Refusal> {
+        exports::drop(self.0.as_mut(), name.as_ref()).map(|_| ())
     }
 
     /// Enters 1 to 64 updates on a box, and closes the tablet's transaction there: as
@@ -276,7 +338,7 @@ impl<B: AsMut<[u8]>> Table<B> {
     /// # Errors
     ///
     /// Code 1, then 14 if there are no records, more than 64, or bytes left over. Then that of the
-    /// earliest update that would be refused, 2 to 9; no byte of the table is changed.
+    /// earliest update that would be refused, 2 to 9 or 16; no byte of the table is changed.
     pub fn bundle(&mut self, client: u8, revision: u8, records: &[u8]) -> Result<u32, Refusal> {
         exports::bundle(self.0.as_mut(), client, revision, records)
     }
@@ -403,9 +465,39 @@ impl<B: AsRef<[u8]>> Table<B> {
     ///
     /// # Errors
     ///
-    /// Codes 1, 3, 4, 15, 7 and 11 as for the join, then 5 for the bib.
+    /// Codes 1, 3, 4, 15, 16, 7 and 11 as for the join, then 5 for the bib.
     pub fn preview(&self, joiner: u8, joinee: u8, bib: u16) -> Result<Preview, Refusal> {
         exports::preview(self.0.as_ref(), joiner, joinee, bib)
+    }
+
+    /// The marks that are out, in the order of their numbers, read from the table's cells.
+    ///
+    /// ```
+    /// use silttongs::{Day, Refusal, Table, BYTES};
+    ///
+    /// let mut table = Table::fresh([0; BYTES], Day::Ordinary)?;
+    /// table.mark(0, "NOON")?;
+    /// table.fork(0)?;
+    /// table.mark(0, "JURY")?;
+    /// let named = |table: &Table<[u8; BYTES]>| -> Result<Vec<(u8, String)>, Refusal> {
+    ///     Ok(table.marks()?.map(|mark| (mark.revision, mark.name.to_string())).collect())
+    /// };
+    /// assert_eq!(named(&table)?, [(1, "NOON".to_string()), (3, "JURY".to_string())]);
+    /// table.drop("NOON")?;
+    /// assert_eq!(named(&table)?, [(3, "JURY".to_string())]);
+    /// # Ok::<(), Refusal>(())
+    /// ```
+    ///
+    /// # Errors
+    ///
+    /// Code 1.
+    pub fn marks(&self) -> Result<impl Iterator<Item = Mark> + '_, Refusal> {
+        let bytes = self.0.as_ref();
+        // Of bytes that no day made box 0 may be none that is out, but they are a table.
+        match exports::fill(bytes, 0) {
+            Err(Refusal::NoTable) => Err(Refusal::NoTable),
+            _ => Ok(marks(bytes)),
+        }
     }
 
     /// The bytes, to be kept or copied.

@@ -2,32 +2,38 @@
 use Prim.Native.Nat.{ℕ, _<_, suc}
 use mathlib.Core.Bool.{true, false, not}
 use mathlib.Core.Path.{_≡_, refl, sym, _∙_, ap, subst}
+use mathlib.Core.Option.{Option, none, some}
 use mathlib.Core.List.{List, _++_, []}
 use native.Mathlib.Omega.{arith}
 use lib.Dec.{eqb}
 use lib.ListN.{length}
 use borrow.Author.Tests.{eqb-false, ltb-true, not-false}
 use Rattle.lists.specs.Lists.{changed}
+use Rattle.lists.specs.Names.{Name}
 use Rattle.lists.proofs.Cases.{cases, or-false}
 use Rattle.updates.specs.declared.kind.Kind.{Kind}
 use Rattle.updates.specs.declared.standing.State.{State}
 use Rattle.updates.specs.declared.standing.State.the-variants.{Neither}
 use Rattle.updates.specs.Effect.{stateOf, valueIn}
 use Rattle.updates.specs.Kinds.{badBib, kindOf}
-use Rattle.desk.specs.Calls.{Update, Query, Yield, Fork, Join, Looks, Show, Fill, Answer, answerOn}
+use Rattle.desk.specs.Calls.{Update, Query, Yield, Fork, Join, Mark, Drop, Looks, Show, Fill, Answer, answerOn}
 use Rattle.desk.proofs.Checks as Checks
 use Rattle.desk.proofs.Checks.{_also_, same-end}
-use Rattle.diagram.specs.Day.{Day, meant, isGiven, numberOf}
+use Rattle.diagram.specs.Day.{Day, isGiven, isNamed, markNamed, meant, numberOf}
 use Rattle.diagram.specs.Checks as Day
 use Rattle.diagram.specs.Steps as Steps
 use Rattle.diagram.specs.Steps.{Step, after}
 use Rattle.diagram.specs.Accepted.{accepted}
 use Rattle.diagram.proofs.Days.Moves.{yield-updates}
+use Rattle.diagram.proofs.Days.Found.{found-means}
+use Rattle.diagram.proofs.Days.Marking.{Marks}
 use Rattle.diagram.proofs.Days.Naming.{meant-number}
+use Rattle.diagram.proofs.Order.Runs.{marks-run}
 use Rattle.cells.specs.Sizes as Lower
 use Rattle.cells.specs.Cells.{nextNumber}
 use Rattle.cells.specs.Order.{order}
-use Rattle.cells.specs.Steps.{forkBytes, joinBytes, queryBytes, updateBytes}
+use Rattle.cells.specs.Checks.{bearer}
+use Rattle.cells.specs.Steps.{dropBytes, forkBytes, joinBytes, markBytes, queryBytes, updateBytes}
 use Rattle.entries.specs.Sizes as Upper
 use Rattle.entries.specs.Stored.{entry}
 use Rattle.entries.specs.Entries.{entryAt, wrote}
@@ -36,16 +42,16 @@ use Rattle.sheets.specs.Sheet.{sheet}
 use Rattle.plain.specs.Record.{PlainDay, noted}
 use Rattle.plain.specs.Answers as Plain
 use Rattle.plain.specs.Answers.{Outcome, called, ending, stepped}
-use Rattle.plain.proofs.Ends.{Passes, fork-accepts, join-passes, known-kind, means, query-accepts, update-accepts, yield-accepts}
+use Rattle.plain.proofs.Ends.{Passes, drop-accepts, fork-accepts, mark-accepts, join-passes, known-kind, means, query-accepts, update-accepts, yield-accepts}
 use Rattle.table.specs.Halves.{low, high, cellsOf}
 use Rattle.table.specs.Answers as Table
 use Rattle.table.specs.Out.{Out}
-use Rattle.table.specs.Calls.{updateOut, queryOut, yieldOut, forkOut, joinEnd, joinOut, listOut, fillOut, noFill, standingAt, told}
+use Rattle.table.specs.Calls.{updateOut, queryOut, yieldOut, forkOut, joinEnd, joinOut, markOut, dropOut, listOut, fillOut, noFill, standingAt, told}
 use Rattle.table.specs.declared.answer.Level.{Level}
 use Rattle.table.specs.declared.answer.Prospect.{Prospect}
 use Rattle.following.specs.Reached.{byNumber, stepBytes}
 use Rattle.consistency.specs.Table.{Served, onTable, outReply, sheetWith}
-use Rattle.consistency.proofs.Table.Stands.{Stands, bytes-are, high-size, stands-next}
+use Rattle.consistency.proofs.Table.Stands.{Stands, bytes-are, high-size, numbers-are, stands-next}
 use Rattle.consistency.proofs.Table.Rows.{agree, number}
 use Rattle.consistency.proofs.Table.Values.{same-order, same-sheet, same-standing}
 
@@ -112,9 +118,9 @@ module _ (p : PlainDay) (t : List ℕ) (S : Stands p t) where
   update-end : (c n k bib v : ℕ) → Passes p (Update c n k bib v)
       → OnTable (Table.taken (updateBytes (low t) c n ++ wrote (high t) (cellsOf t .updates) (entry (kindOf k) c bib v)) (cellsOf t .updates)) (ending p (Update c n k bib v))
   unfolding stepBytes
-  update-end c n k bib v (e1 also e2 also e3 also e4 also e5 also e6 also e7 also e8 also e9 also Checks.none) =
+  update-end c n k bib v (e1 also e2 also e3 also e4 also e16 also e5 also e6 also e7 also e8 also e9 also Checks.none) =
       subst (λ z. OnTable (Table.taken (updateBytes (low t) c z ++ wrote (high t) (cellsOf t .updates) (entry (kindOf k) c bib v)) (cellsOf t .updates)) (ending p (Update c n k bib v))) (numbered n e3)
-      (noted-same c (meant y n) (kindOf k) bib v (update-accepts p c n k bib v (e1 also e2 also e3 also e4 also e5 also e6 also e7 also e8 also e9 also Checks.none)) (known-kind bib k e5 .0) e9)
+      (noted-same c (meant y n) (kindOf k) bib v (update-accepts p c n k bib v (e1 also e2 also e3 also e4 also e16 also e5 also e6 also e7 also e8 also e9 also Checks.none)) (known-kind bib k e5 .0) e9)
 
   query-end : (c n bib : ℕ) → Passes p (Query c n bib) → OnTable (Table.answered (queryBytes (low t) c n ++ high t) (standingAt t n bib)) (ending p (Query c n bib))
   unfolding stepBytes after
@@ -129,7 +135,26 @@ module _ (p : PlainDay) (t : List ℕ) (S : Stands p t) where
   unfolding stepBytes after
   fork-end n (e1 also e3 also e4 also e15 also e7 also e10 also Checks.none) =
       let accepts = fork-accepts p n (e1 also e3 also e4 also e15 also e7 also e10 also Checks.none) in
-      by-step (Steps.Fork (meant y n)) accepts refl _ _ (bytes-are p t S .follow .same-number e10) _ (ap (λ z. forkBytes (low t) z (nextNumber (cellsOf t))) (sym (numbered n e3)))
+      by-step (Steps.Fork (meant y n) none) accepts refl _ _ (bytes-are p t S .follow .same-number e10) _ (ap (λ z. forkBytes (low t) z (nextNumber (cellsOf t))) (sym (numbered n e3)))
+
+  mark-end : (n : ℕ) (name : Name) → Passes p (Mark n name)
+      → OnTable (Table.taken (markBytes (low t) n (nextNumber (cellsOf t)) name ++ high t) (nextNumber (cellsOf t))) (ending p (Mark n name))
+  unfolding stepBytes after
+  mark-end n name (e1 also e3 also e4 also e15 also e7 also e10 also e17 also Checks.none) =
+      let accepts = mark-accepts p n name (e1 also e3 also e4 also e15 also e7 also e10 also e17 also Checks.none) in
+      by-step (Steps.Fork (meant y n) (some name)) accepts refl _ _ (bytes-are p t S .follow .same-number e10) _ (ap (λ z. markBytes (low t) z (nextNumber (cellsOf t)) name) (sym (numbered n e3)))
+
+  -- the number that the cells find is that of the mark which the name means
+  borne : (name : Name) → isNamed y name ≡ true → bearer (cellsOf t) name ≡ numberOf y (markNamed y name)
+  borne name e = let n = bearer (cellsOf t) name in sym (meant-number y n (markNamed y name) (found-means y n (markNamed y name) .1 (numbers-are p t S .same-bearer name e)))
+
+  marks : Marks y
+  marks = subst Marks (sym (S .day-is)) (marks-run (S .steps) (S .ok))
+
+  drop-end : (name : Name) → Passes p (Drop name) → OnTable (Table.taken (dropBytes (low t) (bearer (cellsOf t) name) ++ high t) 0) (ending p (Drop name))
+  unfolding stepBytes after
+  drop-end name (e1 also e18 also Checks.none) =
+      by-step (Steps.Drop (markNamed y name)) (drop-accepts p marks name (e1 also e18 also Checks.none)) refl 0 0 refl _ (ap (dropBytes (low t)) (borne name (not-false _ e18)))
 
   pub join-end : (n m : ℕ) → Passes p (Join n m) → OnTable (joinEnd t n m) (ending p (Join n m))
   unfolding stepBytes after
@@ -162,6 +187,14 @@ module _ (p : PlainDay) (t : List ℕ) (S : Stands p t) where
   pub join-same : (n m : ℕ) → OnTable (joinOut t n m) (called p (Join n m))
   unfolding called joinOut
   join-same n m = same-end OnTable (Table.refused t) (Plain.refused p) refused-same _ _ (agree p t S (Join n m)) (join-end n m)
+
+  pub mark-same : (n : ℕ) (name : Name) → OnTable (markOut t n name) (called p (Mark n name))
+  unfolding called markOut
+  mark-same n name = same-end OnTable (Table.refused t) (Plain.refused p) refused-same _ _ (agree p t S (Mark n name)) (mark-end n name)
+
+  pub drop-same : (name : Name) → OnTable (dropOut t name) (called p (Drop name))
+  unfolding called dropOut
+  drop-same name = same-end OnTable (Table.refused t) (Plain.refused p) refused-same _ _ (agree p t S (Drop name)) (drop-end name)
 
   -- a list, which has a sheet lent; and a fill
   abbrev OnSheet : List ℕ → Out → Outcome → Type 0

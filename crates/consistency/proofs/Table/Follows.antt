@@ -10,7 +10,7 @@ use Rattle.diagram.specs.Steps.{run, runFrom}
 use Rattle.cells.specs.Sizes as Lower
 use Rattle.cells.specs.Steps.{freshBytes}
 use Rattle.entries.specs.Sizes as Upper
-use Rattle.desk.specs.Calls.{Call, Update, Query, Yield, Fork, Join, Sync, Bundle, Looks, Show, Fill, Preview, Records, Entries, callOn}
+use Rattle.desk.specs.Calls.{Call, Update, Query, Yield, Fork, Join, Sync, Mark, Drop, Bundle, Looks, Show, Fill, Preview, Records, Entries, callOn}
 use Rattle.plain.specs.Record.{PlainDay, freshDay}
 use Rattle.plain.specs.Answers.{called, answers, answersFrom, dayFrom}
 use Rattle.table.specs.Out.{tableBytes}
@@ -20,7 +20,7 @@ use Rattle.following.specs.Reached.{bytesAfter, bytesFrom}
 use Rattle.consistency.specs.Table.{calls, served, sheetOf, repliesOn, tableAfter, replies}
 use Rattle.following.proofs.Follow.{bytes-follow}
 use Rattle.consistency.proofs.Table.Stands.{Stands}
-use Rattle.consistency.proofs.Table.Calls.{Same, update-same, query-same, yield-same, fork-same, join-same, list-same, fill-same}
+use Rattle.consistency.proofs.Table.Calls.{Same, update-same, query-same, yield-same, fork-same, join-same, mark-same, drop-same, list-same, fill-same}
 use Rattle.consistency.proofs.Table.Bundles.{bundle-same, entries-same}
 use Rattle.consistency.proofs.Table.Previews.{preview-same}
 use Rattle.consistency.proofs.Table.Syncs.{sync-same}
@@ -33,6 +33,8 @@ module _ (p : PlainDay) (t : List ℕ) (S : Stands p t) where
   call-same (Fork n) = fork-same p t S n
   call-same (Join n m) = join-same p t S n m
   call-same (Sync m) = sync-same p t S m
+  call-same (Mark n name) = mark-same p t S n name
+  call-same (Drop name) = drop-same p t S name
   call-same (Bundle c n (Records tableBytes)) = bundle-same p t S c n tableBytes
   call-same (Bundle c n (Entries es)) = entries-same p t S c n es
   call-same (Looks (Show n s)) = list-same p t S n s

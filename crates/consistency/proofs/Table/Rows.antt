@@ -6,7 +6,7 @@ use mathlib.Core.List.{List}
 use lib.Dec.{eqb, ltb}
 use lib.ListN.{length}
 use Rattle.lists.proofs.Cases.{or-false}
-use Rattle.desk.specs.Calls.{Call, Update, Query, Yield, Fork, Join, Sync, Bundle, Looks, Show, Fill, Preview}
+use Rattle.desk.specs.Calls.{Call, Update, Query, Yield, Fork, Join, Sync, Mark, Drop, Bundle, Looks, Show, Fill, Preview}
 use Rattle.desk.specs.Checks.{checks, joinChecks}
 use Rattle.desk.proofs.Checks.{Agree, agree-more, end, row}
 use Rattle.cells.specs.Sizes.{clients}
@@ -61,6 +61,7 @@ module _ (p : PlainDay) (t : List ℕ) (S : Stands p t) where
       row refl (either (a .same-joined) (b .same-joined)) λ e4.
       let o = or-false (y .joined (meant y n)) (y .joined (meant y m)) e4 in
       row refl (line n) λ e15.
+      row refl (either (a .same-marked) (b .same-marked)) λ e16.
       row refl (either (a .same-busy) (b .same-busy)) λ e7.
       row refl (ap not (numbers-are p t S .same-joinable n m _ _ (meaning p n (g .0)) (meaning p m (g .1)) (o .0) (o .1)) ∙ Bool·not-not (Day.notJoinable y (meant y n) (meant y m))) λ e11.
       end
@@ -71,6 +72,7 @@ module _ (p : PlainDay) (t : List ℕ) (S : Stands p t) where
       row refl (client c) λ e2.
       row refl (given n) λ e3.
       row refl (number n e3 .same-joined) λ e4.
+      row refl (number n e3 .same-marked) λ e16.
       row refl refl λ e5.
       row refl (number n e3 .same-elsewhere c (known c e2)) λ e6.
       row refl (number n e3 .same-busyByOther c) λ e7.
@@ -82,6 +84,7 @@ module _ (p : PlainDay) (t : List ℕ) (S : Stands p t) where
       row refl (client c) λ e2.
       row refl (given n) λ e3.
       row refl (number n e3 .same-joined) λ e4.
+      row refl (number n e3 .same-marked) λ e16.
       row refl refl λ e5.
       row refl (number n e3 .same-elsewhere c (known c e2)) λ e6.
       row refl (number n e3 .same-busyByOther c) λ e7.
@@ -98,6 +101,16 @@ module _ (p : PlainDay) (t : List ℕ) (S : Stands p t) where
       end
   agree (Join n m) = join-row n m
   agree (Sync m) = join-row 0 m
+  agree (Mark n name) =
+      row refl table λ e1.
+      row refl (given n) λ e3.
+      row refl (number n e3 .same-joined) λ e4.
+      row refl (choice-is p t S) λ e15.
+      row refl (number n e3 .same-busy) λ e7.
+      row refl (bytes-are p t S .follow .same-left) λ e10.
+      row refl (numbers-are p t S .same-badName name) λ e17.
+      end
+  agree (Drop name) = row refl table λ e1. row refl (numbers-are p t S .same-noMark name) λ e18. end
   agree (Bundle c n batch) = row refl table λ e1. row refl refl λ e14. end
   agree (Looks (Show n room)) =
       row refl table λ e1.

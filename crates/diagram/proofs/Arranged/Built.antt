@@ -11,6 +11,7 @@ use native.Mathlib.Omega.{arith}
 use lib.ListN.{length}
 use lib.Dec.{eqb}
 use borrow.Author.Tests.{eq-eqb, eqb-false, eqb-true, ne-eqb}
+use Rattle.blocks.proofs.Dropping.{drop-inv, held-drop}
 use Rattle.blocks.proofs.Invariant.{fork-inv, join-inv, update-inv}
 use Rattle.blocks.proofs.Past.{held-grow, held-join}
 use Rattle.blocks.specs.Blocks.{Contents, Held, Inv, blocks, forkContents, grow, seen}
@@ -20,7 +21,7 @@ use Rattle.diagram.proofs.Arranged.Advance.{true-may, unseen-before}
 use Rattle.diagram.proofs.Graph.Events.{inherited-from, inheritedStep, ownEventStep, ownEvents, view-split, viewEventStep, viewEvents}
 use Rattle.diagram.proofs.Graph.Paths.{Ordered, both-older, leads-path, no-vertex, one-more, path-start}
 use Rattle.diagram.proofs.Graph.Tables.{forkStep, tabulate-older}
-use Rattle.diagram.specs.Diagram.{Diagram, Vertex, event, fork, join, leads, root, sources, start}
+use Rattle.diagram.specs.Diagram.{Diagram, Vertex, event, fork, join, leads, root, start}
 use Rattle.diagram.specs.Effects.{forkVertex, tabulate}
 use Rattle.lists.proofs.Cases.{cases, either, or-left, or-right, split}
 use Rattle.lists.proofs.Changed.{changed-other, changed-same}
@@ -240,6 +241,39 @@ module _ (d : Diagram) (layout : List ℕ) (terminal starts : ℕ → ℕ) (L : 
     inv = start-inv;
     past = start-past;
   }
+
+-- a revision with nothing of its own leaves: no vertex is added
+pub linked-drop : (d : Diagram) (layout : List ℕ) (terminal starts : ℕ → ℕ) → Linked d layout terminal starts
+    → (b : ℕ) {m : ℕ} → (b ∷ m ∷ []) ⊑ layout → ownEvents d (terminal b) ≡ [] → Linked d (remove b layout) terminal starts
+linked-drop d layout terminal starts L b {m} pair empty = record {
+  ordered = L .ordered;
+  joins-ok = L .joins-ok;
+  bound = L .bound;
+  small = L .small;
+  inv = rw rest (drop-inv (P .above) b left s J whole empty m m-in);
+  past = λ x h. rw rest (held-drop (P .above) b left s J whole empty m m-in (viewEvents d x) (rw (P .eq) at (L .past x h)));
+}
+  where
+    s : Contents
+    s = contents d terminal
+
+    J : ℕ → ℕ → Bool
+    J = may d terminal starts
+
+    P : Places b m layout
+    P = places b m layout pair
+
+    left : List ℕ
+    left = P .between ++ (m ∷ P .below)
+
+    m-in : m ∈ left
+    m-in = Memᴰ·append-right (P .between) (List·Memᴰ·head refl)
+
+    whole : Inv (P .above ++ (b ∷ left)) s J
+    whole = rw (P .eq) at (L .inv)
+
+    rest : remove b layout ≡ P .above ++ left
+    rest = ap (remove b) (P .eq) ∙ remove-at b (P .above) left (λ i. nodup-apart (P .above) _ (whole .distinct) b i (List·Memᴰ·head refl))
 
 pub linked-root : Linked (root ∷ []) (0 ∷ []) (λ x. 0) (λ x. 0)
 unfolding tabulate

@@ -11,13 +11,14 @@ use lib.ListN.{length}
 use lib.Dec.{eqb}
 use borrow.Author.Tests.{eq-eqb, eqb-false, eqb-true}
 use Rattle.diagram.proofs.Days.Entry.{Entry, facts, mine-sees}
-use Rattle.diagram.proofs.Days.Moves.{CanEnter}
+use Rattle.diagram.proofs.Days.Moves.{CanEnter, mark-apart}
 use Rattle.diagram.proofs.Days.Real.{real-enter}
-use Rattle.diagram.proofs.Days.Sound.{Filed, Runs, SeenWhole, Sessions, Sound, Whole, event-low, leads-low, link, some≢none}
+use Rattle.diagram.proofs.Days.Sound.{Filed, Runs, SeenWhole, Sessions, Sound, Unwritten, Whole, event-low, leads-low, link, some≢none}
 use Rattle.diagram.proofs.Graph.Events.{ownEventStep, ownEvents}
 use Rattle.diagram.proofs.Graph.Paths.{leads-down, leads-newest, leads-old, leads-start, leads-up}
 use Rattle.diagram.proofs.Graph.Tables.{tabulate-newest, tabulate-older}
 use Rattle.diagram.specs.Arbitration.{eventsOf}
+use Rattle.diagram.specs.Checks.{marked}
 use Rattle.diagram.specs.Day.{Day, IsOut, Transaction}
 use Rattle.diagram.specs.Diagram.{Diagram, Vertex, event, leads}
 use Rattle.diagram.specs.Steps.{countedWith, enter, entersInto, eventsBefore}
@@ -302,5 +303,21 @@ module _ (y : Day) (layout : List ℕ) (hold : ℕ → List ℕ) (S : Sound y la
           pick (inl a) = absurd (some≢none (y′ .transaction t .closed) q (ap (λ z. y′ .transaction z .closed) a ∙ ap (λ w. w .closed) w-new))
           pick (inr a) = omega (arith, S .whole .closed-low t n (a .1) (sym (ap (λ w. w .closed) (w-old t (a .0))) ∙ q))
 
+  -- the event is on no mark
+  marks′ : Unwritten y′ hold′
+  unfolding marked
+  marks′ = record { empty = λ s e. changed-other hold r _ s (mark-apart y r s (E .unmarked) e) ∙ S .marks .empty s e; main = S .marks .main }
+
   pub sound-enter : (H : ℕ → List ℕ) × Sound (enter y c r u) layout H
-  sound-enter = (hold′, record { real = real-enter y layout (S .real) c r u E; filed = filed′; runs = runs′; unshut = unshut′; whole = whole′; sessions = sessions′ })
+  sound-enter = (
+    hold′,
+    record {
+      real = real-enter y layout (S .real) c r u E;
+      filed = filed′;
+      runs = runs′;
+      unshut = unshut′;
+      whole = whole′;
+      sessions = sessions′;
+      marks = marks′;
+    },
+  )

@@ -1,13 +1,13 @@
 -- What a number means, as one search: the latest revision that bore it, if any did.
 use Prim.Native.Nat.{ℕ, suc, zero}
-use mathlib.Core.Bool.{Bool, cond, false, true, false≢true}
+use mathlib.Core.Bool.{cond, false≢true, true}
 use mathlib.Core.Logic.{_↔_}
 use mathlib.Core.Path.{_∙_, _≡_, ap, refl, sym}
 use mathlib.Core.Option.{Option, none, some}
 use lib.Dec.{eqb}
-use Rattle.lists.specs.Sums.{anyBelow}
+use Rattle.lists.specs.Sums.{anyBelow, lastBelow}
 use Rattle.lists.proofs.Cases.{cases}
-use Rattle.diagram.specs.Numbering.{latest}
+use Rattle.diagram.specs.Names.{isSome}
 use Rattle.diagram.specs.Day.{Day, Means, isGiven, meant}
 
 abbrev pub searched : (ℕ → ℕ) → ℕ → ℕ → Option ℕ
@@ -16,10 +16,6 @@ searched of n (suc m) = cond (eqb (of m) n) (some m) (searched of n m)
 
 unfoldable pub found : Day → ℕ → Option ℕ
 found y n = searched (y .numbering .of) n (y .revisions)
-
-abbrev pub isSome : Option ℕ → Bool
-isSome none = false
-isSome (some r) = true
 
 abbrev pub orMain : Option ℕ → ℕ
 orMain none = 0
@@ -30,9 +26,9 @@ unfolding anyBelow
 any-searched of n zero = refl
 any-searched of n (suc m) = cases (eqb (of m) n) (λ e. rw e) (λ e. rw e (any-searched of n m))
 
-latest-searched : (of : ℕ → ℕ) (n m : ℕ) → latest of n m ≡ orMain (searched of n m)
-latest-searched of n zero = refl
-latest-searched of n (suc m) = cases (eqb (of m) n) (λ e. rw e) (λ e. rw e (latest-searched of n m))
+last-searched : (of : ℕ → ℕ) (n m : ℕ) → lastBelow m (λ r. eqb (of r) n) ≡ orMain (searched of n m)
+last-searched of n zero = refl
+last-searched of n (suc m) = cases (eqb (of m) n) (λ e. rw e) (λ e. rw e (last-searched of n m))
 
 some-is : (o : Option ℕ) → isSome o ≡ true → o ≡ some (orMain o)
 some-is none e = absurd (false≢true e)
@@ -45,7 +41,7 @@ module _ (y : Day) (n : ℕ) where
 
   pub meant-found : meant y n ≡ orMain (found y n)
   unfolding meant found
-  meant-found = latest-searched (y .numbering .of) n (y .revisions)
+  meant-found = last-searched (y .numbering .of) n (y .revisions)
 
   -- a number given out is found
   pub is-found : isGiven y n ≡ true → found y n ≡ some (meant y n)

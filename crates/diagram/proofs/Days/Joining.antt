@@ -10,7 +10,7 @@ use native.Mathlib.Omega.{arith}
 use lib.ListN.{length}
 use lib.Dec.{eqb}
 use borrow.Author.Tests.{eqb-false, eqb-true}
-use Rattle.diagram.proofs.Days.Moves.{CanJoin, joined-out}
+use Rattle.diagram.proofs.Days.Moves.{CanJoin, joined-out, mark-apart}
 use Rattle.diagram.proofs.Days.Outside.{Outside, Past, idle-far, idle-past, moved-runs, moved-sessions, moved-whole, outside-new}
 use Rattle.diagram.proofs.Days.Real.{real-join}
 use Rattle.diagram.proofs.Days.Sound.{Filed, Sound, event-low}
@@ -18,6 +18,7 @@ use Rattle.diagram.proofs.Graph.Events.{ownEventStep, ownEvents}
 use Rattle.diagram.proofs.Graph.Paths.{both-older, leads-old}
 use Rattle.diagram.proofs.Graph.Tables.{tabulate-newest, tabulate-older}
 use Rattle.diagram.specs.Arbitration.{eventsOf}
+use Rattle.diagram.specs.Checks.{marked}
 use Rattle.diagram.specs.Day.{Day, IsOut}
 use Rattle.diagram.specs.Diagram.{Diagram, Vertex, join, leads}
 use Rattle.diagram.specs.Steps.{joinInto}
@@ -100,11 +101,13 @@ module _ (y : Day) (layout : List ℕ) (hold : ℕ → List ℕ) (S : Sound y la
       ((o .0, changed-other (y .joined) b true _ (idle-far y layout hold S b c s (H .idle-b) p) ∙ o .1), changed-other (y .terminal) a (length d) _ far, changed-other hold a both _ far)
 
   pub sound-join : Sound (joinInto y a b) (remove b layout) (changed hold a (hold a ++ hold b))
+  unfolding marked
   sound-join = record {
     real = real-join y layout (S .real) a b H;
     filed = filed′;
-    runs = moved-runs y layout hold S (jv ∷ d) _ _ _ _ _ _ (omega arith) up was hold′ kept;
+    runs = moved-runs y layout hold S (jv ∷ d) _ _ _ _ _ _ _ (omega arith) up was hold′ kept;
     unshut = S .unshut;
-    whole = moved-whole y layout hold S (jv ∷ d) _ _ _ _ _ _ (omega arith) up was outside;
-    sessions = moved-sessions y layout hold S (jv ∷ d) _ _ _ _ _ _ (omega arith) up was;
+    whole = moved-whole y layout hold S (jv ∷ d) _ _ _ _ _ _ _ (omega arith) up was outside;
+    sessions = moved-sessions y layout hold S (jv ∷ d) _ _ _ _ _ _ _ (omega arith) up was;
+    marks = record { empty = λ s e. changed-other hold a both s (mark-apart y a s (H .unmarked-a) e) ∙ S .marks .empty s e; main = S .marks .main };
   }

@@ -11,17 +11,19 @@ use lib.ListN.{length, length-append}
 use borrow.Author.Tests.{eq-eqb, eqb-false, eqb-true, lt-ltb, ltb-false, ltb-true, ne-eqb}
 use Rattle.lists.specs.Lists.{_∈_, changed}
 use Rattle.lists.specs.Sums.{sumBelow}
+use Rattle.lists.specs.Names.{Name}
 use Rattle.lists.proofs.Cases.{cases, either}
 use Rattle.lists.proofs.Changed.{changed-other, changed-same}
 use Rattle.lists.proofs.Sublists.{nodup-more}
 use Rattle.lists.proofs.Sums.{sum-changed, sum-same}
 use Rattle.diagram.specs.Sizes.{revisionLimit}
-use Rattle.diagram.specs.Numbering.{Numbering, next, started}
+use Rattle.diagram.specs.Numbering.{Numbering, handedIn, next, started}
+use Rattle.diagram.specs.Diagram.{Diagram}
 use Rattle.diagram.specs.Day.{Day, IsOut, fresh, numberOf, outCount}
-use Rattle.diagram.specs.Steps.{forkAt, joinInto, yield}
+use Rattle.diagram.specs.Steps.{dropAt, forkAt, joinInto, yield}
 use Rattle.diagram.specs.Accepted.{notGiven}
 use Rattle.diagram.proofs.Days.Found.{found, searched}
-use Rattle.diagram.proofs.Days.Moves.{CanFork, CanJoin, Moves, enters, forked-out, forksAt, joined-out, joinsInto, yields}
+use Rattle.diagram.proofs.Days.Moves.{CanDrop, CanFork, CanJoin, Moves, dropsOf, enters, forked-out, forksAt, joined-out, joinsInto, moved, yields}
 
 -- the searched of the revisions below m that bore n
 pub latest-bore : (of : ℕ → ℕ) (n m r : ℕ) → searched of n m ≡ some r → (r < m) × (of r ≡ n)
@@ -128,6 +130,10 @@ named-fresh = record {
   counted = refl;
 }
 
+-- a day on which b is handed in or dropped
+abbrev handsIn : Day → ℕ → Diagram → (ℕ → ℕ) → (ℕ → Option Name) → Day
+handsIn y b d terminal mark = moved y d (y .revisions) (y .startOf) (y .forkOf) terminal (changed (y .joined) b true) (handedIn (y .numbering) b) mark
+
 -- what a fork needs of the number that it gives
 record Gives (y : Day) (n : ℕ) (N : Numbering) : Type 0 where
   apart : (r : ℕ) → IsOut y r → numberOf y r ≡ n → ⊥
@@ -147,7 +153,7 @@ module _ (y : Day) (N : Named y) where
   abbrev f : ℕ → ℕ
   f r = cond (y .joined r) 0 1
 
-  module _ (r : ℕ) (C : CanFork y r) where
+  module _ (r : ℕ) (name : Option Name) (C : CanFork y r name) where
     never-used : ltb (y .numbering .given) revisionLimit ≡ true → Gives y (next (y .numbering)) (started (y .numbering) R)
     never-used e =
         let l = ltb-true (y .numbering .given) revisionLimit e in
@@ -193,33 +199,33 @@ module _ (y : Day) (N : Named y) where
     next-given = let a = gives .low in let b = gives .few in omega arith
 
     -- the number of the new revision, and of the others
-    pub number-new : numberOf (forkAt y r) R ≡ next (y .numbering)
+    pub number-new : numberOf (forkAt y r name) R ≡ next (y .numbering)
     number-new = changed-same (y .numbering .of) R (next (y .numbering))
 
-    pub number-old : (s : ℕ) → s < R → numberOf (forkAt y r) s ≡ numberOf y s
+    pub number-old : (s : ℕ) → s < R → numberOf (forkAt y r name) s ≡ numberOf y s
     number-old s l = changed-other (y .numbering .of) R (next (y .numbering)) s (λ e. omega arith)
 
     -- the number given means the new revision, the others mean what they did
-    pub meant-new : found (forkAt y r) (next (y .numbering)) ≡ some R
+    pub meant-new : found (forkAt y r name) (next (y .numbering)) ≡ some R
     unfolding found
     meant-new = rw (number-new, eq-eqb (next (y .numbering)) (next (y .numbering)) refl)
 
-    pub meant-old : (n : ℕ) → (n ≡ next (y .numbering) → ⊥) → found (forkAt y r) n ≡ found y n
+    pub meant-old : (n : ℕ) → (n ≡ next (y .numbering) → ⊥) → found (forkAt y r name) n ≡ found y n
     unfolding found
     meant-old n d = rw (number-new, ne-eqb (next (y .numbering)) n (λ e. d (sym e))) (latest-kept (y .numbering .of) R (next (y .numbering)) n R (omega arith))
 
-    pub fork-count : outCount (forkAt y r) ≡ suc (outCount y)
+    pub fork-count : outCount (forkAt y r name) ≡ suc (outCount y)
     fork-count =
-        let s = sum-same R (λ x. cond (forkAt y r .joined x) 0 1) f (λ x l. rw (ne-eqb x R (λ e. omega arith))) in
+        let s = sum-same R (λ x. cond (forkAt y r name .joined x) 0 1) f (λ x l. rw (ne-eqb x R (λ e. omega arith))) in
         rw (eq-eqb R R refl) (omega arith)
 
-    new-out : (n s : ℕ) → n ≡ next (y .numbering) → found (forkAt y r) n ≡ some s → forkAt y r .joined s ≡ false
+    new-out : (n s : ℕ) → n ≡ next (y .numbering) → found (forkAt y r name) n ≡ some s → forkAt y r name .joined s ≡ false
     new-out n s q e =
-        let a : found (forkAt y r) n ≡ some R = rw q meant-new in
+        let a : found (forkAt y r name) n ≡ some R = rw q meant-new in
         let z : s ≡ R = cc in
         rw (eq-eqb s R z)
 
-    named-fork : Named (forkAt y r)
+    named-fork : Named (forkAt y r name)
     named-fork = record {
       few = gives .few;
       used = λ n l. cases (eqb n (next (y .numbering)))
@@ -230,12 +236,12 @@ module _ (y : Day) (N : Named y) where
           (λ e. let d = eqb-false s R e in let k = N .low s (omega arith) in let m = gives .more in rw e (omega arith));
       means = λ s o. cases (eqb s R)
           (λ e. rw (eqb-true s R e, number-new) meant-new)
-          (λ e. let was = forked-out y r s o e in rw (number-old s (was .0)) (meant-old (numberOf y s) (gives .apart s was) ∙ N .means s was));
+          (λ e. let was = forked-out y r name s o e in rw (number-old s (was .0)) (meant-old (numberOf y s) (gives .apart s was) ∙ N .means s was));
       freed-low = λ n i. let k = N .freed-low n (gives .still n i .0) in let m = gives .more in omega arith;
       freed-once = gives .once;
       freed-in = λ n s i o q. cases (eqb s R)
-          (λ e. gives .still n i .1 (sym q ∙ ap (numberOf (forkAt y r)) (eqb-true s R e) ∙ number-new))
-          (λ e. let was = forked-out y r s o e in N .freed-in n s (gives .still n i .0) was (sym (number-old s (was .0)) ∙ q));
+          (λ e. gives .still n i .1 (sym q ∙ ap (numberOf (forkAt y r name)) (eqb-true s R e) ∙ number-new))
+          (λ e. let was = forked-out y r name s o e in N .freed-in n s (gives .still n i .0) was (sym (number-old s (was .0)) ∙ q));
       freed-all = λ n s e j. cases (eqb n (next (y .numbering)))
           (λ q. absurd (false≢true (sym (new-out n s (eqb-true n (next (y .numbering)) q) e) ∙ j)))
           (λ q. let d = eqb-false n (next (y .numbering)) q in let m : found y n ≡ some s = sym (meant-old n d) ∙ e in
@@ -243,32 +249,46 @@ module _ (y : Day) (N : Named y) where
       counted = rw fork-count (gives .counted);
     }
 
-  module _ (a b : ℕ) (H : CanJoin y a b) where
-    pub join-count : suc (outCount (joinInto y a b)) ≡ outCount y
-    join-count =
-        let s = sum-changed R b f (λ x. cond (joinInto y a b .joined x) 0 1) (H .out-b .0) (λ x l d. rw (ne-eqb x b d)) in
-        let at-b : _≡_ {A = ℕ} (cond (joinInto y a b .joined b) 0 1) 0 = rw (eq-eqb b b refl) in
-        let was : f b ≡ 1 = rw (H .out-b .1) in
+  -- b, which is out, is handed in or dropped
+  module _ (b : ℕ) (o : IsOut y b) (d : Diagram) (terminal : ℕ → ℕ) (mark : ℕ → Option Name) where
+    abbrev z : Day
+    z = handsIn y b d terminal mark
+
+    count-in : suc (outCount z) ≡ outCount y
+    count-in =
+        let s = sum-changed R b f (λ x. cond (z .joined x) 0 1) (o .0) (λ x l d. rw (ne-eqb x b d)) in
+        let at-b : _≡_ {A = ℕ} (cond (z .joined b) 0 1) 0 = rw (eq-eqb b b refl) in
+        let was : f b ≡ 1 = rw (o .1) in
         omega arith
 
-    named-join : Named (joinInto y a b)
+    -- what is out was out, and is not b
+    still : (s : ℕ) → IsOut z s → IsOut y s × (s ≡ b → ⊥)
+    still s p = joined-out y b b s p
+
+    named-in : Named z
     unfolding found
-    named-join = record {
+    named-in = record {
       few = N .few;
       used = N .used;
       low = N .low;
-      means = λ s o. N .means s (joined-out y a b s o .0);
-      freed-low = λ n i. either (List·Memᴰ·append-cases (y .numbering .freed) i) (N .freed-low n) (λ j. rw (List·Memᴰ·eq-of-singleton j) (N .low b (H .out-b .0)));
-      freed-once = nodup-more (y .numbering .freed) (numberOf y b) (N .freed-once) (λ i. N .freed-in (numberOf y b) b i (H .out-b) refl);
-      freed-in = λ n s i o q.
-          let was = joined-out y a b s o in
+      means = λ s p. N .means s (still s p .0);
+      freed-low = λ n i. either (List·Memᴰ·append-cases (y .numbering .freed) i) (N .freed-low n) (λ j. rw (List·Memᴰ·eq-of-singleton j) (N .low b (o .0)));
+      freed-once = nodup-more (y .numbering .freed) (numberOf y b) (N .freed-once) (λ i. N .freed-in (numberOf y b) b i o refl);
+      freed-in = λ n s i p q.
+          let was = still s p in
           either (List·Memᴰ·append-cases (y .numbering .freed) i) (λ j. N .freed-in n s j (was .0) q)
-          (λ j. was .1 (numbers-apart y N s b (was .0) (H .out-b) (q ∙ List·Memᴰ·eq-of-singleton j)));
+          (λ j. was .1 (numbers-apart y N s b (was .0) o (q ∙ List·Memᴰ·eq-of-singleton j)));
       freed-all = λ n s e j. cases (eqb s b)
           (λ q. Memᴰ·append-right (y .numbering .freed) (List·Memᴰ·head (sym (meant-number y n s e) ∙ ap (numberOf y) (eqb-true s b q))))
           (λ q. Memᴰ·append-left (numberOf y b ∷ []) (N .freed-all n s e (rw q at j)));
-      counted = let k = N .counted in let j = join-count in rw (length-append (y .numbering .freed) (numberOf y b ∷ [])) (omega arith);
+      counted = let k = N .counted in let j = count-in in rw (length-append (y .numbering .freed) (numberOf y b ∷ [])) (omega arith);
     }
+
+  pub join-count : (a b : ℕ) → CanJoin y a b → suc (outCount (joinInto y a b)) ≡ outCount y
+  join-count a b H = count-in b (H .out-b) (joinInto y a b .diagram) (joinInto y a b .terminal) (y .mark)
+
+  pub drop-count : (r : ℕ) → CanDrop y r → suc (outCount (dropAt y r)) ≡ outCount y
+  drop-count r D = count-in r (D .out) (y .diagram) (y .terminal) (dropAt y r .mark)
 
   pub named-moves : (z : Day) → Moves y z → Named z
   unfolding found
@@ -278,5 +298,6 @@ module _ (y : Day) (N : Named y) where
       by : (q : Option ℕ) → Named (yield y c q)
       by none = N
       by (some t) = record { few = N .few; used = N .used; low = N .low; means = N .means; freed-low = N .freed-low; freed-once = N .freed-once; freed-in = N .freed-in; freed-all = N .freed-all; counted = N .counted }
-  named-moves z (forksAt r C) = named-fork r C
-  named-moves z (joinsInto a b H) = named-join a b H
+  named-moves z (forksAt r name C) = named-fork r name C
+  named-moves z (joinsInto a b H) = named-in b (H .out-b) _ _ _
+  named-moves z (dropsOf r D) = named-in r (D .out) _ _ _

@@ -9,11 +9,12 @@ use native.Mathlib.Omega.{arith}
 use lib.ListN.{length}
 use lib.Dec.{eqb}
 use borrow.Author.Tests.{eq-eqb, eqb-false, eqb-true}
-use Rattle.diagram.proofs.Days.Moves.{Idle}
+use Rattle.diagram.proofs.Days.Moves.{Idle, moved}
 use Rattle.diagram.proofs.Days.Sound.{Runs, SeenWhole, Sessions, Sound, Whole, event-low, leads-low}
 use Rattle.diagram.proofs.Graph.Paths.{leads-down, leads-old, leads-up}
 use Rattle.diagram.specs.Arbitration.{eventsOf}
 use Rattle.diagram.specs.Numbering.{Numbering}
+use Rattle.lists.specs.Names.{Name}
 use Rattle.diagram.specs.Day.{Day, IsOut, Transaction}
 use Rattle.diagram.specs.Diagram.{Diagram, Vertex, leads, sources}
 use Rattle.lists.proofs.Cases.{either, split}
@@ -64,29 +65,13 @@ module _ (y : Day) (layout : List ℕ) (hold : ℕ → List ℕ) (S : Sound y la
   pub idle-far : (r a s : ℕ) → Idle y (λ o. Unit {0}) r → y .openBy a ≡ some s → y .transaction s .revision ≡ r → ⊥
   idle-far r a s idle p e = false≢true (sym (rw p at (idle a (S .runs a s p .client-ok) tt)) ∙ eq-eqb (y .transaction s .revision) r e)
 
--- a day after a step that enters no event: the clients and the transactions are as they were
-abbrev pub moved : Day → Diagram → ℕ → (ℕ → ℕ) → (ℕ → ℕ) → (ℕ → ℕ) → (ℕ → Bool) → Numbering → Day
-moved y d n starts forks terminals joined numbering = record {
-  diagram = d;
-  revisions = n;
-  startOf = starts;
-  forkOf = forks;
-  terminal = terminals;
-  joined = joined;
-  numbering = numbering;
-  updates = y .updates;
-  lastEvent = y .lastEvent;
-  openBy = y .openBy;
-  transactions = y .transactions;
-  transaction = y .transaction;
-}
-
 -- of the older vertices each still leads where it led; and where a revision's terminal is an event, it was so before
-module _ (y : Day) (layout : List ℕ) (hold : ℕ → List ℕ) (S : Sound y layout hold) (d : Diagram) (n : ℕ) (starts forks terminals : ℕ → ℕ) (joined : ℕ → Bool) (numbering : Numbering)
-    (longer : length (y .diagram) ≤ length d) (up : (e x : ℕ) → x < length (y .diagram) → leads (y .diagram) e x ≡ true → leads d e x ≡ true)
-    (was : (s t : ℕ) → IsOut (moved y d n starts forks terminals joined numbering) s → t < y .transactions → terminals s ∈ eventsOf y t → IsOut y s × (terminals s ≡ y .terminal s)) where
+module _ (y : Day) (layout : List ℕ) (hold : ℕ → List ℕ) (S : Sound y layout hold) (d : Diagram) (n : ℕ) (starts forks terminals : ℕ → ℕ)
+    (joined : ℕ → Bool) (numbering : Numbering) (mark : ℕ → Option Name) (longer : length (y .diagram) ≤ length d) (up : (e x : ℕ) → x < length (y .diagram) → leads (y .diagram) e x ≡ true → leads d e x ≡ true)
+    (was : (s t : ℕ) → IsOut (moved y d n starts forks terminals joined numbering mark) s → t < y .transactions → terminals s ∈ eventsOf y t
+    → IsOut y s × (terminals s ≡ y .terminal s)) where
   abbrev y′ : Day
-  y′ = moved y d n starts forks terminals joined numbering
+  y′ = moved y d n starts forks terminals joined numbering mark
 
   pub moved-whole : Outside d (y .transactions) (y .transaction) → Whole y′
   moved-whole outside = record {

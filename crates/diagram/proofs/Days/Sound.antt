@@ -1,6 +1,6 @@
 -- What holds of the day after every run: transactions are held whole by one revision, seen whole from outside, and in sessions.
 use Prim.Native.Nat.{_<_, _≤_, ℕ}
-use mathlib.Core.Bool.{true}
+use mathlib.Core.Bool.{false, true}
 use mathlib.Core.Path.{_∙_, _≡_, ap, refl, sym}
 use mathlib.Core.Option.{Option, none, some}
 use mathlib.Core.List.{List, List·Memᴰ·head, List·Memᴰ·not-nil, List·Memᴰ·tail, List·Nodup, [], _++_, _∷_}
@@ -12,6 +12,7 @@ use Rattle.diagram.proofs.Days.Real.{Real, real-fresh}
 use Rattle.diagram.proofs.Graph.Events.{ownEvents}
 use Rattle.diagram.proofs.Graph.Paths.{leads-path, path-bound}
 use Rattle.diagram.specs.Arbitration.{eventsOf}
+use Rattle.diagram.specs.Checks.{marked}
 use Rattle.diagram.specs.Day.{Day, IsOut, Transaction, fresh}
 use Rattle.diagram.specs.Diagram.{Diagram, leads}
 use Rattle.diagram.specs.Effects.{tabulate}
@@ -58,6 +59,11 @@ pub record Sessions (y : Day) : Type 0 where
   pub last-sees : (t e : ℕ) → t < y .transactions → e ∈ eventsOf y t → (l : ℕ) × (y .lastEvent (y .transaction t .client) ≡ some l) × (leads (y .diagram) e l ≡ true)
   pub later : (s t e f : ℕ) → s < t → t < y .transactions → y .transaction s .client ≡ y .transaction t .client → e ∈ eventsOf y s → f ∈ eventsOf y t → leads (y .diagram) e f ≡ true
 
+-- 02, U9: a mark holds no transaction; the main revision is none
+pub record Unwritten (y : Day) (hold : ℕ → List ℕ) : Type 0 where
+  pub empty : (r : ℕ) → marked y r ≡ true → hold r ≡ []
+  pub main : marked y 0 ≡ false
+
 pub record Sound (y : Day) (layout : List ℕ) (hold : ℕ → List ℕ) : Type 0 where
   pub real : Real y layout
   pub filed : Filed y layout hold
@@ -65,6 +71,7 @@ pub record Sound (y : Day) (layout : List ℕ) (hold : ℕ → List ℕ) : Type 
   pub unshut : (t : ℕ) → t < y .transactions → y .transaction t .closed ≡ none → y .openBy (y .transaction t .client) ≡ some t
   pub whole : Whole y
   pub sessions : Sessions y
+  pub marks : Unwritten y hold
 
 pub some≢none : {n : ℕ} (o : Option ℕ) → o ≡ some n → o ≡ none → ⊥
 some≢none {n} o p q = let z : _≡_ {A = ℕ} 0 1 = cc in omega arith
@@ -73,7 +80,7 @@ pub same-some : {m n : ℕ} → some m ≡ some n → m ≡ n
 same-some e = cc
 
 pub sound-fresh : Sound fresh (0 ∷ []) (λ x. [])
-unfolding tabulate
+unfolding tabulate marked
 sound-fresh = record {
   real = real-fresh;
   filed = record {
@@ -95,6 +102,7 @@ sound-fresh = record {
     last-sees = λ t e h i. absurd (List·Memᴰ·not-nil i);
     later = λ s t e f l h q i j. absurd (List·Memᴰ·not-nil i);
   };
+  marks = record { empty = λ r e. refl; main = refl };
 }
 
 module _ (y : Day) (layout : List ℕ) (hold : ℕ → List ℕ) (F : Filed y layout hold) where

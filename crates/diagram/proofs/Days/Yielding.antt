@@ -12,6 +12,7 @@ use borrow.Author.Tests.{eqb-false, eqb-true}
 use Rattle.diagram.proofs.Days.Real.{real-close}
 use Rattle.diagram.proofs.Days.Sound.{Filed, Runs, SeenWhole, Sessions, Sound, Whole, some≢none}
 use Rattle.diagram.specs.Arbitration.{eventsOf}
+use Rattle.diagram.specs.Checks.{marked}
 use Rattle.diagram.specs.Day.{Day, Transaction}
 use Rattle.diagram.specs.Diagram.{Diagram, leads}
 use Rattle.diagram.specs.Steps.{closedNow, yield}
@@ -113,7 +114,16 @@ module _ (y : Day) (layout : List ℕ) (hold : ℕ → List ℕ) (S : Sound y la
   }
 
   pub sound-close : Sound (yield y c (some t)) layout hold
-  sound-close = record { real = real-close y layout (S .real) c t; filed = filed′; runs = runs′; unshut = unshut′; whole = whole′; sessions = sessions′ }
+  unfolding marked
+  sound-close = record {
+    real = real-close y layout (S .real) c t;
+    filed = filed′;
+    runs = runs′;
+    unshut = unshut′;
+    whole = whole′;
+    sessions = sessions′;
+    marks = record { empty = S .marks .empty; main = S .marks .main };
+  }
 
 pub sound-yield : (y : Day) (layout : List ℕ) (hold : ℕ → List ℕ) → Sound y layout hold → (c : ℕ) (o : Option ℕ) → y .openBy c ≡ o → Sound (yield y c o) layout hold
 sound-yield y layout hold S c none q = S

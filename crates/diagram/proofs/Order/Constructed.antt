@@ -4,14 +4,14 @@ use mathlib.Core.Bool.{Bool, false, false≢true, true}
 use mathlib.Core.Path.{_∙_, _≡_, ap, refl, subst, sym}
 use mathlib.Core.Logic.{_↔_, _⊎_, inl, inr}
 use mathlib.Core.Option.{Option, none, some}
-use mathlib.Core.List.{List, List·Memᴰ, List·Memᴰ·eq-of-singleton, List·Memᴰ·head, List·Memᴰ·not-nil, Memᴰ·append-left}
+use mathlib.Core.List.{List, List·Memᴰ, List·Memᴰ·eq-of-singleton, List·Memᴰ·not-nil, Memᴰ·append-left}
 use mathlib.Core.List.{Memᴰ·append-right, [], _++_, _∷_}
 use native.Mathlib.Omega.{arith}
 use lib.ListN.{length}
 use lib.Dec.{eqb}
 use borrow.Author.Tests.{eqb-false, eqb-true, ne-eqb}
 use Rattle.diagram.proofs.Arranged.Advance.{on-bound}
-use Rattle.diagram.proofs.Days.Moves.{CanEnter, CanFork, CanJoin, can-enter, can-fork, can-join, not-last, forked-out, joined-out, joinable}
+use Rattle.diagram.proofs.Days.Moves.{CanEnter, CanFork, CanJoin, can-enter, can-fork, can-join, not-last, dropped-out, forked-out, joined-out, joinable}
 use Rattle.diagram.proofs.Days.Sound.{same-some, some≢none}
 use Rattle.diagram.proofs.Graph.Paths.{Ordered, both-older, edge-bounds, leads-path, no-vertex, one-more, path-leads}
 use Rattle.diagram.proofs.Graph.Tables.{start-leads, startStep, tabulate-newest, tabulate-older}
@@ -19,13 +19,13 @@ use Rattle.diagram.proofs.Order.Growth.{Fine, fine-fresh}
 use Rattle.diagram.proofs.Order.Runs.{along, fine-run, fine-step}
 use Rattle.diagram.specs.Checks.{notJoinable}
 use Rattle.diagram.specs.Construction.{Constructed, Joinable, entered, forked, joined, rooted}
+use Rattle.lists.specs.Names.{Name}
 use Rattle.diagram.specs.Day.{Day, IsOut, fresh}
 use Rattle.diagram.specs.Diagram.{Diagram, Edge, HasPath, Terminal, Vertex, event, f-sources, fork, j-sources, join, leads, newest}
 use Rattle.diagram.specs.Diagram.{older, root, s-sources, sources, start}
 use Rattle.diagram.specs.Effects.{forkVertex, startVertex, tabulate}
-use Rattle.diagram.specs.Steps.{Event, Fork, Join, Step, Yield, after, enter, forkAt, joinInto, newUpdate, yield}
+use Rattle.diagram.specs.Steps.{Drop, Event, Fork, Join, Step, Yield, after, enter, forkAt, joinInto, newUpdate, run, yield}
 use Rattle.diagram.specs.Accepted.{Accepted, accepted}
-use Rattle.diagram.specs.Steps.{run, yield}
 use Rattle.lists.proofs.Cases.{cases, split}
 use Rattle.lists.specs.Lists.{changed}
 
@@ -60,8 +60,6 @@ pub record Made (y : Day) : Type 0 where
   pub starts : (r : ℕ) → r < y .revisions → startVertex (y .diagram) (y .terminal r) ≡ y .startOf r
   pub distinct : (r s : ℕ) → r < y .revisions → s < y .revisions → y .startOf r ≡ y .startOf s → r ≡ s
   pub terminals : (r : ℕ) → IsOut y r → Terminal (y .diagram) (y .terminal r)
-  -- the last vertex of a joined revision is no terminal
-  pub ended : (r : ℕ) → y .joined r ≡ true → (z : ℕ) × Edge j-sources (y .terminal r) z (y .diagram)
 
 made-fresh : Made fresh
 unfolding tabulate
@@ -70,7 +68,6 @@ made-fresh = record {
   starts = λ r h. refl;
   distinct = λ r s h k e. let a : r < 1 = h in let b : s < 1 = k in omega arith;
   terminals = λ r o. terminal-newest (one-more {v = root} (λ p i. absurd (List·Memᴰ·not-nil i)) no-vertex);
-  ended = λ r e. absurd (false≢true e);
 }
 
 module _ (y : Day) (F : Fine y) (M : Made y) where
@@ -102,13 +99,6 @@ module _ (y : Day) (F : Fine y) (M : Made y) where
         (λ e. rw e (terminal-newest o))
         (λ e. rw e (terminal-older (λ i. apart s r (os .0) hr (eqb-false s r e) (rw q at i)) n (M .terminals s os)))
 
-  -- a vertex that goes on from a revision that is out ends none
-  ended-on : (v : Vertex) (r : ℕ) → y .joined r ≡ false → (s : ℕ) → y .joined s ≡ true → (z : ℕ) × Edge j-sources (changed (y .terminal) r (length d) s) z (v ∷ d)
-  ended-on v r o s h =
-      cases (eqb s r)
-      (λ e. absurd (false≢true (sym o ∙ ap (y .joined) (sym (eqb-true s r e)) ∙ h)))
-      (λ e. rw e (let k = M .ended s h in (k .0, older (k .1))))
-
   one-source : (v : Vertex) (r : ℕ) → r < y .revisions → sources v ≡ y .terminal r ∷ [] → Ordered (v ∷ d)
   one-source v r h q = one-more {v = v} {d = d} (λ p i. rw (List·Memᴰ·eq-of-singleton (rw q at i)) (low r)) ordered
 
@@ -118,22 +108,20 @@ module _ (y : Day) (F : Fine y) (M : Made y) where
     starts = starts-on v r (E .out .0) refl;
     distinct = M .distinct;
     terminals = λ s o. terminals-on v r (E .out .0) refl (one-source v r (E .out .0) refl) refl s o (λ i. List·Memᴰ·not-nil i);
-    ended = ended-on v r (E .out .1);
   }
     where
       v : Vertex
       v = event (y .terminal r) c (newUpdate y u)
 
   made-close : (c t : ℕ) → Made (yield y c (some t))
-  made-close c t = record { constructed = M .constructed; starts = M .starts; distinct = M .distinct; terminals = M .terminals; ended = M .ended }
+  made-close c t = record { constructed = M .constructed; starts = M .starts; distinct = M .distinct; terminals = M .terminals }
 
-  made-fork : (r : ℕ) → CanFork y r → Made (forkAt y r)
-  made-fork r N = record {
+  made-fork : (r : ℕ) (name : Option Name) → CanFork y r name → Made (forkAt y r name)
+  made-fork r name N = record {
     constructed = forked (M .constructed) (M .terminals r (N .out));
     distinct = distinct′;
     starts = λ s h. cases (eqb s n) (λ e. rw e (tabulate-newest startStep 0 sv (fv ∷ d))) (λ e. rw e (starts′ s (not-last s n h e)));
-    terminals = λ s o. cases (eqb s n) (λ e. rw e (terminal-newest ordered2)) (λ e. rw e (terminals′ s (forked-out y r s o e)));
-    ended = λ s h. cases (eqb s n) (λ e. let f : false ≡ true = rw e at h in absurd (false≢true f)) (λ e. let k = ended-on fv r (N .out .1) s (rw e at h) in rw e (k .0, older (k .1)));
+    terminals = λ s o. cases (eqb s n) (λ e. rw e (terminal-newest ordered2)) (λ e. rw e (terminals′ s (forked-out y r name s o e)));
   }
     where
       n : ℕ
@@ -204,7 +192,6 @@ module _ (y : Day) (F : Fine y) (M : Made y) where
     starts = starts-on jv a (H .out-a .0) refl;
     distinct = M .distinct;
     terminals = λ s o. let p = joined-out y a b s o in terminals-on jv a (H .out-a .0) refl two-sources refl s (p .0) (apart s b (p .0 .0) (H .out-b .0) (p .1));
-    ended = λ s h. cases (eqb s b) (λ e. let z = eqb-true s b e in rw (z, ne-eqb b a (H .not-self)) (length d, newest refl (List·Memᴰ·head refl))) (λ e. ended-on jv a (H .out-a .1) s (rw e at h));
   }
     where
       jv : Vertex
@@ -221,8 +208,10 @@ made-after y (Yield c) e F M = by (y .openBy c)
     by : (o : Option ℕ) → Made (yield y c o)
     by none = M
     by (some t) = made-close y F M c t
-made-after y (Fork r) e F M = made-fork y F M r (can-fork y r e)
+made-after y (Fork r name) e F M = made-fork y F M r name (can-fork y r name e)
 made-after y (Join a b) e F M = made-join y F M a b (can-join y a b e)
+made-after y (Drop r) e F M =
+    record { constructed = M .constructed; starts = M .starts; distinct = M .distinct; terminals = λ s o. M .terminals s (dropped-out y r s o .0) }
 
 -- every run of accepted steps makes its diagram by the construction steps of Definition 6
 pub made-run : (ss : List Step) → Accepted ss → Made (run ss)

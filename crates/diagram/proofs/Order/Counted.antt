@@ -8,7 +8,8 @@ use native.Mathlib.Omega.{arith}
 use lib.ListN.{length, length-append}
 use lib.Dec.{eqb}
 use borrow.Author.Tests.{eq-eqb, eqb-true, ne-eqb}
-use Rattle.diagram.proofs.Days.Moves.{CanJoin, Moves, enters, forksAt, joinsInto, step-moves, yields}
+use Rattle.diagram.proofs.Days.Moves.{CanDrop, CanJoin, Moves, dropsOf, enters, forksAt, joinsInto, step-moves, yields}
+use Rattle.diagram.proofs.Days.Dropping.{unwritten}
 use Rattle.diagram.proofs.Graph.Tables.{tabulate-newest, tabulate-older}
 use Rattle.diagram.proofs.Order.Growth.{Fine, fine-fresh}
 use Rattle.diagram.proofs.Order.Runs.{along, fine-step}
@@ -16,8 +17,9 @@ use Rattle.diagram.specs.Summed.{OwnAddsUp, ownIfOut}
 use Rattle.diagram.specs.Day.{Day, fresh}
 use Rattle.diagram.specs.Diagram.{Vertex, event, fork, join, start}
 use Rattle.diagram.specs.Effects.{entry, own, ownStep, tabulate}
-use Rattle.diagram.specs.Steps.{Step, after, enter, forkAt, joinInto, newUpdate, run, yield}
+use Rattle.diagram.specs.Steps.{Step, after, dropAt, enter, forkAt, joinInto, newUpdate, run, yield}
 use Rattle.diagram.specs.Accepted.{Accepted, accepted}
+use Rattle.lists.specs.Names.{Name}
 use Rattle.lists.proofs.Cases.{cases}
 use Rattle.lists.proofs.Changed.{changed-other, changed-same}
 use Rattle.lists.proofs.Sums.{sum-changed, sum-same}
@@ -47,10 +49,10 @@ module _ (y : Day) (F : Fine y) where
       by true s e = omega arith
       by false s e = omega arith
 
-  fork-adds : (r : ℕ) → OwnAddsUp y → OwnAddsUp (forkAt y r)
-  fork-adds r h =
-      let s = sum-same (y .revisions) (ownIfOut (forkAt y r)) f same in
-      let new : ownIfOut (forkAt y r) (y .revisions) ≡ 0 = rw (eq-eqb (y .revisions) (y .revisions) refl, tabulate-newest ownStep [] sv (fv ∷ y .diagram)) in
+  fork-adds : (r : ℕ) (name : Option Name) → OwnAddsUp y → OwnAddsUp (forkAt y r name)
+  fork-adds r name h =
+      let s = sum-same (y .revisions) (ownIfOut (forkAt y r name)) f same in
+      let new : ownIfOut (forkAt y r name) (y .revisions) ≡ 0 = rw (eq-eqb (y .revisions) (y .revisions) refl, tabulate-newest ownStep [] sv (fv ∷ y .diagram)) in
       omega arith
     where
       fv : Vertex
@@ -59,7 +61,7 @@ module _ (y : Day) (F : Fine y) where
       sv : Vertex
       sv = start (length (y .diagram))
 
-      same : (x : ℕ) → x < y .revisions → ownIfOut (forkAt y r) x ≡ f x
+      same : (x : ℕ) → x < y .revisions → ownIfOut (forkAt y r name) x ≡ f x
       same x l =
           let b = F .sound .real .linked .bound x in
           let new = ne-eqb x (y .revisions) (λ q. omega arith) in
@@ -87,6 +89,14 @@ module _ (y : Day) (F : Fine y) where
           rw (ne-eqb x b n, e, tabulate-newest ownStep [] jv (y .diagram), z, H .out-a .1, H .out-b .1) (length-append (own (y .diagram) (y .terminal a)) (own (y .diagram) (y .terminal b))))
           (λ e. rw (ne-eqb x b n, e, older jv x))
 
+  -- a mark has nothing of its own
+  drop-adds : (r : ℕ) → CanDrop y r → OwnAddsUp y → OwnAddsUp (dropAt y r)
+  drop-adds r D h =
+      let s = sum-changed (y .revisions) r f (ownIfOut (dropAt y r)) (D .out .0) (λ x k n. rw (ne-eqb x r n)) in
+      let had : f r ≡ 0 = rw (D .out .1, unwritten y (F .layout) (F .hold) (F .sound) r (D .is-mark) (D .out)) in
+      let gone : ownIfOut (dropAt y r) r ≡ 0 = rw (eq-eqb r r refl) in
+      omega arith
+
   moves-add : (z : Day) → Moves y z → OwnAddsUp y → OwnAddsUp z
   moves-add z (enters c r u E) h = enter-adds c r u (E .out .0) (E .out .1) h
   moves-add z (yields c l) h = by (y .openBy c)
@@ -94,8 +104,9 @@ module _ (y : Day) (F : Fine y) where
       by : (q : Option ℕ) → OwnAddsUp (yield y c q)
       by none = h
       by (some t) = h
-  moves-add z (forksAt r N) h = fork-adds r h
+  moves-add z (forksAt r name N) h = fork-adds r name h
   moves-add z (joinsInto a b H) h = join-adds a b H h
+  moves-add z (dropsOf r D) h = drop-adds r D h
 
 pub own-adds-up : (ss : List Step) → Accepted ss → OwnAddsUp (run ss)
 unfolding run tabulate

@@ -9,10 +9,11 @@ use native.Mathlib.Omega.{arith}
 use lib.ListN.{length}
 use lib.Dec.{eqb}
 use borrow.Author.Tests.{eqb-false, eqb-true, ne-eqb}
+use Rattle.diagram.proofs.Days.Dropping.{sound-drop}
 use Rattle.diagram.proofs.Days.Entering.{sound-enter}
 use Rattle.diagram.proofs.Days.Forking.{sound-fork}
 use Rattle.diagram.proofs.Days.Joining.{sound-join}
-use Rattle.diagram.proofs.Days.Moves.{Moves, enters, idle-all, joinsInto, forksAt, yields}
+use Rattle.diagram.proofs.Days.Moves.{Moves, dropsOf, enters, idle-all, joinsInto, forksAt, yields}
 use Rattle.diagram.proofs.Days.Sound.{SeenWhole, Sound, link, sound-fresh}
 use Rattle.diagram.proofs.Days.Yielding.{sound-yield}
 use Rattle.diagram.proofs.Graph.Paths.{leads-path, path-leads}
@@ -37,8 +38,9 @@ pub record Fine (y : Day) : Type 0 where
 unfoldable pub fine-moves : (y z : Day) → Fine y → Moves y z → Fine z
 fine-moves y z F (enters c r u E) = let s = sound-enter y (F .layout) (F .hold) (F .sound) c r u E in record { layout = F .layout; hold = s .0; sound = s .1 }
 fine-moves y z F (yields c h) = record { layout = F .layout; hold = F .hold; sound = sound-yield y (F .layout) (F .hold) (F .sound) c (y .openBy c) refl }
-fine-moves y z F (forksAt r N) = record { layout = _; hold = _; sound = sound-fork y (F .layout) (F .hold) (F .sound) r N }
+fine-moves y z F (forksAt r name N) = record { layout = _; hold = _; sound = sound-fork y (F .layout) (F .hold) (F .sound) r name N }
 fine-moves y z F (joinsInto a b H) = record { layout = _; hold = _; sound = sound-join y (F .layout) (F .hold) (F .sound) a b H }
+fine-moves y z F (dropsOf r D) = record { layout = _; hold = _; sound = sound-drop y (F .layout) (F .hold) (F .sound) r D }
 
 unfoldable pub fine-fresh : Fine fresh
 fine-fresh = record { layout = 0 ∷ []; hold = λ x. []; sound = sound-fresh }
@@ -75,7 +77,7 @@ extends y z F (yields c h) r o p = by (y .openBy c)
     by : (q : Option ℕ) → (more : List ℕ) × (view (yield y c q .diagram) (yield y c q .terminal r) ≡ view (y .diagram) (y .terminal r) ++ more)
     by none = ([], sym (append-nil _))
     by (some t) = ([], sym (append-nil _))
-extends y z F (forksAt r N) s o p =
+extends y z F (forksAt r name N) s o p =
     let old : eqb s (y .revisions) ≡ false = ne-eqb s (y .revisions) (λ e. omega (arith, o .0)) in
     let b = F .sound .real .linked .bound s in
     cases (eqb s r)
@@ -97,6 +99,7 @@ extends y z F (joinsInto a b H) s o p =
   where
     jv : Vertex
     jv = join (y .terminal a) (y .terminal b)
+extends y z F (dropsOf r D) s o p = ([], sym (append-nil _))
 
 -- the diagram only grows, and what a vertex lists stays
 pub data Older (d : Diagram) : Diagram → Type 0 where
@@ -125,8 +128,9 @@ older-moves y z (yields c h) = by (y .openBy c)
     by : (q : Option ℕ) → Older (y .diagram) (yield y c q .diagram)
     by none = same
     by (some t) = same
-older-moves y z (forksAt r N) = next (next same)
+older-moves y z (forksAt r name N) = next (next same)
 older-moves y z (joinsInto a b H) = next same
+older-moves y z (dropsOf r D) = same
 
 -- from outside a transaction is seen whole or not at all, and only after its yield
 pub whole-of : (y : Day) → Fine y → (t x : ℕ) → t < y .transactions → x < length (y .diagram) → (x ∈ eventsOf y t → ⊥) → WholeAt y t x x

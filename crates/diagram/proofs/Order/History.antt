@@ -15,7 +15,7 @@ use Rattle.diagram.proofs.Days.Sound.{Sound, some≢none}
 use Rattle.diagram.proofs.Order.Growth.{Fine}
 use Rattle.diagram.specs.Arbitration.{eventsOf}
 use Rattle.diagram.specs.Day.{Day}
-use Rattle.diagram.specs.Steps.{Event, Fork, Join, Step, Yield, after, countedWith, enter, entersInto, eventsBefore, yield}
+use Rattle.diagram.specs.Steps.{Drop, Event, Fork, Join, Step, Yield, after, countedWith, enter, entersInto, eventsBefore, yield}
 use Rattle.diagram.specs.Accepted.{accepted}
 use Rattle.lists.proofs.Cases.{cases}
 use Rattle.lists.proofs.Changed.{changed-other, changed-same}
@@ -25,14 +25,16 @@ use Rattle.lists.specs.Lists.{_∈_}
 abbrev isYield : ℕ → Step → Bool
 isYield c (Event b r u) = false
 isYield c (Yield b) = eqb b c
-isYield c (Fork r) = false
+isYield c (Fork r name) = false
 isYield c (Join a b) = false
+isYield c (Drop r) = false
 
 yield-is : (c : ℕ) (s : Step) → isYield c s ≡ true → s ≡ Yield c
 yield-is c (Event b r u) e = absurd (false≢true e)
 yield-is c (Yield b) e = ap Yield (eqb-true b c e)
-yield-is c (Fork r) e = absurd (false≢true e)
+yield-is c (Fork r name) e = absurd (false≢true e)
 yield-is c (Join a b) e = absurd (false≢true e)
+yield-is c (Drop r) e = absurd (false≢true e)
 
 not-yield : (c : ℕ) (s : Step) → isYield c s ≡ false → s ≡ Yield c → ⊥
 not-yield c s e q = false≢true (sym e ∙ ap (isYield c) q ∙ eq-eqb c c refl)
@@ -58,8 +60,9 @@ module _ (y : Day) (F : Fine y) where
       by : (o : Option ℕ) → yield y c o .transaction t .client ≡ y .transaction t .client
       by none = refl
       by (some s) = cases (eqb t s) (λ e. rw (e, eqb-true t s e)) (λ e. rw e)
-  keeps-client (Fork r) a t h = refl
+  keeps-client (Fork r name) a t h = refl
   keeps-client (Join p q) a t h = refl
+  keeps-client (Drop r) a t h = refl
 
   -- and its revision
   pub keeps-revision : (s : Step) → accepted y s ≡ true → (t : ℕ) → t < y .transactions → after y s .transaction t .revision ≡ y .transaction t .revision
@@ -74,8 +77,9 @@ module _ (y : Day) (F : Fine y) where
       by : (o : Option ℕ) → yield y c o .transaction t .revision ≡ y .transaction t .revision
       by none = refl
       by (some s) = cases (eqb t s) (λ e. rw (e, eqb-true t s e)) (λ e. rw e)
-  keeps-revision (Fork r) a t h = refl
+  keeps-revision (Fork r name) a t h = refl
   keeps-revision (Join p q) a t h = refl
+  keeps-revision (Drop r) a t h = refl
 
   pub keeps-event : (s : Step) (t : ℕ) → t < y .transactions → (e : ℕ) → e ∈ eventsOf y t → e ∈ eventsOf (after y s) t
   unfolding after
@@ -95,8 +99,9 @@ module _ (y : Day) (F : Fine y) where
           cases (eqb t s)
           (λ q. let z = eqb-true t s q in subst (λ w. e ∈ w .events) (sym (ap (yield y c (some s) .transaction) z ∙ changed-same (y .transaction) s _)) (subst (λ k. e ∈ eventsOf y k) z i))
           (λ q. subst (λ w. e ∈ w .events) (sym (changed-other (y .transaction) s _ t (eqb-false t s q))) i)
-  keeps-event (Fork r) t h e i = i
+  keeps-event (Fork r name) t h e i = i
   keeps-event (Join p q) t h e i = i
+  keeps-event (Drop r) t h e i = i
 
   pub more-transactions : (s : Step) → y .transactions ≤ after y s .transactions
   unfolding after
@@ -110,8 +115,9 @@ module _ (y : Day) (F : Fine y) where
       by : (o : Option ℕ) → y .transactions ≤ yield y c o .transactions
       by none = omega arith
       by (some t) = omega arith
-  more-transactions (Fork r) = omega arith
+  more-transactions (Fork r name) = omega arith
   more-transactions (Join p q) = omega arith
+  more-transactions (Drop r) = omega arith
 
   -- the event's own transaction
   pub into-low : (c r : ℕ) (u : Bool) → into c < after y (Event c r u) .transactions
@@ -147,8 +153,9 @@ module _ (y : Day) (F : Fine y) where
       by : (o : Option ℕ) → yield y b o .openBy c ≡ some t
       by none = q
       by (some s) = changed-other (y .openBy) b none c (λ e. n (ap Yield (sym e))) ∙ q
-  stays-open c t q (Fork r) n = q
+  stays-open c t q (Fork r name) n = q
   stays-open c t q (Join a b) n = q
+  stays-open c t q (Drop r) n = q
 
   -- a closed transaction is changed no more
   pub stays-closed : (t n : ℕ) → t < y .transactions → y .transaction t .closed ≡ some n → (s : Step) → after y s .transaction t ≡ y .transaction t
@@ -163,8 +170,9 @@ module _ (y : Day) (F : Fine y) where
       by : (o : Option ℕ) → y .openBy c ≡ o → yield y c o .transaction t ≡ y .transaction t
       by none p = refl
       by (some s) p = changed-other (y .transaction) s _ t (λ e. some≢none (y .transaction t .closed) q (ap (λ i. y .transaction i .closed) e ∙ S .runs c s p .unshut))
-  stays-closed t n h q (Fork r) = refl
+  stays-closed t n h q (Fork r name) = refl
   stays-closed t n h q (Join a b) = refl
+  stays-closed t n h q (Drop r) = refl
 
   -- the last event of a client is its latest
   pub stays-last : (c l : ℕ) → y .lastEvent c ≡ some l → (s : Step) → ((r : ℕ) (u : Bool) → s ≡ Event c r u → ⊥) → after y s .lastEvent c ≡ some l
@@ -175,8 +183,9 @@ module _ (y : Day) (F : Fine y) where
       by : (o : Option ℕ) → yield y b o .lastEvent c ≡ some l
       by none = q
       by (some t) = q
-  stays-last c l q (Fork r) n = q
+  stays-last c l q (Fork r name) n = q
   stays-last c l q (Join a b) n = q
+  stays-last c l q (Drop r) n = q
 
   -- a transaction that was not closed is closed by its client's yield
   pub closes : (t n : ℕ) → y .transaction t .closed ≡ none → (s : Step) → after y s .transaction t .closed ≡ some n → (c : ℕ) × (s ≡ Yield c) × (y .openBy c ≡ some t) × (n ≡ length (y .diagram))
@@ -190,8 +199,9 @@ module _ (y : Day) (F : Fine y) where
           cases (eqb t k)
           (λ e. let f : some (length (y .diagram)) ≡ some n = rw e at p in let g : n ≡ length (y .diagram) = cc in (c, refl, w ∙ ap some (sym (eqb-true t k e)), g))
           (λ e. absurd (some≢none (y .transaction t .closed) (rw e at p) q))
-  closes t n q (Fork r) p = absurd (some≢none (y .transaction t .closed) p q)
+  closes t n q (Fork r name) p = absurd (some≢none (y .transaction t .closed) p q)
   closes t n q (Join a b) p = absurd (some≢none (y .transaction t .closed) p q)
+  closes t n q (Drop r) p = absurd (some≢none (y .transaction t .closed) p q)
 
   -- an open transaction stays open, or its client's yield closes it
   pub open-or-shut : (c t : ℕ) → y .openBy c ≡ some t → (s : Step) → ((s ≡ Yield c → ⊥) × (after y s .openBy c ≡ some t)) ⊎ (after y s .transaction t .closed ≡ some (length (y .diagram)))

@@ -12,7 +12,7 @@ use borrow.Author.Tests.{eqb-false, eqb-true}
 use Rattle.diagram.proofs.Days.Sound.{some≢none}
 use Rattle.diagram.proofs.Order.Runs.{run-append}
 use Rattle.diagram.specs.Day.{Day, fresh}
-use Rattle.diagram.specs.Steps.{Event, Fork, Join, Step, Yield, after, run, runFrom, yield}
+use Rattle.diagram.specs.Steps.{Drop, Event, Fork, Join, Step, Yield, after, run, runFrom, yield}
 use Rattle.diagram.specs.Witness.{NoEvent, NoYield}
 use Rattle.lists.proofs.Cases.{cases, either}
 use Rattle.lists.proofs.Changed.{changed-other, changed-same}
@@ -44,8 +44,9 @@ last-step y (Yield b) c l p = by (y .openBy b) p
         → ((y .lastEvent c ≡ some l) × NotEvent c (Yield b)) ⊎ ((r : ℕ) × (u : Bool) × (Yield b ≡ Event c r u) × (l ≡ length (y .diagram)))
     by none p = inl (p, λ q w i. let z : _≡_ {A = ℕ} 0 1 = cc in omega arith)
     by (some t) p = inl (p, λ q w i. let z : _≡_ {A = ℕ} 0 1 = cc in omega arith)
-last-step y (Fork r) c l p = inl (p, λ q w i. let z : _≡_ {A = ℕ} 0 1 = cc in omega arith)
+last-step y (Fork r name) c l p = inl (p, λ q w i. let z : _≡_ {A = ℕ} 0 1 = cc in omega arith)
 last-step y (Join a b) c l p = inl (p, λ q w i. let z : _≡_ {A = ℕ} 0 1 = cc in omega arith)
+last-step y (Drop r) c l p = inl (p, λ q w i. let z : _≡_ {A = ℕ} 0 1 = cc in omega arith)
 
 no-event : {c : ℕ} {s : Step} {ss : List Step} → NotEvent c s → NoEvent c ss → NoEvent c (s ∷ ss)
 no-event n m r u i = either (List·Memᴰ·cases-cons i) (λ e. n r u (sym e)) (λ j. m r u j)
@@ -77,8 +78,9 @@ shut-step y (Yield b) c n q = by (y .openBy b)
     by : (o : Option ℕ) → yield y b o .openBy c ≡ none
     by none = q
     by (some t) = cases (eqb c b) (λ e. rw e) (λ e. rw e q)
-shut-step y (Fork r) c n q = q
+shut-step y (Fork r name) c n q = q
 shut-step y (Join a b) c n q = q
+shut-step y (Drop r) c n q = q
 
 shut-on : (ss : List Step) (y : Day) (c : ℕ) → NoEvent c ss → y .openBy c ≡ none → runFrom y ss .openBy c ≡ none
 unfolding runFrom

@@ -1,34 +1,39 @@
 -- The theorem: a step is accepted exactly if it is within the limits and the run that ends with it is lawful.
 use Prim.Native.Nat.{_<_, ℕ}
-use mathlib.Core.Bool.{Bool, _&&_, false, false≢true, not, true}
+use mathlib.Core.Bool.{Bool, _&&_, _||_, false, false≢true, not, true, true≢false}
 use mathlib.Core.Path.{_∙_, _≡_, ap, refl, subst, sym}
+use mathlib.Core.Logic.{_↔_}
 use mathlib.Core.Option.{Option, none, some}
 use mathlib.Core.List.{List, List·Memᴰ, List·Memᴰ·append-cases, List·Memᴰ·eq-of-singleton, List·Memᴰ·head, [], _++_, _∷_, append-assoc}
 use native.Mathlib.Omega.{arith}
 use lib.ListN.{length}
 use lib.Dec.{eqb}
 use borrow.Author.Tests.{eqb-false, eqb-true, ltb-false, ltb-true, not-false, not-true}
-use Rattle.diagram.proofs.Days.Accepting.{accept-event, accept-fork, accept-join, accept-yield, event-tests, ruled-out}
-use Rattle.diagram.proofs.Days.Moves.{can-enter, can-fork, can-join, can-yield}
+use Rattle.diagram.proofs.Days.Accepting.{accept-drop, accept-event, accept-fork, accept-join, accept-yield, event-tests, ruled-out}
+use Rattle.diagram.proofs.Days.Marking.{Marks, in-use, is-marked, named-is, none≢name}
+use Rattle.diagram.proofs.Days.Moves.{can-drop, can-enter, can-fork, can-join, can-yield}
 use Rattle.diagram.proofs.Days.Sound.{same-some}
 use Rattle.diagram.proofs.Graph.Paths.{Ordered, edge-bounds, leads-down, leads-self, one-more, path-leads}
 use Rattle.diagram.proofs.Order.Constructed.{Made, apart, edge-any, joinable-iff, made-run, s-any}
+use Rattle.diagram.proofs.Order.Gone.{dropped-run, gone-run}
 use Rattle.diagram.proofs.Order.Growth.{Fine}
 use Rattle.diagram.proofs.Order.Latest.{Latest, latest, no-yield-since}
-use Rattle.diagram.proofs.Order.Runs.{accepted-first, accepted-more, accepted-rest, fine-run, run-step}
+use Rattle.diagram.proofs.Order.Runs.{accepted-first, accepted-more, accepted-rest, fine-run, marks-run, run-step}
 use Rattle.diagram.proofs.Order.Witness.{has-open, points}
-use Rattle.diagram.specs.Checks.{busy, busyByOther, isElsewhere, isOn, logFull, missing, noneLeft, openElsewhere, stale, unknownClient}
+use Rattle.diagram.specs.Checks.{badName, busy, busyByOther, isElsewhere, isOn, logFull, marked, missing, noneLeft, openElsewhere, stale, unknownClient}
 use Rattle.diagram.specs.Construction.{Constructed, Joinable, entered, forked, joined}
-use Rattle.diagram.specs.Day.{Day, fresh}
+use Rattle.diagram.specs.Day.{Day, IsOut, fresh, isNamed, markNamed}
 use Rattle.diagram.specs.Diagram.{Diagram, Edge, HasPath, Terminal, Vertex, event, fork, join, leads, newest, older, s-sources, start}
-use Rattle.diagram.specs.Lawful.{MayFollow, EachMayFollow, Lawful, Within}
-use Rattle.diagram.specs.Accepted.{RunsExactly, TakenExactly, YieldsLawful}
+use Rattle.diagram.specs.Lawful.{EachMayFollow, GoodName, Lawful, Marked, MayFollow, There, Unmarked, Within}
+use Rattle.diagram.specs.Names.{isSome}
 use Rattle.diagram.specs.Sizes.{clientLimit, revisionLimit, updateLimit}
-use Rattle.diagram.specs.Steps.{Event, Fork, Join, Step, Yield, after, newUpdate, run, runFrom}
-use Rattle.diagram.specs.Accepted.{Accepted, AcceptedFrom, accepted, notGiven}
+use Rattle.diagram.specs.Steps.{Drop, Event, Fork, Join, Step, Yield, after, newUpdate, run, runFrom}
+use Rattle.diagram.specs.Accepted.{Accepted, AcceptedFrom, RunsExactly, TakenExactly, YieldsLawful, accepted, misnamed, notGiven}
 use Rattle.diagram.specs.Witness.{NoEvent, NoYield}
-use Rattle.lists.proofs.Cases.{cases, either}
+use Rattle.lists.proofs.Cases.{cases, either, or-false}
+use Rattle.lists.proofs.Names.{four-letters}
 use Rattle.lists.proofs.Sums.{any-never}
+use Rattle.lists.specs.Names.{FourLetters, Name, fourLetters}
 
 -- Definition 6, read backwards: the newest vertices were put at terminals
 entered-at : {t c : ℕ} {u : Option ℕ} {d : Diagram} → Constructed (event t c u ∷ d) → Terminal d t
@@ -57,6 +62,40 @@ is-client : (c : ℕ) → c < clientLimit → unknownClient c ≡ false
 unfolding unknownClient
 is-client c h = ruled-out (unknownClient c) (λ q. let l = ltb-false _ clientLimit (not-true _ q) in omega arith)
 
+-- 02, U9: the tests of marks and names
+not-marked : (ss : List Step) (r : ℕ) → (marked (run ss) r ≡ false) ↔ Unmarked ss r
+unfolding marked
+not-marked ss r = (is-none (run ss .mark r), λ e. rw e)
+  where
+    is-none : (o : Option Name) → isSome o ≡ false → o ≡ none
+    is-none none e = refl
+    is-none (some n) e = absurd (true≢false e)
+
+pub has-mark : (ss : List Step) (r : ℕ) → marked (run ss) r ≡ true → Marked ss r
+unfolding marked
+has-mark ss r = by (run ss .mark r)
+  where
+    by : (o : Option Name) → isSome o ≡ true → (n : Name) × (o ≡ some n)
+    by none q = absurd (false≢true q)
+    by (some n) q = (n, refl)
+
+good-name : (ss : List Step) → Marks (run ss) → (name : Option Name) → (misnamed (run ss) name ≡ false) ↔ GoodName ss name
+unfolding badName
+good-name ss K none = (λ e n q. absurd (none≢name q), λ g. refl)
+good-name ss K (some n) = (there, back)
+  where
+    y : Day
+    y = run ss
+
+    there : (not (fourLetters n) || isNamed y n) ≡ false → GoodName ss (some n)
+    there e m q =
+        let p = or-false (not (fourLetters n)) _ e in
+        let z : n ≡ m = cc in
+        (subst FourLetters z (four-letters n .0 (not-false _ (p .0))), λ r h. false≢true (sym (p .1) ∙ in-use y K n r (h ∙ ap some (sym z))))
+
+    back : GoodName ss (some n) → (not (fourLetters n) || isNamed y n) ≡ false
+    back g = rw (four-letters n .1 (g n refl .0)) (ruled-out (isNamed y n) (λ q. g n refl .1 (markNamed y n) (named-is y n q)))
+
 -- after a run of accepted steps
 module _ (ss : List Step) (A : Accepted ss) where
   abbrev y : Day
@@ -74,9 +113,16 @@ module _ (ss : List Step) (A : Accepted ss) where
   ordered : Ordered d
   ordered = F .sound .real .linked .ordered
 
-  -- code 4: what is put at a terminal is put at a revision that is out
-  not-joined : (r : ℕ) → Terminal d (y .terminal r) → y .joined r ≡ false
-  not-joined r T = cases (y .joined r) (λ e. let k = M .ended r e in absurd (T .no-j (k .0) (k .1))) (λ e. e)
+  K : Marks y
+  K = marks-run ss A
+
+  -- code 4: what is put at the terminal of a revision that was not dropped is put at one that is out
+  not-joined : (r : ℕ) → There ss r → Terminal d (y .terminal r) → y .joined r ≡ false
+  not-joined r W T = cases (y .joined r) (λ e. either (gone-run ss A r e) (λ k. absurd (T .no-j (k .0) (k .1))) (λ i. absurd (W .1 i))) (λ e. e)
+
+  -- and what is out was not dropped
+  is-there : (r : ℕ) → IsOut y r → There ss r
+  is-there r o = (o .0, λ i. false≢true (sym (o .1) ∙ dropped-run ss A r i))
 
   -- a run one step longer, seen from client c's last event
   split : {c l : ℕ} (K : Latest fresh ss c l) (s : Step) → ss ++ (s ∷ []) ≡ K .before ++ (Event c (K .revision) (K .update) ∷ (K .rest ++ (s ∷ [])))
@@ -195,50 +241,68 @@ module _ (ss : List Step) (A : Accepted ss) where
                 let g : l ≡ y .terminal r = same-some (sym q ∙ F .sound .runs c (t .0) (t .1) .last-is) ∙ follows (t .0) (t .1) in
                 false≢true (sym e ∙ subst (λ z. leads d l z ≡ true) g (leads-self d l low))
 
-    accept-lawful-event : Within y (Event c r u) → accepted y (Event c r u) ≡ true
+    accept-lawful-event : Within ss (Event c r u) → accepted y (Event c r u) ≡ true
     unfolding after
     accept-lawful-event W =
-        accept-event y c r u (is-client c (W .0)) (is-given y r (W .1)) (not-joined r (entered-at (made (Event c r u) L))) (not-elsewhere (W .1)) no-other not-stale (not-full y u (W .2))
+        accept-event y c r u (is-client c (W .0)) (is-given y r (W .1 .0)) (not-joined r (W .1) (entered-at (made (Event c r u) L))) (not-marked ss r .1 (W .2))
+        (not-elsewhere (W .1 .0)) no-other not-stale (not-full y u (W .3))
 
-  accept-lawful-fork : (r : ℕ) → Lawful (ss ++ (Fork r ∷ [])) → Within y (Fork r) → accepted y (Fork r) ≡ true
+  accept-lawful-fork : (r : ℕ) (name : Option Name) → Lawful (ss ++ (Fork r name ∷ [])) → Within ss (Fork r name) → accepted y (Fork r name) ≡ true
   unfolding after noneLeft
-  accept-lawful-fork r L W =
-      accept-fork y r (is-given y r (W .0)) (not-joined r (forked-at (made (Fork r) L)))
-      (not-busy (Fork r) L (λ o q w e. let z : _≡_ {A = ℕ} 0 1 = cc in omega arith) (λ o e. let z : _≡_ {A = ℕ} 0 1 = cc in omega arith) r (λ T. T .no-s (length d) (older (newest refl (List·Memᴰ·head refl)))))
+  accept-lawful-fork r name L W =
+      accept-fork y r name (is-given y r (W .0 .0)) (not-joined r (W .0) (forked-at (made (Fork r name) L)))
+      (not-busy (Fork r name) L (λ o q w e. let z : _≡_ {A = ℕ} 0 1 = cc in omega arith) (λ o e. let z : _≡_ {A = ℕ} 0 1 = cc in omega arith)
+      r (λ T. T .no-s (length d) (older (newest refl (List·Memᴰ·head refl)))))
       (ruled-out (noneLeft y) (λ q. let l = ltb-false _ revisionLimit (not-true _ q) in let k = W .1 in omega arith))
+      (good-name ss K name .1 (W .2))
 
-  accept-lawful-join : (a b : ℕ) → Lawful (ss ++ (Join a b ∷ [])) → Within y (Join a b) → accepted y (Join a b) ≡ true
+  accept-lawful-join : (a b : ℕ) → Lawful (ss ++ (Join a b ∷ [])) → Within ss (Join a b) → accepted y (Join a b) ≡ true
   unfolding after
   accept-lawful-join a b L W =
       let m = joined-at (made (Join a b) L) in
-      let oa = not-joined a (m .0) in
-      let ob = not-joined b (m .1) in
+      let oa = not-joined a (W .0) (m .0) in
+      let ob = not-joined b (W .1) (m .1) in
       let free = not-busy (Join a b) L (λ o q w e. let z : _≡_ {A = ℕ} 0 1 = cc in omega arith) (λ o e. let z : _≡_ {A = ℕ} 0 1 = cc in omega arith) in
-      accept-join y a b (is-given y a (W .0)) (is-given y b (W .1)) oa ob
+      accept-join y a b (is-given y a (W .0 .0)) (is-given y b (W .1 .0)) oa ob (not-marked ss a .1 (W .2)) (not-marked ss b .1 (W .3))
       (free a (λ T. T .no-s (length d) (newest refl (List·Memᴰ·head refl))))
       (free b (λ T. T .no-j (length d) (newest refl (List·Memᴰ·head refl))))
-      (joinable-iff ss A a b (W .0, oa) (W .1, ob) .1 (m .2))
+      (joinable-iff ss A a b (W .0 .0, oa) (W .1 .0, ob) .1 (m .2))
+
+  -- a mark is out
+  accept-lawful-drop : (r : ℕ) → Within ss (Drop r) → accepted y (Drop r) ≡ true
+  accept-lawful-drop r W =
+      let m = is-marked y r (W .0) (W .1) in
+      let o = K .out r m in
+      accept-drop y r (is-given y r (o .0)) (o .1) m
 
   accepts : (s : Step) → MayFollow ss s → accepted y s ≡ true
   accepts (Event c r u) (W, L) = accept-lawful-event c r u L W
   accepts (Yield c) (W, L) = accept-yield y c (is-client c W)
-  accepts (Fork r) (W, L) = accept-lawful-fork r L W
+  accepts (Fork r name) (W, L) = accept-lawful-fork r name L W
   accepts (Join a b) (W, L) = accept-lawful-join a b L W
+  accepts (Drop r) (W, L) = accept-lawful-drop r W
 
   -- and back: an accepted step is within the limits, and its run is lawful
-  within : (s : Step) → accepted y s ≡ true → Within y s
+  within : (s : Step) → accepted y s ≡ true → Within ss s
   unfolding logFull noneLeft
   within (Event c r u) e =
       let E = can-enter y c r u e in
-      (E .client-ok, E .out .0, λ q. let f : logFull y ≡ false = rw q at (event-tests y c r u e .5) in let l = ltb-true _ updateLimit (not-false _ f) in omega arith)
+      let full : (u ≡ true) → y .updates < updateLimit = λ q.
+      let f : logFull y ≡ false = rw q at (event-tests y c r u e .6) in
+      let l = ltb-true _ updateLimit (not-false _ f) in
+      omega arith in
+      (E .client-ok, is-there r (E .out), not-marked ss r .0 (E .unmarked), full)
   within (Yield c) e = can-yield y c e
-  within (Fork r) e = (can-fork y r e .out .0, can-fork y r e .room)
-  within (Join a b) e = let H = can-join y a b e in (H .out-a .0, H .out-b .0)
+  within (Fork r name) e = let C = can-fork y r name e in (is-there r (C .out), C .room, good-name ss K name .0 (C .name-ok))
+  within (Join a b) e =
+      let H = can-join y a b e in
+      (is-there a (H .out-a), is-there b (H .out-b), not-marked ss a .0 (H .unmarked-a), not-marked ss b .0 (H .unmarked-b))
+  within (Drop r) e = has-mark ss r (can-drop y r e .is-mark)
 
   allowed : (s : Step) → accepted y s ≡ true → MayFollow ss s
   allowed s e = let B = accepted-more ss s A e in (within s e, record { constructed = made-run (ss ++ (s ∷ [])) B .constructed; transacted = points (ss ++ (s ∷ [])) B })
 
--- the theorem: a step is accepted exactly if 002's rules and 01's limits allow it
+-- the theorem: a step is accepted exactly if 002's rules and the limits of 01 and 02 allow it
 pub taken-exactly : TakenExactly
 taken-exactly ss A s = (allowed ss A s, accepts ss A s)
 

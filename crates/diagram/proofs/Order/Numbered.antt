@@ -10,7 +10,7 @@ use lib.ListN.{length}
 use lib.Dec.{eqb, ltb}
 use borrow.Author.Tests.{eqb-false, eqb-true, ltb-false, ltb-true}
 use Rattle.blocks.proofs.Joining.{low}
-use Rattle.diagram.proofs.Days.Moves.{Moves, enters, forksAt, joinsInto, yields}
+use Rattle.diagram.proofs.Days.Moves.{Moves, dropsOf, enters, forksAt, joinsInto, yields}
 use Rattle.diagram.proofs.Days.Sound.{some≢none}
 use Rattle.diagram.proofs.Graph.Tables.{numberStep, tabulate-newest, tabulate-older}
 use Rattle.diagram.specs.Arbitration.{IsEvent, Numbered, newest-is, older-is}
@@ -98,8 +98,9 @@ numbered-moves y z N (yields c h) = by (y .openBy c)
     by : (q : Option ℕ) → Numbered (yield y c q .diagram) (yield y c q .updates)
     by none = N
     by (some t) = N
-numbered-moves y z N (forksAt r S) = numbered-quiet (start (length (y .diagram))) (fork (y .terminal r) ∷ y .diagram) (y .updates) refl (numbered-quiet (fork (y .terminal r)) (y .diagram) (y .updates) refl N)
+numbered-moves y z N (forksAt r name S) = numbered-quiet (start (length (y .diagram))) (fork (y .terminal r) ∷ y .diagram) (y .updates) refl (numbered-quiet (fork (y .terminal r)) (y .diagram) (y .updates) refl N)
 numbered-moves y z N (joinsInto a b H) = numbered-quiet (join (y .terminal a) (y .terminal b)) (y .diagram) (y .updates) refl N
+numbered-moves y z N (dropsOf r D) = N
 
 -- so each number is of one vertex
 pub one : {d : Diagram} {n : ℕ} → Numbered d n → (e f k : ℕ) → number d e ≡ some k → number d f ≡ some k → e ≡ f

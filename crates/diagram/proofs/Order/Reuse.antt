@@ -9,10 +9,11 @@ use lib.Dec.{eqb, ltb}
 use borrow.Author.Tests.{eqb-false, ltb-false, ltb-true}
 use Rattle.lists.proofs.Cases.{cases}
 use Rattle.lists.proofs.Changed.{changed-other}
+use Rattle.lists.specs.Names.{Name}
 use Rattle.diagram.specs.Sizes.{revisionLimit}
 use Rattle.diagram.specs.Numbering.{next}
 use Rattle.diagram.specs.Day.{Day, fresh, nextNumber, numberOf, outCount}
-use Rattle.diagram.specs.Steps.{Event, Fork, Join, Step, Yield, after, forkAt, run, runFrom, yield}
+use Rattle.diagram.specs.Steps.{Drop, Event, Fork, Join, Step, Yield, after, forkAt, run, runFrom, yield}
 use Rattle.diagram.specs.Accepted.{Accepted, accepted}
 use Rattle.diagram.specs.Reuse.{Bears, ByNumbers, Takes, Used, longest-ago, never-used, waiting}
 use Rattle.diagram.proofs.Days.Found.{found, found-means, searched}
@@ -22,29 +23,39 @@ use Rattle.diagram.proofs.Days.Sound.{some≢none}
 use Rattle.diagram.proofs.Days.Waiting.{first-waits, waits-from}
 use Rattle.diagram.proofs.Order.Runs.{accepted-first, accepted-rest, named-run, run-append}
 
--- a revision's number stays
-record Stays (y z : Day) : Type 0 where
-  more : y .revisions ≤ z .revisions
-  number : (r : ℕ) → r < y .revisions → numberOf z r ≡ numberOf y r
+-- a revision's number and its start vertex stay
+pub record Stays (y z : Day) : Type 0 where
+  pub more : y .revisions ≤ z .revisions
+  pub number : (r : ℕ) → r < y .revisions → numberOf z r ≡ numberOf y r
+  pub start : (r : ℕ) → r < y .revisions → z .startOf r ≡ y .startOf r
 
-stays-step : (y : Day) (s : Step) → Stays y (after y s)
+pub stays-step : (y : Day) (s : Step) → Stays y (after y s)
 unfolding after
-stays-step y (Event c r u) = record { more = omega arith; number = λ s l. refl }
+stays-step y (Event c r u) = record { more = omega arith; number = λ s l. refl; start = λ s l. refl }
 stays-step y (Yield c) = by (y .openBy c)
   where
     by : (q : Option ℕ) → Stays y (yield y c q)
-    by none = record { more = omega arith; number = λ s l. refl }
-    by (some t) = record { more = omega arith; number = λ s l. refl }
-stays-step y (Fork r) = record { more = omega arith; number = λ s l. changed-other (y .numbering .of) (y .revisions) (next (y .numbering)) s (λ e. omega arith) }
-stays-step y (Join a b) = record { more = omega arith; number = λ s l. refl }
+    by none = record { more = omega arith; number = λ s l. refl; start = λ s l. refl }
+    by (some t) = record { more = omega arith; number = λ s l. refl; start = λ s l. refl }
+stays-step y (Fork r name) = record {
+  more = omega arith;
+  number = λ s l. changed-other (y .numbering .of) (y .revisions) (next (y .numbering)) s (λ e. omega arith);
+  start = λ s l. changed-other (y .startOf) (y .revisions) _ s (λ e. omega arith);
+}
+stays-step y (Join a b) = record { more = omega arith; number = λ s l. refl; start = λ s l. refl }
+stays-step y (Drop r) = record { more = omega arith; number = λ s l. refl; start = λ s l. refl }
 
-stays-from : (ss : List Step) (y : Day) → Stays y (runFrom y ss)
+pub stays-from : (ss : List Step) (y : Day) → Stays y (runFrom y ss)
 unfolding runFrom
-stays-from [] y = record { more = omega arith; number = λ r l. refl }
+stays-from [] y = record { more = omega arith; number = λ r l. refl; start = λ r l. refl }
 stays-from (s ∷ ss) y =
     let a = stays-step y s in
     let b = stays-from ss (after y s) in
-    record { more = (let k = a .more in let m = b .more in omega arith); number = λ r l. b .number r (let k = a .more in omega arith) ∙ a .number r l }
+    record {
+      more = (let k = a .more in let m = b .more in omega arith);
+      number = λ r l. b .number r (let k = a .more in omega arith) ∙ a .number r l;
+      start = λ r l. b .start r (let k = a .more in omega arith) ∙ a .start r l;
+    }
 
 -- a number that was borne has a searched meant
 latest-some : (of : ℕ → ℕ) (n m r : ℕ) → r < m → of r ≡ n → searched of n m ≡ none → ⊥
@@ -71,11 +82,11 @@ module _ (ss : List Step) (A : Accepted ss) where
   used n l = let u = N .used n l in (u .0, meant-low y n (u .0) (u .1), meant-number y n (u .0) (u .1))
 
   -- what a fork takes now
-  pub takes : (r : ℕ) → accepted y (Fork r) ≡ true → Takes ss (nextNumber y)
+  pub takes : (r : ℕ) (name : Option Name) → accepted y (Fork r name) ≡ true → Takes ss (nextNumber y)
   unfolding nextNumber
-  takes r a = cases (ltb (y .numbering .given) revisionLimit)
+  takes r name a = cases (ltb (y .numbering .given) revisionLimit)
       (λ e. let l = ltb-true (y .numbering .given) revisionLimit e in rw e (never-used l (λ u. let k = N .low (u .0) (u .1) in let z = u .2 in omega arith) used))
-      (λ e. let f = first-waits y N r (can-fork y r a) e in let l = ltb-false (y .numbering .given) revisionLimit e in
+      (λ e. let f = first-waits y N r name (can-fork y r name a) e in let l = ltb-false (y .numbering .given) revisionLimit e in
       rw (e, f .2) (longest-ago (λ m k. used m (omega arith)) (f .1) (sym (waits-run ss A) ∙ f .2)))
 
   bears : (n r : ℕ) → found y n ≡ some r → Bears y r n
@@ -97,17 +108,18 @@ module _ (ss : List Step) (A : Accepted ss) where
   few = let a = N .counted in let b = N .few in omega arith
 
 -- each fork of a run
-forked : (ss : List Step) → Accepted ss → (before rest : List Step) (r : ℕ) → ss ≡ before ++ (Fork r ∷ rest) → Takes before (numberOf (run ss) (run before .revisions))
+forked : (ss : List Step) → Accepted ss → (before rest : List Step) (r : ℕ) (name : Option Name)
+    → ss ≡ before ++ (Fork r name ∷ rest) → Takes before (numberOf (run ss) (run before .revisions))
 unfolding runFrom after nextNumber
-forked ss A before rest r q =
-    let B : Accepted (before ++ (Fork r ∷ rest)) = subst Accepted q A in
-    let F = accepted-first before (Fork r ∷ rest) B in
-    let e = accepted-rest before (Fork r ∷ rest) B .0 in
+forked ss A before rest r name q =
+    let B : Accepted (before ++ (Fork r name ∷ rest)) = subst Accepted q A in
+    let F = accepted-first before (Fork r name ∷ rest) B in
+    let e = accepted-rest before (Fork r name ∷ rest) B .0 in
     let n : numberOf (run ss) (run before .revisions) ≡ nextNumber (run before) =
-    ap (λ z. numberOf z (run before .revisions)) (ap run q ∙ run-append before (Fork r ∷ rest))
-    ∙ stays-from rest (forkAt (run before) r) .number (run before .revisions) (omega arith)
-    ∙ number-new (run before) (named-run before F) r (can-fork (run before) r e) in
-    rw n (takes before F r e)
+    ap (λ z. numberOf z (run before .revisions)) (ap run q ∙ run-append before (Fork r name ∷ rest))
+    ∙ stays-from rest (forkAt (run before) r name) .number (run before .revisions) (omega arith)
+    ∙ number-new (run before) (named-run before F) r name (can-fork (run before) r name e) in
+    rw n (takes before F r name e)
 
 pub by-numbers : (ss : List Step) → Accepted ss → ByNumbers ss
 by-numbers ss A = record {

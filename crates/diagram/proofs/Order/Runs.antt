@@ -3,12 +3,13 @@ use Prim.Native.Nat.{ℕ, _<_}
 use mathlib.Core.Bool.{true, false, true≢false}
 use mathlib.Core.Path.{_∙_, _≡_, ap, refl, sym}
 use mathlib.Core.Option.{Option, none, some}
-use mathlib.Core.List.{List, [], _++_, _∷_, append-assoc, append-nil}
+use mathlib.Core.List.{List, List·Memᴰ, List·Memᴰ·head, List·Memᴰ·tail, [], _++_, _∷_, append-assoc, append-nil}
 use native.Mathlib.Omega.{arith}
 use lib.Dec.{eqb}
 use Rattle.lists.proofs.Cases.{cases}
 use Rattle.lists.proofs.Changed.{changed-other}
-use Rattle.diagram.proofs.Days.Moves.{Moves, enters, forksAt, joinsInto, step-moves, yields}
+use Rattle.diagram.proofs.Days.Moves.{Moves, dropsOf, enters, forksAt, joinsInto, step-moves, yields}
+use Rattle.diagram.proofs.Days.Marking.{Marks, marks-fresh, marks-moves}
 use Rattle.diagram.proofs.Days.Naming.{Named, named-fresh, named-moves}
 use Rattle.diagram.proofs.Order.Growth.{Fine, Older, extends, fine-fresh, fine-moves, older-moves, older-trans, same}
 use Rattle.diagram.proofs.Order.Numbered.{numbered-fresh, numbered-moves}
@@ -63,6 +64,13 @@ unfolding runFrom
 along P keep [] y A p = p
 along P keep (s ∷ ss) y A p = along P keep ss (after y s) (A .1) (keep y s (A .0) p)
 
+-- the same of steps that are all in a list
+pub along-in : (P : Day → Type 0) (all : List Step) → ((y : Day) (s : Step) → List·Memᴰ s all → accepted y s ≡ true → P y → P (after y s))
+    → (ss : List Step) → ((s : Step) → List·Memᴰ s ss → List·Memᴰ s all) → (y : Day) → AcceptedFrom y ss → P y → P (runFrom y ss)
+unfolding runFrom
+along-in P all keep [] f y A p = p
+along-in P all keep (s ∷ ss) f y A p = along-in P all keep ss (λ t i. f t (List·Memᴰ·tail i)) (after y s) (A .1) (keep y s (f s (List·Memᴰ·head refl)) (A .0) p)
+
 pub fine-step : (y : Day) (s : Step) → accepted y s ≡ true → Fine y → Fine (after y s)
 fine-step y s e F = fine-moves y (after y s) F (step-moves y s e)
 
@@ -81,6 +89,10 @@ pub named-run : (ss : List Step) → Accepted ss → Named (run ss)
 unfolding run
 named-run ss A = along Named (λ y s e N. named-moves y N (after y s) (step-moves y s e)) ss fresh A named-fresh
 
+pub marks-run : (ss : List Step) → Accepted ss → Marks (run ss)
+unfolding run
+marks-run ss A = along Marks (λ y s e M. marks-moves y M (after y s) (step-moves y s e)) ss fresh A marks-fresh
+
 -- a revision is there for good, and one that is joined stays so
 pub stays-there : (y z : Day) → Moves y z → (r : ℕ) → r < y .revisions → r < z .revisions
 stays-there y z (enters c s u E) r l = l
@@ -89,8 +101,9 @@ stays-there y z (yields c h) r l = by (y .openBy c)
     by : (o : Option ℕ) → r < yield y c o .revisions
     by none = l
     by (some t) = l
-stays-there y z (forksAt s C) r l = omega arith
+stays-there y z (forksAt s name C) r l = omega arith
 stays-there y z (joinsInto a b C) r l = l
+stays-there y z (dropsOf s D) r l = l
 
 stays-joined : (y z : Day) → Moves y z → (r : ℕ) → r < y .revisions → y .joined r ≡ true → z .joined r ≡ true
 stays-joined y z (enters c s u E) r l j = j
@@ -99,10 +112,11 @@ stays-joined y z (yields c h) r l j = by (y .openBy c)
     by : (o : Option ℕ) → yield y c o .joined r ≡ true
     by none = j
     by (some t) = j
-stays-joined y z (forksAt s C) r l j = changed-other (y .joined) (y .revisions) false r (λ e. omega arith) ∙ j
+stays-joined y z (forksAt s name C) r l j = changed-other (y .joined) (y .revisions) false r (λ e. omega arith) ∙ j
 stays-joined y z (joinsInto a b C) r l j = cases (eqb r b) (λ e. rw e) (λ e. rw e j)
+stays-joined y z (dropsOf s D) r l j = cases (eqb r s) (λ e. rw e) (λ e. rw e j)
 
-joined-from : (ss : List Step) (y : Day) → AcceptedFrom y ss → (r : ℕ) → r < y .revisions → y .joined r ≡ true → runFrom y ss .joined r ≡ true
+pub joined-from : (ss : List Step) (y : Day) → AcceptedFrom y ss → (r : ℕ) → r < y .revisions → y .joined r ≡ true → runFrom y ss .joined r ≡ true
 unfolding runFrom
 joined-from [] y A r l j = j
 joined-from (s ∷ ss) y A r l j = let m = step-moves y s (A .0) in joined-from ss (after y s) (A .1) r (stays-there y (after y s) m r l) (stays-joined y (after y s) m r l j)

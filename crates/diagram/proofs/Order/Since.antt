@@ -4,7 +4,7 @@ use Prim.Native.Nat.{_<_, ℕ}
 use mathlib.Core.Bool.{true}
 use mathlib.Core.Path.{_∙_, _≡_, ap, refl, subst, sym}
 use mathlib.Core.Logic.{_↔_}
-use mathlib.Core.Option.{none, some}
+use mathlib.Core.Option.{Option, none, some}
 use mathlib.Core.List.{List, List·Memᴰ, List·Memᴰ·append-cases, List·Memᴰ·head, List·Nodup, Memᴰ·append-right, Nodup·of-append-right, Nodup·sublist, [], _++_, _∷_, append-nil}
 use native.Mathlib.Omega.{arith}
 use lib.ListN.{length}
@@ -28,6 +28,7 @@ use Rattle.diagram.specs.Accepted.{Accepted, accepted}
 use Rattle.lists.proofs.Blocks.{flat-++, flat-from, flat-in}
 use Rattle.lists.proofs.Cases.{either}
 use Rattle.lists.proofs.Changed.{changed-same}
+use Rattle.lists.specs.Names.{Name}
 use Rattle.lists.proofs.Sublists.{nodup-apart}
 use Rattle.lists.specs.Lists.{_∈_, changed}
 
@@ -157,11 +158,11 @@ join-gains ss A a b e =
     (ap (view _) (changed-same (run ss .terminal) a _) ∙ tabulate-newest viewStep [] (join (run ss .terminal a) (run ss .terminal b)) (run ss .diagram))
 
 -- a new revision shows what the forked one shows
-pub fork-shows : (ss : List Step) → Accepted ss → (r : ℕ) → accepted (run ss) (Fork r) ≡ true
-    → SeenSince (run ss .diagram) (run ss .terminal r) (after (run ss) (Fork r) .diagram) (after (run ss) (Fork r) .terminal (run ss .revisions)) []
+pub fork-shows : (ss : List Step) → Accepted ss → (r : ℕ) (name : Option Name) → accepted (run ss) (Fork r name) ≡ true
+    → SeenSince (run ss .diagram) (run ss .terminal r) (after (run ss) (Fork r name) .diagram) (after (run ss) (Fork r name) .terminal (run ss .revisions)) []
 unfolding after
-fork-shows ss A r e =
-    since-step ss A (Fork r) e r (run ss .revisions) []
+fork-shows ss A r name e =
+    since-step ss A (Fork r name) e r (run ss .revisions) []
     (ap (view _) (changed-same (changed (run ss .terminal) r (length d)) (run ss .revisions) _) ∙ tabulate-newest viewStep [] (start (length d)) (fv ∷ d) ∙ tabulate-newest viewStep [] fv d ∙ sym (append-nil _))
   where
     d : Diagram

@@ -38,6 +38,7 @@ module _ (y : Day) (m : Machine) (k : Cells) (h : Represents y m k) where
     freed-is = h .freed-is;
     queue-places = h .queue-places;
     state-is = h .state-is;
+    name-is = h .name-is;
     own-is = h .own-is;
     first-is = h .first-is;
     inherited-is = h .inherited-is;
@@ -64,6 +65,7 @@ module _ (y : Day) (m : Machine) (k : Cells) (h : Represents y m k) where
     freed-is = h .freed-is;
     queue-places = h .queue-places;
     state-is = h .state-is;
+    name-is = h .name-is;
     own-is = h .own-is;
     first-is = h .first-is;
     inherited-is = h .inherited-is;
@@ -95,6 +97,7 @@ module _ (y : Day) (m : Machine) (k : Cells) (h : Represents y m k) where
       freed-is = h .freed-is;
       queue-places = h .queue-places;
       state-is = h .state-is;
+      name-is = h .name-is;
       own-is = λ x j. h .own-is x j ∙ sym (grown-none (m .own) r x);
       first-is = λ x j f l e. h .first-is x j f l (sym (grown-none (m .own) r x) ∙ e);
       inherited-is = λ x j u. rw (grown-none (m .own) r main) (h .inherited-is x j u);
@@ -143,6 +146,7 @@ module _ (y : Day) (m : Machine) (k : Cells) (h : Represents y m k) where
         freed-is = h .freed-is;
         queue-places = h .queue-places;
         state-is = h .state-is;
+        name-is = h .name-is;
         own-is = update-own;
         first-is = update-first;
         inherited-is = λ x j u. rw (grown-take (m .own) r (m .updates ∷ []) (k .base (numberOf y x)) main (h .base-few x j)) (h .inherited-is x j u);

@@ -9,29 +9,57 @@ use lib.Dec.{eqb, ltb}
 use lib.ListN.{length, take}
 use lib.Seq.{length-take-le, take-all}
 use borrow.Author.Tests.{eq-eqb, eqb-false, eqb-true, ltb-false, ltb-true, ne-eqb}
-use Rattle.lists.specs.Lists.{_∈_, named}
+use Rattle.lists.specs.Lists.{_∈_, changed, named}
 use Rattle.lists.specs.Arranged.{insertBefore, member}
+use Rattle.lists.specs.Names.{Name}
 use Rattle.lists.proofs.Cases.{cases, either, or-cases, or-right}
+use Rattle.lists.proofs.Changed.{changed-other, changed-same}
 use Rattle.lists.proofs.Keep.{member-++, member-in}
 use Rattle.lists.proofs.Places.{insert-back, insert-old}
 use Rattle.lists.proofs.Renamed.{named-in, named-insert, named-same}
 use Rattle.diagram.specs.Sizes.{revisionLimit}
 use Rattle.diagram.specs.Numbering.{next}
+use Rattle.diagram.specs.Names.{isSome}
 use Rattle.diagram.specs.Day.{Day, numberOf}
 use Rattle.diagram.proofs.Days.Found.{found}
 use Rattle.diagram.specs.Steps.{forkAt}
 use Rattle.diagram.proofs.Days.Moves.{CanFork}
+use Rattle.diagram.proofs.Days.Marking.{is-marked, none≢name}
 use Rattle.diagram.proofs.Days.Naming.{fork-count, meant-low, meant-new, meant-old, next-apart, number-new, number-old}
 use Rattle.machine.specs.Machine.{Machine, forkOn}
-use Rattle.cells.specs.Sizes.{clients, main, revisions, updates}
+use Rattle.cells.specs.Sizes.{clients, main, revisions, stateMarked, stateOut, updates}
 use Rattle.cells.specs.Cells.{Cells, chain, freed, flagged, nextNumber, own}
 use Rattle.cells.specs.CellSteps.{forkCells, forkGiven, forkRow}
 use Rattle.cells.proofs.Places.{fork-freed, fork-freed-first, fork-outs, insert-length, shift-length}
 use Rattle.cells.proofs.Follow.{bounded}
+use Rattle.following.specs.Reached.{branchCells}
 use Rattle.following.proofs.Cells.Laid.{Laid, apart, same-number}
 use Rattle.following.proofs.Cells.Represents.{Represents, count-main, given-few, number-is, openCell, stateCell}
 
-module _ (y : Day) (m : Machine) (k : Cells) (h : Represents y m k) (L : Laid y m) (p : ℕ) (i : p ∈ m .layout) (C : CanFork y p) where
+-- cells with other states and names
+abbrev withNames : Cells → (ℕ → ℕ) → (ℕ → Name) → Cells
+withNames k state names = record {
+  state = state;
+  used = k .used;
+  last = k .last;
+  first = k .first;
+  count = k .count;
+  base = k .base;
+  row = k .row;
+  link = k .link;
+  seen = k .seen;
+  caught = k .caught;
+  layout = k .layout;
+  out = k .out;
+  queue = k .queue;
+  opened = k .opened;
+  updates = k .updates;
+  given = k .given;
+  name = names;
+  single = k .single;
+}
+
+module _ (y : Day) (m : Machine) (k : Cells) (h : Represents y m k) (L : Laid y m) (p : ℕ) (i : p ∈ m .layout) (name : Option Name) (C : CanFork y p name) where
   abbrev c : ℕ
   c = next (y .numbering)
 
@@ -48,7 +76,7 @@ module _ (y : Day) (m : Machine) (k : Cells) (h : Represents y m k) (L : Laid y 
   m′ = forkOn m p
 
   abbrev y′ : Day
-  y′ = forkAt y p
+  y′ = forkAt y p name
 
   room : k .out < revisions
   unfolding revisionLimit
@@ -62,13 +90,13 @@ module _ (y : Day) (m : Machine) (k : Cells) (h : Represents y m k) (L : Laid y 
   not-new x j e = let l = L .out x j .0 in let s = L .same-revisions in omega arith
 
   new-of : (x : ℕ) → eqb x R ≡ true → numberOf y′ x ≡ c
-  new-of x e = ap (numberOf y′) (eqb-true x R e ∙ L .same-revisions) ∙ number-new y (L .named) p C
+  new-of x e = ap (numberOf y′) (eqb-true x R e ∙ L .same-revisions) ∙ number-new y (L .named) p name C
 
   old-of : (x : ℕ) → x ∈ m .layout → numberOf y′ x ≡ numberOf y x
-  old-of x j = number-old y (L .named) p C x (L .out x j .0)
+  old-of x j = number-old y (L .named) p name C x (L .out x j .0)
 
   old-test : (x : ℕ) → x ∈ m .layout → eqb (numberOf y x) c ≡ false
-  old-test x j = ne-eqb (numberOf y x) c (next-apart y (L .named) p C x (L .out x j))
+  old-test x j = ne-eqb (numberOf y x) c (next-apart y (L .named) p name C x (L .out x j))
 
   main-of : numberOf y′ main ≡ main
   main-of = old-of main (h .main-out) ∙ h .main-number
@@ -87,15 +115,23 @@ module _ (y : Day) (m : Machine) (k : Cells) (h : Represents y m k) (L : Laid y 
       ∙ ap (λ z. insertBefore (numberOf y′ p) z (named (numberOf y′) (m .layout))) (sym (new-of R (eq-eqb R R refl)))
       ∙ sym (named-insert (numberOf y′) p R (m .layout) (λ x j e. apart y m L x p j i (sym (old-of x j) ∙ e ∙ old-of p i)))
 
-  old-state : (q : Option ℕ) → ((r : ℕ) → q ≡ some r → r < y .revisions) → stateCell (y .joined) q ≡ stateCell (y′ .joined) q
+  old-state : (q : Option ℕ) → ((r : ℕ) → q ≡ some r → r < y .revisions) → stateCell (y .joined) (y .mark) q ≡ stateCell (y′ .joined) (y′ .mark) q
   old-state none l = refl
   old-state (some r) l = let b = l r refl in rw (ne-eqb r (y .revisions) (λ e. omega arith))
 
-  fork-state : (x : ℕ) → k′ .state x ≡ stateCell (y′ .joined) (found y′ x)
-  fork-state x =
+  fork-state : (v : ℕ) → v ≡ cond (isSome name) stateMarked stateOut → (x : ℕ) → changed (k .state) c v x ≡ stateCell (y′ .joined) (y′ .mark) (found y′ x)
+  fork-state v z x =
       cases (eqb x c)
-      (λ e. rw (e, eqb-true x c e, meant-new y (L .named) p C, eq-eqb (y .revisions) (y .revisions) refl))
-      (λ e. rw (e, meant-old y (L .named) p C x (eqb-false x c e)) (h .state-is x ∙ old-state (found y x) (meant-low y x)))
+      (λ e. rw (e, eqb-true x c e, meant-new y (L .named) p name C, eq-eqb (y .revisions) (y .revisions) refl) z)
+      (λ e. rw (e, meant-old y (L .named) p name C x (eqb-false x c e)) (h .state-is x ∙ old-state (found y x) (meant-low y x)))
+
+  -- the new mark has its name, an older one keeps it
+  fork-names : (names : ℕ → Name) → ((w : Name) → name ≡ some w → names c ≡ w) → ((x : ℕ) → (x ≡ c → ⊥) → names x ≡ k .name x)
+      → (r : ℕ) (w : Name) → y′ .mark r ≡ some w → names (numberOf y′ r) ≡ w
+  fork-names names new kept r w =
+      cases (eqb r (y .revisions))
+      (λ e. rw e (new w))
+      (λ e. rw e (λ q. let o = L .marks .out r (is-marked y r w q) in kept (numberOf y r) (next-apart y (L .named) p name C r o) ∙ h .name-is r w q))
 
   fork-own : (x : ℕ) → x ∈ m′ .layout → own k′ (numberOf y′ x) ≡ m′ .own x
   unfolding chain
@@ -194,17 +230,19 @@ module _ (y : Day) (m : Machine) (k : Cells) (h : Represents y m k) (L : Laid y 
   unfolding revisionLimit
   fork-given = rw (h .given-is)
 
-  forks-next : Represents y′ m′ k′
-  forks-next = record {
+  branches : (state : ℕ → ℕ) (names : ℕ → Name) → ((x : ℕ) → state x ≡ stateCell (y′ .joined) (y′ .mark) (found y′ x))
+      → ((r : ℕ) (w : Name) → y′ .mark r ≡ some w → names (numberOf y′ r) ≡ w) → Represents y′ m′ (withNames k′ state names)
+  branches state names states named-so = record {
     layout-is = fork-layout;
     places = let a = h .places in let b = insert-length n c (k .layout) in length-take-le revisions (insertBefore n c (k .layout)) (omega arith);
-    out-is = ap suc (h .out-is) ∙ sym (fork-count y (L .named) p C);
+    out-is = ap suc (h .out-is) ∙ sym (fork-count y (L .named) p name C);
     main-out = insert-old p R main (m .layout) (h .main-out);
     main-number = main-of;
     given-is = fork-given;
     freed-is = fork-freed-is;
     queue-places = fork-queue;
-    state-is = fork-state;
+    state-is = states;
+    name-is = named-so;
     own-is = fork-own;
     first-is = fork-first;
     inherited-is = fork-inherited;
@@ -217,5 +255,18 @@ module _ (y : Day) (m : Machine) (k : Cells) (h : Represents y m k) (L : Laid y 
     updates-few = h .updates-few;
   }
 
-  pub forks : Represents y′ m′ (forkCells k n (nextNumber k))
-  forks = subst (λ z. Represents y′ m′ (forkCells k n z)) (sym (number-is y m k h L (C .room))) forks-next
+module _ (y : Day) (m : Machine) (k : Cells) (h : Represents y m k) (L : Laid y m) (p : ℕ) (i : p ∈ m .layout) where
+  abbrev to : ℕ
+  to = next (y .numbering)
+
+  next-branch : (name : Option Name) → CanFork y p name → Represents (forkAt y p name) (forkOn m p) (branchCells k (numberOf y p) to name)
+  next-branch none C =
+      branches y m k h L p i none C (changed (k .state) to stateOut) (k .name) (fork-state y m k h L p i none C stateOut refl)
+      (fork-names y m k h L p i none C (k .name) (λ w e. absurd (none≢name e)) (λ x d. refl))
+  next-branch (some w) C =
+      branches y m k h L p i (some w) C (changed (k .state) to stateMarked) (changed (k .name) to w) (fork-state y m k h L p i (some w) C stateMarked refl)
+      (fork-names y m k h L p i (some w) C (changed (k .name) to w) (λ v e. let z : w ≡ v = cc in changed-same (k .name) to w ∙ z) (changed-other (k .name) to w))
+
+  pub forks : (name : Option Name) → CanFork y p name → Represents (forkAt y p name) (forkOn m p) (branchCells k (numberOf y p) (nextNumber k) name)
+  forks name C =
+      subst (λ z. Represents (forkAt y p name) (forkOn m p) (branchCells k (numberOf y p) z name)) (sym (number-is y m k h L (C .room))) (next-branch name C)

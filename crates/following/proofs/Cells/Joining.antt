@@ -1,36 +1,32 @@
 -- A join: the cells follow.
-use Prim.Native.Nat.{_+_, _-_, _≤_, _<_, suc, zero, ℕ}
+use Prim.Native.Nat.{_+_, _≤_, _<_, suc, zero, ℕ}
 use mathlib.Core.Path.{_∙_, _≡_, ap, refl, sym}
-use mathlib.Core.Option.{Option, none, some}
 use mathlib.Core.List.{List, List·Memᴰ·head, List·Nodup, Memᴰ·cast, [], _++_, _∷_, append-nil}
 use native.Mathlib.Nat.{add-zero}
 use native.Mathlib.Omega.{arith}
 use lib.Dec.{eqb}
-use lib.ListN.{length, length-append, length-set}
-use lib.Seq.{length-take-le}
-use borrow.Author.Tests.{eq-eqb, eqb-false, eqb-true, ne-eqb}
-use Rattle.lists.specs.Lists.{_∈_, named}
-use Rattle.lists.specs.Arranged.{remove}
+use lib.ListN.{length, length-append}
+use borrow.Author.Tests.{eq-eqb, eqb-true, ne-eqb}
+use Rattle.lists.specs.Lists.{_∈_}
 use Rattle.lists.proofs.Blocks.{flatBack-nodup, flatBack-one}
 use Rattle.lists.proofs.Cases.{cases}
 use Rattle.lists.proofs.Changed.{changed-same}
 use Rattle.lists.proofs.Grown.{first-append, grown-longer, grown-take}
 use Rattle.lists.proofs.Places.{remove-back, remove-gone, remove-keep}
-use Rattle.lists.proofs.Renamed.{named-in, named-remove}
 use Rattle.diagram.specs.Day.{Day, numberOf}
 use Rattle.diagram.proofs.Days.Found.{found}
 use Rattle.diagram.specs.Steps.{joinInto}
 use Rattle.diagram.proofs.Days.Moves.{CanJoin}
-use Rattle.diagram.proofs.Days.Naming.{join-count, meant-number}
+use Rattle.diagram.proofs.Days.Naming.{join-count}
 use Rattle.machine.specs.Machine.{Machine, joinOn}
-use Rattle.cells.specs.Sizes.{clients, main, revisions, updates}
-use Rattle.cells.specs.Cells.{Cells, chain, outs, own}
+use Rattle.cells.specs.Sizes.{clients, main, updates}
+use Rattle.cells.specs.Cells.{Cells, chain, own}
 use Rattle.cells.specs.CellSteps.{counted, joinCells}
 use Rattle.cells.proofs.Chain.{chain-first, kept-chain, splice, walk}
-use Rattle.cells.proofs.Places.{join-freed, join-outs, remove-length, two-out}
-use Rattle.cells.proofs.Stops.{counted-is, fewer-is}
-use Rattle.following.proofs.Cells.Laid.{Laid, apart, own-few, same-number}
-use Rattle.following.proofs.Cells.Represents.{Represents, all-given, count-is, given-few, stateCell}
+use Rattle.cells.proofs.Stops.{counted-is}
+use Rattle.following.proofs.Cells.Laid.{Laid, own-few, same-number}
+use Rattle.following.proofs.Cells.Leaving.{leave-freed, leave-layout, leave-main, leave-out, leave-places, leave-queue, leave-state}
+use Rattle.following.proofs.Cells.Represents.{Represents, count-is}
 
 module _ (y : Day) (m : Machine) (k : Cells) (h : Represents y m k) (L : Laid y m) (a b : ℕ) (i : a ∈ m .layout) (j : b ∈ m .layout) (H : CanJoin y a b) (L′ : Laid (joinInto y a b) (joinOn m a b)) where
   abbrev na : ℕ
@@ -54,13 +50,7 @@ module _ (y : Day) (m : Machine) (k : Cells) (h : Represents y m k) (L : Laid y 
   not-b : (x : ℕ) → x ∈ m′ .layout → x ≡ b → ⊥
   not-b x o e = remove-gone b (m .layout) (L .lone) (Memᴰ·cast (sym e) o)
 
-  -- the counts do not stop: both are out, and no list is longer than the log
-  two : 1 < k .out
-  two = two-out k na nb (there a i) (there b j) (λ e. H .not-self (sym (apart y m L a b i j e)))
-    where
-      there : (x : ℕ) → x ∈ m .layout → numberOf y x ∈ outs k
-      there x o = rw (h .layout-is) (named-in (numberOf y) (m .layout) x o)
-
+  -- the count does not stop: no list is longer than the log
   sum-is : counted (k .count na + k .count nb) ≡ k .count na + k .count nb
   sum-is = counted-is (k .count na + k .count nb) few
     where
@@ -69,25 +59,6 @@ module _ (y : Day) (m : Machine) (k : Cells) (h : Represents y m k) (L : Laid y 
           let l = own-few y′ m′ L′ a (remove-keep b a (m .layout) (λ q. H .not-self (sym q)) i) in
           let e = ap length (changed-same (m .own) a (m .own a ++ m .own b)) ∙ length-append (m .own a) (m .own b) in
           omega (arith, l, e, count-is y m k h a i, count-is y m k h b j, h .updates-is, h .updates-few)
-
-  join-layout : outs k′ ≡ named (numberOf y) (remove b (m .layout))
-  join-layout =
-      let o = all-given y m k h L in
-      let g = given-few y m k h L in
-      join-outs k na nb (h .places) two (omega arith) (rw (h .layout-is) (named-in (numberOf y) (m .layout) b j)) ∙ ap (remove nb) (h .layout-is)
-      ∙ sym (named-remove (numberOf y) b (m .layout) (λ x o. apart y m L x b o j))
-
-  -- a number that means another revision than b keeps its state
-  other-state : (q : Option ℕ) → (q ≡ some b → ⊥) → stateCell (y .joined) q ≡ stateCell (y′ .joined) q
-  other-state none d = refl
-  other-state (some r) d = rw (ne-eqb r b (λ e. d (ap (λ z. some z) e)))
-
-  join-state : (n : ℕ) → k′ .state n ≡ stateCell (y′ .joined) (found y′ n)
-  unfolding found
-  join-state n =
-      cases (eqb n nb)
-      (λ e. rw (e, eqb-true n nb e, L .named .means b (L .out b j), eq-eqb b b refl))
-      (λ e. rw e (h .state-is n ∙ other-state (found y n) (λ q. eqb-false n nb e (sym (meant-number y n b q)))))
 
   b-none : k .count nb ≡ 0 → m .own b ≡ []
   unfolding chain
@@ -156,29 +127,25 @@ module _ (y : Day) (m : Machine) (k : Cells) (h : Represents y m k) (L : Laid y 
 
   pub joins : Represents y′ m′ k′
   unfolding found
-  joins =
-      let given = all-given y m k h L in
-      let few = given-few y m k h L in
-      let count = join-count y (L .named) a b H in
-      let out = h .out-is in
-      record {
-        layout-is = join-layout;
-        places = let p = h .places in let q = remove-length nb (k .layout) in length-take-le revisions (remove nb (k .layout) ++ (0 ∷ [])) (omega arith);
-        out-is = fewer-is (k .out) two ∙ omega arith;
-        main-out = remove-keep b main (m .layout) (λ e. H .not-main (sym e)) (h .main-out);
-        main-number = h .main-number;
-        given-is = h .given-is;
-        freed-is = join-freed k na nb (h .queue-places) two given few ∙ ap (λ l. l ++ (nb ∷ [])) (h .freed-is);
-        queue-places = length-set (k .queue) (k .given - k .out) nb ∙ h .queue-places;
-        state-is = join-state;
-        own-is = join-own;
-        first-is = join-first;
-        inherited-is = λ x o u. rw (grown-take (m .own) a (m .own b) (k .base (numberOf y x)) main (h .base-few x (was x o))) (h .inherited-is x (was x o) u);
-        base-few = λ x o. let p = h .base-few x (was x o) in let q = grown-longer (m .own) a (m .own b) main in omega arith;
-        main-inherits = h .main-inherits;
-        seen-is = join-seen;
-        caught-is = join-caught;
-        opened-is = h .opened-is;
-        updates-is = h .updates-is;
-        updates-few = h .updates-few;
-      }
+  joins = record {
+    layout-is = leave-layout y m k h L b j (H .not-main);
+    places = leave-places y m k h L b j (H .not-main);
+    out-is = leave-out y m k h L b j (H .not-main) _ (join-count y (L .named) a b H);
+    main-out = leave-main y m k h L b j (H .not-main);
+    main-number = h .main-number;
+    given-is = h .given-is;
+    freed-is = leave-freed y m k h L b j (H .not-main);
+    queue-places = leave-queue y m k h L b j (H .not-main);
+    state-is = leave-state y m k h L b j (H .not-main) (y .mark) (λ r n. refl);
+    name-is = h .name-is;
+    own-is = join-own;
+    first-is = join-first;
+    inherited-is = λ x o u. rw (grown-take (m .own) a (m .own b) (k .base (numberOf y x)) main (h .base-few x (was x o))) (h .inherited-is x (was x o) u);
+    base-few = λ x o. let p = h .base-few x (was x o) in let q = grown-longer (m .own) a (m .own b) main in omega arith;
+    main-inherits = h .main-inherits;
+    seen-is = join-seen;
+    caught-is = join-caught;
+    opened-is = h .opened-is;
+    updates-is = h .updates-is;
+    updates-few = h .updates-few;
+  }

@@ -2,22 +2,26 @@
 use Prim.Native.Nat.{_<_, ℕ}
 use mathlib.Core.Bool.{Bool, false, not, true}
 use mathlib.Core.Path.{_∙_, _≡_, refl, sym}
+use mathlib.Core.Option.{Option}
 use mathlib.Core.List.{List, List·Memᴰ·head, [], _++_, _∷_}
 use native.Mathlib.Omega.{arith}
 use lib.Dec.{eqb}
 use lib.ListN.{length-replicate}
 use borrow.Author.Tests.{eqb-false, eqb-true, lt-ltb, ltb-true, ne-eqb, not-false, not-true}
 use Rattle.lists.specs.Lists.{_∈_}
+use Rattle.lists.specs.Names.{Name}
 use Rattle.lists.proofs.Cases.{and-true, cases}
 use Rattle.diagram.specs.Sizes.{revisionLimit, updateLimit}
 use Rattle.diagram.specs.Numbering.{next}
 use Rattle.diagram.specs.Day.{Day, IsOut, fresh, numberOf}
 use Rattle.diagram.proofs.Days.Found.{found}
-use Rattle.diagram.specs.Checks.{busyByOther, logFull, openElsewhere, stale, unknownClient}
+use Rattle.diagram.specs.Checks.{busyByOther, logFull, marked, openElsewhere, stale, unknownClient}
 use Rattle.machine.specs.Machine.{Machine, freshMachine, machineAfter}
-use Rattle.diagram.specs.Steps.{Event, Fork, Join, Step, Yield, after}
+use Rattle.diagram.specs.Steps.{Drop, Event, Fork, Join, Step, Yield, after}
 use Rattle.diagram.specs.Accepted.{accepted, noneOf, notGiven}
-use Rattle.diagram.proofs.Days.Moves.{CanFork, can-enter, can-fork, can-join, step-moves}
+use Rattle.diagram.proofs.Days.Dropping as Drops
+use Rattle.diagram.proofs.Days.Moves.{CanDrop, CanFork, can-drop, can-enter, can-fork, can-join, step-moves}
+use Rattle.diagram.proofs.Days.Marking.{Marks, marks-fresh, marks-moves, none≢name}
 use Rattle.diagram.proofs.Days.Naming.{Named, named-fresh, named-moves, next-apart, next-given}
 use Rattle.machine.proofs.Follow.Agrees.{Agree, agree-fresh}
 use Rattle.machine.proofs.Follow.Shown.{agree-after, follows}
@@ -25,6 +29,7 @@ use Rattle.cells.specs.Sizes.{clients, main, revisions, updates}
 use Rattle.cells.specs.Cells.{Cells, chain, nextNumber}
 use Rattle.cells.specs.CellSteps.{freshCells}
 use Rattle.following.specs.Reached.{byNumber, stepCells}
+use Rattle.following.proofs.Cells.Dropping.{drops}
 use Rattle.following.proofs.Cells.Entering.{queries, updates-on, yields}
 use Rattle.following.proofs.Cells.Forking.{forks}
 use Rattle.following.proofs.Cells.Joining.{joins}
@@ -34,6 +39,7 @@ use Rattle.following.proofs.Cells.Represents.{Represents, number-is, ou
 pub record Kept (y : Day) (m : Machine) (k : Cells) : Type 0 where
   pub agree : Agree y m
   pub named : Named y
+  pub marks : Marks y
   pub represents : Represents y m k
 
 fresh-represents : (single : Bool) → Represents fresh freshMachine (freshCells single)
@@ -48,6 +54,7 @@ fresh-represents single = record {
   freed-is = refl;
   queue-places = length-replicate {A = ℕ} revisions 1;
   state-is = λ r. cases (eqb r main) (λ e. rw (e, eqb-true r main e)) (λ e. let d = eqb-false r main e in rw (e, ne-eqb main r (λ q. d (sym q))));
+  name-is = λ r n e. absurd (none≢name e);
   own-is = λ r i. refl;
   first-is = λ r i f l e. cc;
   inherited-is = λ r i u. refl;
@@ -61,7 +68,7 @@ fresh-represents single = record {
 }
 
 pub fresh-kept : (single : Bool) → Kept fresh freshMachine (freshCells single)
-fresh-kept single = record { agree = agree-fresh; named = named-fresh; represents = fresh-represents single }
+fresh-kept single = record { agree = agree-fresh; named = named-fresh; marks = marks-fresh; represents = fresh-represents single }
 
 -- where no check has found anything, the last has not
 last-quiet : (bs : List Bool) (b : Bool) → noneOf (bs ++ (b ∷ [])) ≡ true → b ≡ false
@@ -76,7 +83,7 @@ module _ (y : Day) (m : Machine) (k : Cells) (K : Kept y m k) where
   h = K .represents
 
   abbrev L : Laid y m
-  L = laid y m A (K .named)
+  L = laid y m A (K .named) (K .marks)
 
   there : (r : ℕ) → IsOut y r → r ∈ m .layout
   there r o = follows y m A .laid r o
@@ -94,33 +101,39 @@ module _ (y : Day) (m : Machine) (k : Cells) (K : Kept y m k) where
   pub log-room : (c r : ℕ) → accepted y (Event c r true) ≡ true → k .updates < updates
   unfolding accepted logFull updateLimit
   log-room c r e =
-      let room = last-quiet (unknownClient c ∷ notGiven y r ∷ y .joined r ∷ openElsewhere y c r ∷ busyByOther y c r ∷ stale y c r ∷ []) (logFull y) e in
+      let others = unknownClient c ∷ notGiven y r ∷ y .joined r ∷ marked y r ∷ openElsewhere y c r ∷ busyByOther y c r ∷ stale y c r ∷ [] in
+      let room = last-quiet others (logFull y) e in
       rw (h .updates-is, A .same-updates) (ltb-true (y .updates) updates (not-false _ room))
 
-  module _ (r : ℕ) (e : accepted y (Fork r) ≡ true) where
-    abbrev C : CanFork y r
-    C = can-fork y r e
+  module _ (r : ℕ) (name : Option Name) (e : accepted y (Fork r name) ≡ true) where
+    abbrev C : CanFork y r name
+    C = can-fork y r name e
 
     pub next-is : nextNumber k ≡ next (y .numbering)
     next-is = number-is y m k h L (C .room)
 
     pub next-low : nextNumber k < revisions
     unfolding revisionLimit
-    next-low = let a = next-given y (K .named) r C in let q = next-is in omega arith
+    next-low = let a = next-given y (K .named) r name C in let q = next-is in omega arith
 
     pub next-some : nextNumber k ≡ 0 → ⊥
-    next-some z = next-apart y (K .named) r C main (L .out main (h .main-out)) (h .main-number ∙ sym z ∙ next-is)
+    next-some z = next-apart y (K .named) r name C main (L .out main (h .main-out)) (h .main-number ∙ sym z ∙ next-is)
+
+  pub mark-not-main : (r : ℕ) → CanDrop y r → r ≡ main → ⊥
+  mark-not-main r D = let F = A .flagged .fine in Drops.not-main y (F .layout) (F .hold) (F .sound) r (D .is-mark)
 
   represents-after : (s : Step) → accepted y s ≡ true → Laid (after y s) (machineAfter m s) → Represents (after y s) (machineAfter m s) (stepCells k (byNumber y s))
   unfolding stepCells machineAfter after
   represents-after (Event c r true) e L′ = updates-on y m k h L c r (there r (can-enter y c r true e .out)) (log-room c r e)
   represents-after (Event c r false) e L′ = queries y m k h L c r (there r (can-enter y c r false e .out))
   represents-after (Yield c) e L′ = yields y m k h c (y .openBy c)
-  represents-after (Fork r) e L′ = forks y m k h L r (there r (can-fork y r e .out)) (can-fork y r e)
+  represents-after (Fork r name) e L′ = let C = can-fork y r name e in forks y m k h L r (there r (C .out)) name C
   represents-after (Join a b) e L′ = let j = can-join y a b e in joins y m k h L a b (there a (j .out-a)) (there b (j .out-b)) j L′
+  represents-after (Drop r) e L′ = let D = can-drop y r e in drops y m k h L r (there r (D .out)) D (mark-not-main r D)
 
   pub kept-after : (s : Step) → accepted y s ≡ true → Kept (after y s) (machineAfter m s) (stepCells k (byNumber y s))
   kept-after s e =
       let A′ = agree-after y m s e A in
       let N′ = named-moves y (K .named) (after y s) (step-moves y s e) in
-      record { agree = A′; named = N′; represents = represents-after s e (laid (after y s) (machineAfter m s) A′ N′) }
+      let M′ = marks-moves y (K .marks) (after y s) (step-moves y s e) in
+      record { agree = A′; named = N′; marks = M′; represents = represents-after s e (laid (after y s) (machineAfter m s) A′ N′ M′) }

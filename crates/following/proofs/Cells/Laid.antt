@@ -1,6 +1,7 @@
 -- What the layout machine's lists are on a day: nothing stands twice, and every number is one that was given.
 -- Only here is what `diagram` proves of its layout taken apart.
 use Prim.Native.Nat.{_<_, _≤_, ℕ}
+use mathlib.Core.Bool.{false}
 use mathlib.Core.Path.{_∙_, _≡_, refl, subst, sym}
 use mathlib.Core.Option.{Option, none, some}
 use native.Mathlib.Omega.{arith}
@@ -14,11 +15,13 @@ use Rattle.lists.proofs.Counts.{few-below}
 use Rattle.lists.proofs.Renamed.{named-test}
 use Rattle.blocks.specs.Blocks.{blocks}
 use Rattle.diagram.specs.Day.{Day, IsOut, numberOf}
+use Rattle.diagram.specs.Checks.{marked}
 use Rattle.diagram.specs.Diagram.{Diagram}
 use Rattle.diagram.specs.Effects.{entry, number, numbers}
 use Rattle.machine.specs.Machine.{Machine, revisionOf}
 use Rattle.diagram.proofs.Arranged.Advance.{contents}
 use Rattle.diagram.proofs.Days.Naming.{Named, numbers-apart}
+use Rattle.diagram.proofs.Days.Marking.{Marks}
 use Rattle.diagram.proofs.Days.Real.{Real}
 use Rattle.machine.proofs.Follow.Agrees.{Agree, ordered, terminal-low}
 use Rattle.diagram.proofs.Graph.Events.{inheritedEvents, ownEvents}
@@ -29,6 +32,8 @@ use Rattle.diagram.proofs.Order.Inherited.{blocks-numbers, entry-is, numbers-no
 -- that were given out
 pub record Laid (y : Day) (m : Machine) : Type 0 where
   pub named : Named y
+  pub marks : Marks y
+  pub main-unmarked : marked y 0 ≡ false
   pub same-revisions : m .revisions ≡ y .revisions
   pub lone : List·Nodup (m .layout)
   pub once : List·Nodup (flatBack (m .own) (m .layout))
@@ -52,7 +57,7 @@ module _ (y : Day) (m : Machine) (L : Laid y m) where
   pub number-low : (r : ℕ) → r ∈ m .layout → numberOf y r < y .numbering .given
   number-low r i = L .named .low r (L .out r i .0)
 
-module _ (y : Day) (m : Machine) (A : Agree y m) (N : Named y) where
+module _ (y : Day) (m : Machine) (A : Agree y m) (N : Named y) (M : Marks y) where
   abbrev d : Diagram
   d = y .diagram
 
@@ -88,6 +93,8 @@ module _ (y : Day) (m : Machine) (A : Agree y m) (N : Named y) where
       let once : List·Nodup (blocks (contents d (y .terminal)) (m .layout)) = rw (A .same-layout) at (R .linked .inv .once) in
       record {
         named = N;
+        marks = M;
+        main-unmarked = A .flagged .fine .sound .marks .main;
         same-revisions = A .same-revisions;
         lone = rw (A .same-layout) at (R .linked .inv .distinct);
         once = subst List·Nodup all-is (numbers-nodup d (y .updates) _ (A .numbered) once);

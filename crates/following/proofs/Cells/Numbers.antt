@@ -14,6 +14,7 @@ module _ (y : Day) (k : Cells) (F : CellsFollow y k) where
       let q = meant-number y n r (found-means y n r .1 e) in
       record {
         same-joined = F .same-joined n r e;
+        same-marked = F .same-marked n r e;
         same-elsewhere = λ c l. F .same-elsewhere c n r l e;
         same-busyByOther = λ c. F .same-busyByOther c n r e;
         same-busy = F .same-busy n r e;
@@ -28,4 +29,7 @@ module _ (y : Day) (k : Cells) (F : CellsFollow y k) where
         let f = found-means y n a .1 p in
         let g = found-means y m b .1 q in
         rw (meant-number y n a f, meant-number y m b g) at (F .same-joinable a b (meant-low y n a f, oa) (meant-low y m b g, ob));
+    same-badName = F .same-badName;
+    same-noMark = F .same-noMark;
+    same-bearer = F .same-bearer;
   }

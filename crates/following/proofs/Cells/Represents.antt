@@ -11,12 +11,14 @@ use borrow.Author.Tests.{ltb-false}
 use Rattle.lists.specs.Lists.{_∈_, firstOf, named}
 use Rattle.lists.specs.Arranged.{member}
 use Rattle.lists.proofs.Cases.{cases}
+use Rattle.lists.specs.Names.{Name}
 use Rattle.diagram.specs.Sizes.{revisionLimit}
+use Rattle.diagram.specs.Names.{isSome}
 use Rattle.diagram.specs.Numbering.{next}
 use Rattle.diagram.specs.Day.{Day, numberOf, outCount}
 use Rattle.diagram.proofs.Days.Found.{found}
 use Rattle.machine.specs.Machine.{Machine}
-use Rattle.cells.specs.Sizes.{clients, closed, main, revisions, stateJoined, stateNever, stateOut, updates}
+use Rattle.cells.specs.Sizes.{clients, closed, main, revisions, stateJoined, stateMarked, stateNever, stateOut, updates}
 use Rattle.cells.specs.Cells.{Cells, freed, flagged, nextNumber, outs, own}
 use Rattle.cells.proofs.Chain.{chain-length}
 use Rattle.cells.proofs.Places.{first-freed}
@@ -27,9 +29,9 @@ abbrev pub openCell : (ℕ → ℕ) → Option ℕ → ℕ
 openCell of none = closed
 openCell of (some r) = of r
 
-abbrev pub stateCell : (ℕ → Bool) → Option ℕ → ℕ
-stateCell joined none = stateNever
-stateCell joined (some r) = cond (joined r) stateJoined stateOut
+abbrev pub stateCell : (ℕ → Bool) → (ℕ → Option Name) → Option ℕ → ℕ
+stateCell joined mark none = stateNever
+stateCell joined mark (some r) = cond (joined r) stateJoined (cond (isSome (mark r)) stateMarked stateOut)
 
 pub record Represents (y : Day) (m : Machine) (k : Cells) : Type 0 where
   -- who is out, and where
@@ -38,11 +40,12 @@ pub record Represents (y : Day) (m : Machine) (k : Cells) : Type 0 where
   pub out-is : k .out ≡ outCount y
   pub main-out : main ∈ m .layout
   pub main-number : numberOf y main ≡ main
-  -- numbers given out, and those handed in; states
+  -- numbers given out, and those handed in or dropped; states, and the names of marks
   pub given-is : k .given ≡ y .numbering .given
   pub freed-is : freed k ≡ y .numbering .freed
   pub queue-places : length (k .queue) ≡ revisions
-  pub state-is : (n : ℕ) → k .state n ≡ stateCell (y .joined) (found y n)
+  pub state-is : (n : ℕ) → k .state n ≡ stateCell (y .joined) (y .mark) (found y n)
+  pub name-is : (r : ℕ) (n : Name) → y .mark r ≡ some n → k .name (numberOf y r) ≡ n
   -- the own lists, by their links; what was inherited, by base count and row
   pub own-is : (r : ℕ) → r ∈ m .layout → own k (numberOf y r) ≡ m .own r
   pub first-is : (r : ℕ) → r ∈ m .layout → (f : ℕ) (l : List ℕ) → m .own r ≡ f ∷ l → k .first (numberOf y r) ≡ f

@@ -10,7 +10,7 @@ use native.Mathlib.Omega.{arith}
 use lib.Dec.{eqb}
 use borrow.Author.Tests.{eqb-false, eqb-true, ne-eqb, not-true}
 use Rattle.diagram.proofs.Arranged.Advance.{May, may, true-may}
-use Rattle.diagram.proofs.Days.Moves.{CanFork, CanJoin, Moves, enters, joined-out, joinsInto, joinable, forksAt, yields}
+use Rattle.diagram.proofs.Days.Moves.{CanFork, CanJoin, Moves, dropped-out, dropsOf, enters, joined-out, joinsInto, joinable, forksAt, yields}
 use Rattle.diagram.proofs.Days.Real.{Real}
 use Rattle.diagram.proofs.Graph.Paths.{leads-self}
 use Rattle.machine.proofs.Flags.Terminals.{enter-fork, enter-start, fork-by, forkSeen, join-fork, join-fork-joiner, join-start}
@@ -18,13 +18,14 @@ use Rattle.machine.proofs.Flags.Terminals.{join-start-joiner, fork-fork
 use Rattle.machine.proofs.Flags.Terminals.{start-own, startSeen}
 use Rattle.diagram.proofs.Order.Growth.{Fine, fine-fresh, fine-moves}
 use Rattle.diagram.specs.Checks.{notJoinable}
+use Rattle.lists.specs.Names.{Name}
 use Rattle.diagram.specs.Day.{Day, IsOut, fresh}
 use Rattle.diagram.specs.Diagram.{Diagram, leads, root}
-use Rattle.diagram.specs.Steps.{enter, forkAt, joinInto, yield}
+use Rattle.diagram.specs.Steps.{dropAt, enter, forkAt, joinInto, yield}
 use Rattle.lists.proofs.Cases.{cases, either, or-cases, or-false, or-left, or-right, same-truth, split}
 use Rattle.lists.proofs.Places.{insert-pair, insert-self, insert-sub, remove-sub}
 use Rattle.lists.proofs.Sublists.{pair-self, pair-trans}
-use Rattle.lists.specs.Lists.{_⊑_}
+use Rattle.lists.specs.Lists.{_∈_, _⊑_}
 use Rattle.lists.specs.Arranged.{insertBefore, remove}
 
 -- what code 11 lets through
@@ -71,22 +72,25 @@ module _ (y : Day) (F : Fine y) where
   J-enter c r u a b = rw (enter-fork y F c r u b a, enter-start y F c r u b a)
 
   -- J after a fork
-  module _ (r : ℕ) where
+  module _ (r : ℕ) (name : Option Name) where
     abbrev n : ℕ
     n = y .revisions
 
-    pub J-fork-old : (a b : ℕ) → (a ≡ n → ⊥) → (b ≡ n → ⊥) → J (forkAt y r) a b ≡ J y a b
-    unfolding notJoinable
-    J-fork-old a b ha hb = rw (fork-fork y F r b a hb ha, fork-start y F r b a hb ha)
+    abbrev new : Day
+    new = forkAt y r name
 
-    pub J-fork-new : (a : ℕ) → (n ≡ 0 → ⊥) → (a ≡ n → ⊥) → J (forkAt y r) a n ≡ eqb a r
+    pub J-fork-old : (a b : ℕ) → (a ≡ n → ⊥) → (b ≡ n → ⊥) → J new a b ≡ J y a b
+    unfolding notJoinable
+    J-fork-old a b ha hb = rw (fork-fork y F r name b a hb ha, fork-start y F r name b a hb ha)
+
+    pub J-fork-new : (a : ℕ) → (n ≡ 0 → ⊥) → (a ≡ n → ⊥) → J new a n ≡ eqb a r
     unfolding notJoinable
     J-fork-new a hn ha =
-        rw (ne-eqb n 0 hn, ne-eqb n a (λ e. ha (sym e)), fork-by y F r a ha, start-none y F r a ha)
+        rw (ne-eqb n 0 hn, ne-eqb n a (λ e. ha (sym e)), fork-by y F r name a ha, start-none y F r name a ha)
         (cases (eqb a r) (λ e. rw e) (λ e. rw e))
 
-    pub J-fork-self : J (forkAt y r) n n ≡ false
-    J-fork-self = cases (J (forkAt y r) n n) (λ e. absurd (J-rule (forkAt y r) n n e .not-self refl)) (λ e. e)
+    pub J-fork-self : J new n n ≡ false
+    J-fork-self = cases (J new n n) (λ e. absurd (J-rule new n n e .not-self refl)) (λ e. e)
 
   module _ (K : Flags y (F .layout)) where
     pub flags-enter : (c r : ℕ) (u : Bool) → Flags (enter y c r u) (F .layout)
@@ -101,20 +105,20 @@ module _ (y : Day) (F : Fine y) where
     flags-close c t = record { own-start = K .own-start; left = K .left; through = K .through }
 
     -- a fork
-    module _ (r : ℕ) (N : CanFork y r) where
+    module _ (r : ℕ) (name : Option Name) (N : CanFork y r name) where
       abbrev m : ℕ
       m = y .revisions
 
       abbrev ys : Day
-      ys = forkAt y r
+      ys = forkAt y r name
 
       J-fork-copy-by : (b : ℕ) → (b ≡ m → ⊥) → (eqb b r ≡ true) ⊎ (eqb b r ≡ false) → J ys m b ≡ J y r b
       unfolding notJoinable
       J-fork-copy-by b hb (inl e) =
           same-truth (J ys m b) (J y r b)
-          (λ h. absurd (false≢true (sym (J-rule ys m b h .start-unseen) ∙ fork-start-new y F r b hb ∙ subst (λ z. startSeen y z r ≡ true) (sym (eqb-true b r e)) (K .own-start r (N .out .0)))))
+          (λ h. absurd (false≢true (sym (J-rule ys m b h .start-unseen) ∙ fork-start-new y F r name b hb ∙ subst (λ z. startSeen y z r ≡ true) (sym (eqb-true b r e)) (K .own-start r (N .out .0)))))
           (λ h. absurd (J-rule y r b h .not-self (eqb-true b r e)))
-      J-fork-copy-by b hb (inr e) = rw (fork-fork-new y F r b hb, fork-start-new y F r b hb, ne-eqb b m hb, e)
+      J-fork-copy-by b hb (inr e) = rw (fork-fork-new y F r name b hb, fork-start-new y F r name b hb, ne-eqb b m hb, e)
 
       -- the new revision may join whom the forker may
       pub J-fork-copy : (b : ℕ) → (b ≡ m → ⊥) → J ys m b ≡ J y r b
@@ -136,29 +140,29 @@ module _ (y : Day) (F : Fine y) where
 
           pick : Which x → Which z → (x ≡ z) ⊎ ((x ∷ z ∷ []) ⊑ insertBefore r m (F .layout))
           pick (is-new a) (is-new b) = inl (a ∙ sym b)
-          pick (is-new a) (is-old k b) = inr (rw a (from-r (K .left r z (N .out) b (sym (fork-start-new y F r z k) ∙ subst (λ w. startSeen ys z w ≡ true) a e))))
-          pick (is-old k a) (is-new b) = absurd (false≢true (sym (start-none y F r x k) ∙ subst (λ w. startSeen ys w x ≡ true) b e))
-          pick (is-old k a) (is-old j b) = either (K .left x z a b (sym (fork-start y F r z x j k) ∙ e)) (λ q. inl q) (λ q. inr (Sublistᴰ·trans q (insert-sub r m (F .layout))))
+          pick (is-new a) (is-old k b) = inr (rw a (from-r (K .left r z (N .out) b (sym (fork-start-new y F r name z k) ∙ subst (λ w. startSeen ys z w ≡ true) a e))))
+          pick (is-old k a) (is-new b) = absurd (false≢true (sym (start-none y F r name x k) ∙ subst (λ w. startSeen ys w x ≡ true) b e))
+          pick (is-old k a) (is-old j b) = either (K .left x z a b (sym (fork-start y F r name z x j k) ∙ e)) (λ q. inl q) (λ q. inr (Sublistᴰ·trans q (insert-sub r m (F .layout))))
 
       fork-through : (a b z : ℕ) → IsOut ys a → IsOut ys b → IsOut ys z → J ys a b ≡ true → startSeen ys z b ≡ true → (z ≡ b → ⊥) → startSeen ys z a ≡ true
       fork-through a b z oa ob oz h e k = by (which z oz) (which b ob) (which a oa)
         where
           by : Which z → Which b → Which a → startSeen ys z a ≡ true
           by (is-new q) (is-new g) w = absurd (k (q ∙ sym g))
-          by (is-new q) (is-old j g) w = absurd (false≢true (sym (start-none y F r b j) ∙ subst (λ w. startSeen ys w b ≡ true) q e))
+          by (is-new q) (is-old j g) w = absurd (false≢true (sym (start-none y F r name b j) ∙ subst (λ w. startSeen ys w b ≡ true) q e))
           by (is-old j q) (is-new g) (is-new w) = absurd (J-rule ys a b h .not-self (g ∙ sym w))
           -- the joinee is new: the joiner is the forker
           by (is-old j q) (is-new g) (is-old i w) =
-              let ar : a ≡ r = eqb-true a r (sym (J-fork-new r a (λ p. omega (arith, N .out .0)) i) ∙ subst (λ s. J ys a s ≡ true) g h) in
-              fork-start y F r z a j i ∙ subst (λ s. startSeen y z s ≡ true) (sym ar) (sym (fork-start-new y F r z j) ∙ subst (λ s. startSeen ys z s ≡ true) g e)
+              let ar : a ≡ r = eqb-true a r (sym (J-fork-new r name a (λ p. omega (arith, N .out .0)) i) ∙ subst (λ s. J ys a s ≡ true) g h) in
+              fork-start y F r name z a j i ∙ subst (λ s. startSeen y z s ≡ true) (sym ar) (sym (fork-start-new y F r name z j) ∙ subst (λ s. startSeen ys z s ≡ true) g e)
           by (is-old j q) (is-old l g) (is-new w) =
-              ap (startSeen ys z) w ∙ fork-start-new y F r z j ∙ K .through r b z (N .out) g q (sym (J-fork-copy b l) ∙ subst (λ s. J ys s b ≡ true) w h) (sym (fork-start y F r z b j l) ∙ e) k
+              ap (startSeen ys z) w ∙ fork-start-new y F r name z j ∙ K .through r b z (N .out) g q (sym (J-fork-copy b l) ∙ subst (λ s. J ys s b ≡ true) w h) (sym (fork-start y F r name z b j l) ∙ e) k
           by (is-old j q) (is-old l g) (is-old i w) =
-              fork-start y F r z a j i ∙ K .through a b z w g q (sym (J-fork-old r a b i l) ∙ h) (sym (fork-start y F r z b j l) ∙ e) k
+              fork-start y F r name z a j i ∙ K .through a b z w g q (sym (J-fork-old r name a b i l) ∙ h) (sym (fork-start y F r name z b j l) ∙ e) k
 
-      pub flags-fork : Flags (forkAt y r) (insertBefore r (y .revisions) (F .layout))
+      pub flags-fork : Flags (forkAt y r name) (insertBefore r (y .revisions) (F .layout))
       flags-fork = record {
-        own-start = λ s h. cases (eqb s m) (λ e. subst (λ z. startSeen ys z z ≡ true) (sym (eqb-true s m e)) (start-own y F r)) (λ e. let k = eqb-false s m e in fork-start y F r s s k k ∙ K .own-start s (omega arith));
+        own-start = λ s h. cases (eqb s m) (λ e. subst (λ z. startSeen ys z z ≡ true) (sym (eqb-true s m e)) (start-own y F r name)) (λ e. let k = eqb-false s m e in fork-start y F r name s s k k ∙ K .own-start s (omega arith));
         left = fork-left;
         through = fork-through;
       }
@@ -254,6 +258,19 @@ module _ (y : Day) (F : Fine y) where
       pub flags-join : Flags (joinInto y a b) (remove b (F .layout))
       flags-join = record { own-start = own-stays; left = join-left; through = join-through }
 
+    -- a drop: no vertex is added
+    pub flags-drop : (r : ℕ) → Flags (dropAt y r) (remove r (F .layout))
+    unfolding notJoinable
+    flags-drop r = record {
+      own-start = K .own-start;
+      left = λ x z ox oz e.
+          let p = dropped-out y r x ox in
+          let q = dropped-out y r z oz in
+          let other : r ∈ (x ∷ z ∷ []) → ⊥ = λ i. either (List·Memᴰ·cases-cons i) (λ t. p .1 (sym t)) (λ j. q .1 (sym (List·Memᴰ·eq-of-singleton j))) in
+          either (K .left x z (p .0) (q .0) e) inl (λ s. inr (remove-sub r (x ∷ z ∷ []) (F .layout) s other));
+      through = λ a b z oa ob oz. K .through a b z (dropped-out y r a oa .0) (dropped-out y r b ob .0) (dropped-out y r z oz .0);
+    }
+
 -- the flags hold on every day
 pub record Flagged (y : Day) : Type 0 where
   pub fine : Fine y
@@ -278,5 +295,6 @@ flagged-moves y z M (yields c h) = record { fine = fine-moves y (yield y c (y .o
     by : (q : Option ℕ) → Flags (yield y c q) (M .fine .layout)
     by none = M .flags
     by (some t) = flags-close y (M .fine) (M .flags) c t
-flagged-moves y z M (forksAt r N) = record { fine = fine-moves y (forkAt y r) (M .fine) (forksAt r N); flags = flags-fork y (M .fine) (M .flags) r N }
+flagged-moves y z M (forksAt r name N) = record { fine = fine-moves y (forkAt y r name) (M .fine) (forksAt r name N); flags = flags-fork y (M .fine) (M .flags) r name N }
 flagged-moves y z M (joinsInto a b H) = record { fine = fine-moves y (joinInto y a b) (M .fine) (joinsInto a b H); flags = flags-join y (M .fine) (M .flags) a b H }
+flagged-moves y z M (dropsOf r D) = record { fine = fine-moves y (dropAt y r) (M .fine) (dropsOf r D); flags = flags-drop y (M .fine) (M .flags) r }

@@ -12,6 +12,7 @@ use Rattle.lists.specs.Lists.{changed}
 use Rattle.lists.proofs.Cases.{cases}
 use Rattle.lists.proofs.Changed.{changed-other, changed-same}
 use Rattle.diagram.specs.Diagram.{Diagram, Vertex, event, fork, join, leads, start}
+use Rattle.lists.specs.Names.{Name}
 use Rattle.diagram.specs.Day.{Day}
 use Rattle.diagram.specs.Checks.{missing}
 use Rattle.diagram.specs.Steps.{enter, newUpdate, forkAt, joinInto}
@@ -85,9 +86,12 @@ module _ (y : Day) (F : Fine y) where
     caught-other o x n = rw (changed-other (y .lastEvent) c (some (length d)) o n) (follow d (v ∷ d) (y .lastEvent o) (y .terminal x) (enter y c r u .terminal x) (λ l e. enter-sees l x (last-low o l e)))
 
   -- a fork: the older terminals see what they saw, the new one what the forker's saw
-  module _ (r : ℕ) where
+  module _ (r : ℕ) (name : Option Name) where
     abbrev n : ℕ
     n = y .revisions
+
+    abbrev ys : Day
+    ys = forkAt y r name
 
     abbrev fv : Vertex
     fv = fork (y .terminal r)
@@ -96,49 +100,49 @@ module _ (y : Day) (F : Fine y) where
     sv = start (length d)
 
     -- from any vertex but the new start: by the fork vertex, or as it was
-    at-old : (l x : ℕ) → (x ≡ n → ⊥) → leads (forkAt y r .diagram) l (forkAt y r .terminal x) ≡ cond (eqb x r) (leads (fv ∷ d) l (length d)) (leads d l (y .terminal x))
+    at-old : (l x : ℕ) → (x ≡ n → ⊥) → leads (ys .diagram) l (ys .terminal x) ≡ cond (eqb x r) (leads (fv ∷ d) l (length d)) (leads d l (y .terminal x))
     at-old l x k =
         cases (eqb x r)
         (λ e. rw (ne-eqb x n k, e) (leads-old sv (fv ∷ d) l (length d) (omega arith)))
         (λ e. rw (ne-eqb x n k, e) (leads-old sv (fv ∷ d) l (y .terminal x) (omega (arith, low x)) ∙ leads-old fv d l (y .terminal x) (low x)))
 
-    fork-sees : (l x : ℕ) → l < length d → (x ≡ n → ⊥) → leads (forkAt y r .diagram) l (forkAt y r .terminal x) ≡ leads d l (y .terminal x)
+    fork-sees : (l x : ℕ) → l < length d → (x ≡ n → ⊥) → leads (ys .diagram) l (ys .terminal x) ≡ leads d l (y .terminal x)
     fork-sees l x h k = at-old l x k ∙ cases (eqb x r) (λ e. rw (e, leads-to-newest fv d l h, eqb-true x r e) (or-false _)) (λ e. rw e)
 
-    fork-new : (l : ℕ) → l < length d → leads (forkAt y r .diagram) l (forkAt y r .terminal n) ≡ leads d l (y .terminal r)
+    fork-new : (l : ℕ) → l < length d → leads (ys .diagram) l (ys .terminal n) ≡ leads d l (y .terminal r)
     fork-new l h = rw (changed-same (changed (y .terminal) r (length d)) n (suc (length d)), leads-to-newest sv (fv ∷ d) l (omega arith), leads-to-newest fv d l h, or-false (leads d l (y .terminal r))) (or-false _)
 
-    pub fork-start : (z x : ℕ) → (z ≡ n → ⊥) → (x ≡ n → ⊥) → startSeen (forkAt y r) z x ≡ startSeen y z x
-    fork-start z x j k = ap (λ l. leads (forkAt y r .diagram) l (forkAt y r .terminal x)) (changed-other (y .startOf) n _ z j) ∙ fork-sees (y .startOf z) x (start-low z) k
+    pub fork-start : (z x : ℕ) → (z ≡ n → ⊥) → (x ≡ n → ⊥) → startSeen ys z x ≡ startSeen y z x
+    fork-start z x j k = ap (λ l. leads (ys .diagram) l (ys .terminal x)) (changed-other (y .startOf) n _ z j) ∙ fork-sees (y .startOf z) x (start-low z) k
 
-    pub fork-start-new : (z : ℕ) → (z ≡ n → ⊥) → startSeen (forkAt y r) z n ≡ startSeen y z r
-    fork-start-new z j = ap (λ l. leads (forkAt y r .diagram) l (forkAt y r .terminal n)) (changed-other (y .startOf) n _ z j) ∙ fork-new (y .startOf z) (start-low z)
+    pub fork-start-new : (z : ℕ) → (z ≡ n → ⊥) → startSeen ys z n ≡ startSeen y z r
+    fork-start-new z j = ap (λ l. leads (ys .diagram) l (ys .terminal n)) (changed-other (y .startOf) n _ z j) ∙ fork-new (y .startOf z) (start-low z)
 
-    pub fork-fork : (z x : ℕ) → (z ≡ n → ⊥) → (x ≡ n → ⊥) → forkSeen (forkAt y r) z x ≡ forkSeen y z x
-    fork-fork z x j k = ap (λ l. leads (forkAt y r .diagram) l (forkAt y r .terminal x)) (changed-other (y .forkOf) n _ z j) ∙ fork-sees (y .forkOf z) x (fork-low z) k
+    pub fork-fork : (z x : ℕ) → (z ≡ n → ⊥) → (x ≡ n → ⊥) → forkSeen ys z x ≡ forkSeen y z x
+    fork-fork z x j k = ap (λ l. leads (ys .diagram) l (ys .terminal x)) (changed-other (y .forkOf) n _ z j) ∙ fork-sees (y .forkOf z) x (fork-low z) k
 
-    pub fork-fork-new : (z : ℕ) → (z ≡ n → ⊥) → forkSeen (forkAt y r) z n ≡ forkSeen y z r
-    fork-fork-new z j = ap (λ l. leads (forkAt y r .diagram) l (forkAt y r .terminal n)) (changed-other (y .forkOf) n _ z j) ∙ fork-new (y .forkOf z) (fork-low z)
+    pub fork-fork-new : (z : ℕ) → (z ≡ n → ⊥) → forkSeen ys z n ≡ forkSeen y z r
+    fork-fork-new z j = ap (λ l. leads (ys .diagram) l (ys .terminal n)) (changed-other (y .forkOf) n _ z j) ∙ fork-new (y .forkOf z) (fork-low z)
 
     -- the new revision's start is seen at its own terminal alone, its fork at the forker's
-    pub start-own : startSeen (forkAt y r) n n ≡ true
+    pub start-own : startSeen ys n n ≡ true
     start-own = rw (changed-same (y .startOf) n (suc (length d)), changed-same (changed (y .terminal) r (length d)) n (suc (length d))) (leads-newest sv (fv ∷ d))
 
-    pub start-none : (x : ℕ) → (x ≡ n → ⊥) → startSeen (forkAt y r) n x ≡ false
+    pub start-none : (x : ℕ) → (x ≡ n → ⊥) → startSeen ys n x ≡ false
     start-none x k =
-        ap (λ l. leads (forkAt y r .diagram) l (forkAt y r .terminal x)) (changed-same (y .startOf) n (suc (length d))) ∙ at-old (suc (length d)) x k
+        ap (λ l. leads (ys .diagram) l (ys .terminal x)) (changed-same (y .startOf) n (suc (length d))) ∙ at-old (suc (length d)) x k
         ∙ cases (eqb x r) (λ e. rw e (leads-from-newer (fv ∷ d) (suc (length d)) (length d) (omega arith))) (λ e. rw e (leads-from-newer d (suc (length d)) (y .terminal x) (omega arith)))
 
-    pub fork-by : (x : ℕ) → (x ≡ n → ⊥) → forkSeen (forkAt y r) n x ≡ eqb x r
+    pub fork-by : (x : ℕ) → (x ≡ n → ⊥) → forkSeen ys n x ≡ eqb x r
     fork-by x k =
-        ap (λ l. leads (forkAt y r .diagram) l (forkAt y r .terminal x)) (changed-same (y .forkOf) n (length d)) ∙ at-old (length d) x k
+        ap (λ l. leads (ys .diagram) l (ys .terminal x)) (changed-same (y .forkOf) n (length d)) ∙ at-old (length d) x k
         ∙ cases (eqb x r) (λ e. rw e (leads-newest fv d)) (λ e. rw e (leads-from-newer d (length d) (y .terminal x) (omega arith)))
 
-    pub caught-fork : (o x : ℕ) → (x ≡ n → ⊥) → caught (forkAt y r) o x ≡ caught y o x
-    caught-fork o x k = follow d (forkAt y r .diagram) (y .lastEvent o) (y .terminal x) (forkAt y r .terminal x) (λ l e. fork-sees l x (last-low o l e) k)
+    pub caught-fork : (o x : ℕ) → (x ≡ n → ⊥) → caught ys o x ≡ caught y o x
+    caught-fork o x k = follow d (ys .diagram) (y .lastEvent o) (y .terminal x) (ys .terminal x) (λ l e. fork-sees l x (last-low o l e) k)
 
-    pub caught-forked : (o : ℕ) → caught (forkAt y r) o n ≡ caught y o r
-    caught-forked o = follow d (forkAt y r .diagram) (y .lastEvent o) (y .terminal r) (forkAt y r .terminal n) (λ l e. fork-new l (last-low o l e))
+    pub caught-forked : (o : ℕ) → caught ys o n ≡ caught y o r
+    caught-forked o = follow d (ys .diagram) (y .lastEvent o) (y .terminal r) (ys .terminal n) (λ l e. fork-new l (last-low o l e))
 
   -- a join: the joiner's terminal sees what either saw
   module _ (a b : ℕ) where

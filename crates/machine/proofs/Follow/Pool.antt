@@ -10,7 +10,7 @@ use Rattle.diagram.specs.Checks.{notJoinable}
 use Rattle.lists.specs.Pool.{Pool, forkPool, joinPool}
 use Rattle.diagram.specs.Pool.{ByPool, pool, poolAfter, poolFrom}
 use Rattle.diagram.proofs.Order.Constructed.{joinable-iff}
-use Rattle.diagram.specs.Steps.{Event, Fork, Join, Step, Yield, after, run, yield}
+use Rattle.diagram.specs.Steps.{Drop, Event, Fork, Join, Step, Yield, after, run, yield}
 use Rattle.diagram.specs.Accepted.{Accepted}
 use Rattle.machine.specs.Machine.{Machine, freshMachine, machineAfter, machineFrom}
 use Rattle.machine.proofs.Follow.Shown.{follows-run}
@@ -24,15 +24,17 @@ module _ (y : Day) (k : Machine) (e : k .revisions ≡ y .revisions) where
   unfolding machineAfter after
   revisions-after (Event c r u) = e
   revisions-after (Yield c) = e ∙ yield-revisions y c (y .openBy c)
-  revisions-after (Fork r) = ap suc e
+  revisions-after (Fork r name) = ap suc e
   revisions-after (Join a b) = e
+  revisions-after (Drop r) = e
 
   flags-after : (J : Pool) → k .joinable ≡ J → (s : Step) → machineAfter k s .joinable ≡ poolAfter y J s
   unfolding machineAfter
   flags-after J j (Event c r u) = j
   flags-after J j (Yield c) = j
-  flags-after J j (Fork r) = ap (λ (n : ℕ). forkPool (k .joinable) r n) e ∙ ap (λ (M : Pool). forkPool M r (y .revisions)) j
+  flags-after J j (Fork r name) = ap (λ (n : ℕ). forkPool (k .joinable) r n) e ∙ ap (λ (M : Pool). forkPool M r (y .revisions)) j
   flags-after J j (Join a b) = ap (λ (M : Pool). joinPool M a b) j
+  flags-after J j (Drop r) = j
 
 flags-from : (ss : List Step) (y : Day) (k : Machine) (J : Pool) → k .revisions ≡ y .revisions → k .joinable ≡ J → machineFrom k ss .joinable ≡ poolFrom y J ss
 unfolding machineFrom poolFrom

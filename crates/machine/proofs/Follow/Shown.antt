@@ -5,10 +5,10 @@ use mathlib.Core.Path.{_∙_, _≡_, ap, refl, subst, sym}
 use mathlib.Core.List.{List, List·Nodup, Nodup·sublist, [], _++_, _∷_}
 use Rattle.blocks.specs.Blocks.{Good, blocks}
 use Rattle.diagram.proofs.Arranged.Advance.{contents}
-use Rattle.diagram.proofs.Days.Moves.{can-enter, can-fork, can-join}
+use Rattle.diagram.proofs.Days.Moves.{can-drop, can-enter, can-fork, can-join}
 use Rattle.diagram.proofs.Days.Real.{Real}
 use Rattle.machine.proofs.Follow.Agrees.{Agree, agree-fresh, ordered, terminal-low}
-use Rattle.machine.proofs.Follow.Steps.{agree-enter, agree-join, agree-fork, agree-yield}
+use Rattle.machine.proofs.Follow.Steps.{agree-drop, agree-enter, agree-join, agree-fork, agree-yield}
 use Rattle.diagram.proofs.Graph.Events.{ownEvents}
 use Rattle.diagram.proofs.Graph.Visible.{view-numbers}
 use Rattle.diagram.proofs.Order.Inherited.{blocks-left, blocks-numbers, good-under, inherited, numbers-nodup, numbers-sub, view-split-own}
@@ -17,7 +17,7 @@ use Rattle.diagram.specs.Day.{Day, IsOut, fresh}
 use Rattle.diagram.specs.Diagram.{Diagram}
 use Rattle.diagram.specs.Effects.{numbers, view}
 use Rattle.machine.specs.Machine.{Follows, Machine, freshMachine, machineAfter, machineFrom, shown}
-use Rattle.diagram.specs.Steps.{Event, Fork, Join, Step, Yield, after, run, runFrom}
+use Rattle.diagram.specs.Steps.{Drop, Event, Fork, Join, Step, Yield, after, run, runFrom}
 use Rattle.diagram.specs.Accepted.{Accepted, AcceptedFrom, accepted}
 use Rattle.lists.proofs.Blocks.{flatBack-same}
 use Rattle.lists.proofs.Keep.{keep-sublist}
@@ -86,8 +86,9 @@ pub agree-after : (y : Day) (k : Machine) (s : Step) → accepted y s ≡ true �
 unfolding after machineAfter
 agree-after y k (Event c r u) e A = agree-enter y k A c r u (can-enter y c r u e)
 agree-after y k (Yield c) e A = agree-yield y k A c (y .openBy c) refl
-agree-after y k (Fork r) e A = agree-fork y k A r (can-fork y r e)
+agree-after y k (Fork r name) e A = agree-fork y k A r name (can-fork y r name e)
 agree-after y k (Join a b) e A = agree-join y k A a b (can-join y a b e)
+agree-after y k (Drop r) e A = agree-drop y k A r (can-drop y r e)
 
 agree-from : (ss : List Step) (y : Day) (k : Machine) → AcceptedFrom y ss → Agree y k → Agree (runFrom y ss) (machineFrom k ss)
 unfolding runFrom machineFrom

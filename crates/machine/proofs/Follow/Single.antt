@@ -11,7 +11,7 @@ use Rattle.lists.proofs.Cases.{cases, or-left}
 use Rattle.diagram.specs.Day.{Day, IsOut, fresh}
 use Rattle.diagram.specs.Checks.{notJoinable}
 use Rattle.diagram.specs.Pool.{pool, poolFrom}
-use Rattle.diagram.specs.Steps.{Event, Fork, Join, Step, Yield, after, run, runFrom}
+use Rattle.diagram.specs.Steps.{Drop, Event, Fork, Join, Step, Yield, after, run, runFrom}
 use Rattle.diagram.specs.Accepted.{Accepted}
 use Rattle.diagram.proofs.Order.Constructed.{joinable-iff}
 use Rattle.diagram.proofs.Order.Single.{SingleMain, main-run}
@@ -26,12 +26,13 @@ unfolding runFrom poolFrom after May
 may-from [] y J S M = M
 may-from (Event c r u ∷ ss) y J S M = may-from ss (after y (Event c r u)) J (S .1) M
 may-from (Yield c ∷ ss) y J S M = may-from ss (after y (Yield c)) J (S .1) (λ b l h. M b l (rw (← (yield-revisions y c (y .openBy c))) at h))
-may-from (Fork r ∷ ss) y J S M =
-    may-from ss (after y (Fork r)) _ (S .1) (λ b l h.
+may-from (Fork r name ∷ ss) y J S M =
+    may-from ss (after y (Fork r name)) _ (S .1) (λ b l h.
     cases (eqb b (y .revisions))
-    (λ e. rw (e, S .0))
+    (λ e. rw (e, S .0 .0))
     (λ e. let d = eqb-false b (y .revisions) e in rw (e, ne-eqb 0 (y .revisions) (λ q. omega arith)) (M b l (omega arith))))
 may-from (Join a b ∷ ss) y J S M = may-from ss (after y (Join a b)) _ (S .1) (λ c l h. rw (S .0) (or-left (J 0 c) (J b c) (M c l h)))
+may-from (Drop r ∷ ss) y J S M = may-from ss (after y (Drop r)) J (S .1) M
 
 pub main-joins : (ss : List Step) → Accepted ss → SingleMain ss → (b : ℕ) → IsOut (run ss) b → (b ≡ 0 → ⊥) → notJoinable (run ss) 0 b ≡ false
 unfolding run pool May

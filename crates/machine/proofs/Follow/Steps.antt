@@ -10,7 +10,7 @@ use lib.ListN.{length}
 use lib.Dec.{eqb}
 use borrow.Author.Tests.{eqb-false, eqb-true, ne-eqb}
 use Rattle.diagram.proofs.Arranged.Advance.{on-bound}
-use Rattle.diagram.proofs.Days.Moves.{CanEnter, CanFork, CanJoin, enters, forked-out, joined-out, joinsInto, forksAt}
+use Rattle.diagram.proofs.Days.Moves.{CanDrop, CanEnter, CanFork, CanJoin, dropped-out, dropsOf, enters, forked-out, joined-out, joinsInto, forksAt}
 use Rattle.diagram.proofs.Days.Yielding.{sound-close}
 use Rattle.machine.proofs.Follow.Agrees.{Agree, inherited-step, ordered, terminal-low}
 use Rattle.diagram.proofs.Graph.Paths.{Ordered, one-more}
@@ -22,11 +22,12 @@ use Rattle.diagram.proofs.Order.Growth.{Fine, fine-moves}
 use Rattle.diagram.proofs.Order.Inherited.{inherited, inherited-older, inherited-start, view-split-own}
 use Rattle.diagram.proofs.Order.Numbered.{numbered-moves}
 use Rattle.diagram.specs.Checks.{notJoinable}
+use Rattle.lists.specs.Names.{Name}
 use Rattle.diagram.specs.Day.{Day, IsOut}
 use Rattle.diagram.specs.Diagram.{Diagram, Vertex, event, fork, join, start}
 use Rattle.diagram.specs.Effects.{entry, own, ownStep, viewStep}
-use Rattle.machine.specs.Machine.{Machine, enterOn, forkOn, joinOn, revisionOf, yieldOn}
-use Rattle.diagram.specs.Steps.{enter, entersInto, newUpdate, forkAt, joinInto, yield}
+use Rattle.machine.specs.Machine.{Machine, dropOn, enterOn, forkOn, joinOn, revisionOf, yieldOn}
+use Rattle.diagram.specs.Steps.{dropAt, enter, entersInto, newUpdate, forkAt, joinInto, yield}
 use Rattle.lists.proofs.Cases.{cases, split}
 use Rattle.lists.proofs.Changed.{changed-other, changed-same}
 use Rattle.lists.specs.Pool.{forkPool, joinPool}
@@ -132,11 +133,11 @@ module _ (y : Day) (k : Machine) (A : Agree y k) where
   abbrev n : ℕ
   n = y .revisions
 
-  pub agree-fork : (r : ℕ) → CanFork y r → Agree (forkAt y r) (forkOn k r)
+  pub agree-fork : (r : ℕ) (name : Option Name) → CanFork y r name → Agree (forkAt y r name) (forkOn k r)
   unfolding flagged-moves fine-moves
-  agree-fork r N = record {
-    flagged = flagged-moves y (forkAt y r) (A .flagged) (forksAt r N);
-    numbered = numbered-moves y (forkAt y r) (A .numbered) (forksAt r N);
+  agree-fork r name N = record {
+    flagged = flagged-moves y (forkAt y r name) (A .flagged) (forksAt r name N);
+    numbered = numbered-moves y (forkAt y r name) (A .numbered) (forksAt r name N);
     same-layout = rw (A .same-revisions, A .same-layout);
     same-inherited = λ s o. rw (A .same-revisions) (inherited′ s o);
     same-revisions = ap suc (A .same-revisions);
@@ -163,11 +164,11 @@ module _ (y : Day) (k : Machine) (A : Agree y k) where
           ap (λ t. t ++ k .own r) (A .same-inherited r (N .out)) ∙ ap (λ t. inherited d (y .terminal r) ++ t) (A .same-own r (N .out))
           ∙ sym (view-split-own (ordered y k A) (y .terminal r) (terminal-low y k A r)) ∙ sym (tabulate-newest viewStep [] fv d) ∙ sym (inherited-start (fv ∷ d) ordered1 (length d) (omega arith))
 
-      inherited′ : (s : ℕ) → IsOut (forkAt y r) s → changed (k .inherited) n (k .inherited r ++ k .own r) s ≡ inherited (sv ∷ fv ∷ d) (forkAt y r .terminal s)
+      inherited′ : (s : ℕ) → IsOut (forkAt y r name) s → changed (k .inherited) n (k .inherited r ++ k .own r) s ≡ inherited (sv ∷ fv ∷ d) (forkAt y r name .terminal s)
       inherited′ s o =
           cases (eqb s n)
           (λ e. rw e taken)
-          (λ e. rw e (A .same-inherited s (forked-out y r s o e) ∙ sym (inherited-step y k A fv r s refl) ∙ sym (inherited-older sv (fv ∷ d) ordered1 (changed (y .terminal) r (length d) s) (on-bound d fv (y .terminal) (terminal-low y k A) r s))))
+          (λ e. rw e (A .same-inherited s (forked-out y r name s o e) ∙ sym (inherited-step y k A fv r s refl) ∙ sym (inherited-older sv (fv ∷ d) ordered1 (changed (y .terminal) r (length d) s) (on-bound d fv (y .terminal) (terminal-low y k A) r s))))
 
       own-old : (s : ℕ) → IsOut y s → k .own s ≡ own (fv ∷ d) (changed (y .terminal) r (length d) s)
       own-old s o =
@@ -175,30 +176,30 @@ module _ (y : Day) (k : Machine) (A : Agree y k) where
           (λ e. rw (e, tabulate-newest ownStep [] fv d) (A .same-own s o ∙ ap (λ i. own d (y .terminal i)) (eqb-true s r e)))
           (λ e. rw (e, tabulate-older ownStep [] fv d (y .terminal s) (terminal-low y k A s)) (A .same-own s o))
 
-      own′ : (s : ℕ) → IsOut (forkAt y r) s → changed (k .own) n [] s ≡ own (sv ∷ fv ∷ d) (forkAt y r .terminal s)
+      own′ : (s : ℕ) → IsOut (forkAt y r name) s → changed (k .own) n [] s ≡ own (sv ∷ fv ∷ d) (forkAt y r name .terminal s)
       own′ s o =
           cases (eqb s n)
           (λ e. rw e (sym (tabulate-newest ownStep [] sv (fv ∷ d))))
-          (λ e. rw (e, tabulate-older ownStep [] sv (fv ∷ d) (changed (y .terminal) r (length d) s) (on-bound d fv (y .terminal) (terminal-low y k A) r s)) (own-old s (forked-out y r s o e)))
+          (λ e. rw (e, tabulate-older ownStep [] sv (fv ∷ d) (changed (y .terminal) r (length d) s) (on-bound d fv (y .terminal) (terminal-low y k A) r s)) (own-old s (forked-out y r name s o e)))
 
-      caught′ : (c x : ℕ) → IsOut (forkAt y r) x → cond (eqb x n) (k .caughtUp c r) (k .caughtUp c x) ≡ caught (forkAt y r) c x
+      caught′ : (c x : ℕ) → IsOut (forkAt y r name) x → cond (eqb x n) (k .caughtUp c r) (k .caughtUp c x) ≡ caught (forkAt y r name) c x
       caught′ c x o =
           cases (eqb x n)
-          (λ e. ap (λ t. cond t (k .caughtUp c r) (k .caughtUp c x)) e ∙ A .same-caughtUp c r (N .out) ∙ sym (caught-forked y F r c) ∙ ap (λ t. caught (forkAt y r) c t) (sym (eqb-true x n e)))
-          (λ e. ap (λ t. cond t (k .caughtUp c r) (k .caughtUp c x)) e ∙ A .same-caughtUp c x (forked-out y r x o e) ∙ sym (caught-fork y F r c x (eqb-false x n e)))
+          (λ e. ap (λ t. cond t (k .caughtUp c r) (k .caughtUp c x)) e ∙ A .same-caughtUp c r (N .out) ∙ sym (caught-forked y F r name c) ∙ ap (λ t. caught (forkAt y r name) c t) (sym (eqb-true x n e)))
+          (λ e. ap (λ t. cond t (k .caughtUp c r) (k .caughtUp c x)) e ∙ A .same-caughtUp c x (forked-out y r name x o e) ∙ sym (caught-fork y F r name c x (eqb-false x n e)))
 
-      joinable′ : (a b : ℕ) → IsOut (forkAt y r) a → IsOut (forkAt y r) b → (eqb b n ≡ true) ⊎ (eqb b n ≡ false) → (eqb a n ≡ true) ⊎ (eqb a n ≡ false) → forkPool (k .joinable) r n a b ≡ J (forkAt y r) a b
+      joinable′ : (a b : ℕ) → IsOut (forkAt y r name) a → IsOut (forkAt y r name) b → (eqb b n ≡ true) ⊎ (eqb b n ≡ false) → (eqb a n ≡ true) ⊎ (eqb a n ≡ false) → forkPool (k .joinable) r n a b ≡ J (forkAt y r name) a b
       joinable′ a b oa ob (inl e) (inl g) =
           ap (λ t. cond t (eqb a r) (changed (k .joinable) n (k .joinable r) a b)) e ∙ ne-eqb a r (λ i. omega (arith, eqb-true a n g, N .out .0))
-          ∙ sym (J-fork-self y F r) ∙ ap (λ t. J (forkAt y r) t n) (sym (eqb-true a n g)) ∙ ap (λ t. J (forkAt y r) a t) (sym (eqb-true b n e))
+          ∙ sym (J-fork-self y F r name) ∙ ap (λ t. J (forkAt y r name) t n) (sym (eqb-true a n g)) ∙ ap (λ t. J (forkAt y r name) a t) (sym (eqb-true b n e))
       joinable′ a b oa ob (inl e) (inr g) =
-          ap (λ t. cond t (eqb a r) (changed (k .joinable) n (k .joinable r) a b)) e ∙ sym (J-fork-new y F r a (λ p. omega (arith, N .out .0)) (eqb-false a n g)) ∙ ap (λ t. J (forkAt y r) a t) (sym (eqb-true b n e))
+          ap (λ t. cond t (eqb a r) (changed (k .joinable) n (k .joinable r) a b)) e ∙ sym (J-fork-new y F r name a (λ p. omega (arith, N .out .0)) (eqb-false a n g)) ∙ ap (λ t. J (forkAt y r name) a t) (sym (eqb-true b n e))
       joinable′ a b oa ob (inr e) (inl g) =
-          ap (λ t. cond t (eqb a r) (changed (k .joinable) n (k .joinable r) a b)) e ∙ ap (λ t. cond t (k .joinable r) (k .joinable a) b) g ∙ A .same-joinable r b (N .out) (forked-out y r b ob e)
-          ∙ sym (J-fork-copy y F (A .flagged .flags) r N b (eqb-false b n e)) ∙ ap (λ t. J (forkAt y r) t b) (sym (eqb-true a n g))
+          ap (λ t. cond t (eqb a r) (changed (k .joinable) n (k .joinable r) a b)) e ∙ ap (λ t. cond t (k .joinable r) (k .joinable a) b) g ∙ A .same-joinable r b (N .out) (forked-out y r name b ob e)
+          ∙ sym (J-fork-copy y F (A .flagged .flags) r name N b (eqb-false b n e)) ∙ ap (λ t. J (forkAt y r name) t b) (sym (eqb-true a n g))
       joinable′ a b oa ob (inr e) (inr g) =
           ap (λ t. cond t (eqb a r) (changed (k .joinable) n (k .joinable r) a b)) e ∙ ap (λ t. cond t (k .joinable r) (k .joinable a) b) g
-          ∙ A .same-joinable a b (forked-out y r a oa g) (forked-out y r b ob e) ∙ sym (J-fork-old y F r a b (eqb-false a n g) (eqb-false b n e))
+          ∙ A .same-joinable a b (forked-out y r name a oa g) (forked-out y r name b ob e) ∙ sym (J-fork-old y F r name a b (eqb-false a n g) (eqb-false b n e))
 
   pub agree-join : (a b : ℕ) → CanJoin y a b → Agree (joinInto y a b) (joinOn k a b)
   unfolding flagged-moves fine-moves
@@ -241,3 +242,20 @@ module _ (y : Day) (k : Machine) (A : Agree y k) where
           ap (λ t. cond t (k .caughtUp c a || k .caughtUp c b) (k .caughtUp c x)) e ∙ ap (λ t. t || k .caughtUp c b) (A .same-caughtUp c a (H .out-a)) ∙ ap (λ t. caught y c a || t) (A .same-caughtUp c b (H .out-b))
           ∙ sym (caught-joiner y F a b c) ∙ ap (λ t. caught (joinInto y a b) c t) (sym (eqb-true x a e)))
           (λ e. ap (λ t. cond t (k .caughtUp c a || k .caughtUp c b) (k .caughtUp c x)) e ∙ A .same-caughtUp c x (joined-out y a b x o .0) ∙ sym (caught-join y F a b c x (eqb-false x a e)))
+
+  -- no vertex is added: what is out still stands as it did
+  pub agree-drop : (r : ℕ) → CanDrop y r → Agree (dropAt y r) (dropOn k r)
+  unfolding flagged-moves fine-moves notJoinable
+  agree-drop r D = record {
+    flagged = flagged-moves y (dropAt y r) (A .flagged) (dropsOf r D);
+    numbered = A .numbered;
+    same-layout = ap (remove r) (A .same-layout);
+    same-inherited = λ s o. A .same-inherited s (dropped-out y r s o .0);
+    same-revisions = A .same-revisions;
+    same-joined = λ s. cases (eqb s r) (λ e. rw e) (λ e. rw e (A .same-joined s));
+    same-joinable = λ a b oa ob. A .same-joinable a b (dropped-out y r a oa .0) (dropped-out y r b ob .0);
+    same-caughtUp = λ c x o. A .same-caughtUp c x (dropped-out y r x o .0);
+    same-openOn = A .same-openOn;
+    same-updates = A .same-updates;
+    same-own = λ s o. A .same-own s (dropped-out y r s o .0);
+  }

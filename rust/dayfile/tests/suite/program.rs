@@ -49,16 +49,20 @@ fn record(call: &Call, rng: &mut Rng) -> Option<Record> {
         }
         Call::List { .. } | Call::Fill { .. } => return None,
         Call::Bundle { .. } | Call::Preview { .. } => return None,
-        Call::Fresh { .. } | Call::Sync { .. } => return None,
+        Call::Fresh { .. } | Call::Sync { .. } | Call::Mark { .. } | Call::Drop { .. } => {
+            return None
+        }
     })
 }
 
-/// A sync as a join and a fork, so that the calls after it find the box that it started.
+/// A sync as a join and a fork, and a mark as a fork, so that the calls after it find the box that it
+/// started.
 fn unfolded(call: &Call) -> Vec<Call> {
     match *call {
         Call::Sync { revision } => {
             vec![Call::Join { joiner: 0, joinee: revision }, Call::Fork { revision: 0 }]
         }
+        Call::Mark { revision, .. } => vec![Call::Fork { revision }],
         _ => vec![call.clone()],
     }
 }

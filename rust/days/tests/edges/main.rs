@@ -3,6 +3,7 @@
 
 mod bundles;
 mod fills;
+mod marks;
 mod numbers;
 mod previews;
 mod race_day;
@@ -51,6 +52,14 @@ fn preview(joiner: u8, joinee: u8, bib: u16) -> Call {
 
 fn sync(revision: u8) -> Call {
     Call::Sync { revision }
+}
+
+fn mark(revision: u8, name: impl AsRef<[u8]>) -> Call {
+    Call::Mark { revision, name: name.as_ref().to_vec() }
+}
+
+fn drop_mark(name: impl AsRef<[u8]>) -> Call {
+    Call::Drop { name: name.as_ref().to_vec() }
 }
 
 /// Makes the table fresh: an ordinary day.

@@ -66,6 +66,20 @@ pub(crate) fn single_main(updates: usize, revisions: usize) -> Vec<Call> {
     calls
 }
 
+/// The name of the mark that is made or dropped.
+pub(crate) const NAME: &[u8] = b"JURY";
+
+/// A mark of that name.
+pub(crate) fn mark(revision: u8) -> Call {
+    Call::Mark { revision, name: NAME.to_vec() }
+}
+
+/// So many revisions out, of which the first that was forked is marked.
+pub(crate) fn marked(revisions: usize) -> Vec<Call> {
+    let forks = (2..revisions).map(|_| Call::Fork { revision: 0 });
+    std::iter::once(mark(0)).chain(forks).collect()
+}
+
 /// A whole day: 63 revisions are forked, each by one of the eight before it; 4,096 updates are
 /// entered on the first 16, by a client each, in transactions of four, every fourth with a query;
 /// all of them are joined.

@@ -12,7 +12,7 @@ use std::hint::black_box;
 use std::time::Instant;
 
 use calls::{Call, CLIENTS, UPDATES};
-use days::{bundle, chain, handed_in, single_main, update, whole};
+use days::{bundle, chain, handed_in, mark, marked, single_main, update, whole, NAME};
 use sides::{made, Side};
 use silttongs::SHEET;
 
@@ -140,6 +140,20 @@ fn synced() -> Vec<Case> {
     [8, 64].into_iter().flat_map(of).collect()
 }
 
+/// 02, U9: marks, to be compared with the forks that they come to, and drops.
+fn marks() -> Vec<Case> {
+    let dropped = |boxes: usize| {
+        let name = NAME.to_vec();
+        Case::of_calls(format!("drop, {boxes} boxes out"), &marked(boxes), &[Call::Drop { name }])
+    };
+    vec![
+        Case::of_calls("mark of box 0, 4,096 updates", &chain(UPDATES, 1), &[mark(0)]),
+        Case::of_calls("mark of box 7, 4,096 updates, 8 boxes", &chain(UPDATES, 8), &[mark(7)]),
+        dropped(8),
+        dropped(64),
+    ]
+}
+
 /// 02, U7: the same calls on a short day, and on one that has 20,000 forks and joins behind it.
 fn reused() -> Vec<Case> {
     let short = chain(2_048, 8);
@@ -201,6 +215,7 @@ fn main() {
     let clock = clock();
     let mut single = single_calls();
     single.extend(synced());
+    single.extend(marks());
     single.extend(reused());
     let mut by_updates = growth(&[64, 1_024, 2_048, 3_072, 4_080], |updates| (updates, 8));
     let mut by_revisions = growth(&[2, 8, 16, 32, 48, 63], |revisions| (2_048, revisions));

@@ -55,6 +55,8 @@ fn call_baseline(t: &mut [u8], sheet: &mut [u8], call: &Call) -> Result<Option<u
         }
         Call::Fresh { single_main } => baseline::fresh(t, single_main).map(one),
         Call::Sync { revision } => baseline::sync(t, revision).map(one),
+        Call::Mark { revision, ref name } => baseline::mark(t, revision, name).map(one),
+        Call::Drop { ref name } => baseline::drop(t, name).map(one),
     }
 }
 
@@ -79,6 +81,8 @@ fn call_library(t: &mut [u8], sheet: &mut [u8], call: &Call) -> Result<Option<u6
             table.preview(joiner, joinee, bib).map(|p| both(stands(p.standing), p.gain))
         }
         Call::Sync { revision } => table.sync(revision).map(one),
+        Call::Mark { revision, ref name } => table.mark(revision, name).map(one),
+        Call::Drop { ref name } => table.drop(name).map(|()| one(0_u32)),
         Call::Fresh { single_main } => {
             let day = if single_main { Day::SingleMain } else { Day::Ordinary };
             Table::fresh(t, day).map(|_| one(0_u32))

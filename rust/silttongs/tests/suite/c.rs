@@ -13,6 +13,11 @@ fn the_club_day_answers_as_written() {
     assert_eq!(printed("club"), include_str!("../../../../examples/c/club.out"));
 }
 
+#[test]
+fn the_protest_answers_as_written() {
+    assert_eq!(printed("protest"), include_str!("../../../../examples/c/protest.out"));
+}
+
 /// What the example of this name prints.
 fn printed(name: &str) -> String {
     let root = Path::new(env!("CARGO_MANIFEST_DIR")).join("../..");

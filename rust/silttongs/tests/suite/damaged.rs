@@ -3,9 +3,9 @@
 
 use std::collections::BTreeMap;
 
-use calls::{Answer, Call, Code, Line, State, BIBS, CLIENTS, REVISIONS};
-use days::{fault_of_bundles, fault_of_previews, fault_of_syncs, random_day, seeds, Profile, Rng};
-use silttongs::{Refusal, Table, BUNDLE, BYTES, SHEET};
+use calls::{Answer, Call, Code, Line, State, CLIENTS, REVISIONS};
+use days::{fault_of_bundles, fault_of_previews, fault_of_syncs, seeds, Rng};
+use silttongs::{Refusal, Table, BUNDLE, BYTES};
 
 use super::cells::{cells, is_table, Cell};
 use super::fresh_for;
@@ -13,6 +13,7 @@ use super::given::{
     answered, by_baseline, choice, difference, first_difference, fresh_bytes, library, only_reads,
     sheet, Given,
 };
+use super::random::{any_call, damaged, names, random_bytes, MARKED, NAMES, SINGLE, STATE};
 
 /// How many damaged buffers are tried.
 const BUFFERS: u64 = 8_000;
@@ -22,7 +23,6 @@ const CALLS: usize = 16;
 const COUNT: usize = 39_424;
 const OUT: usize = 39_826;
 const GIVEN: usize = 39_827;
-const SINGLE: usize = 40_084;
 
 /// The 799 bytes that docs/CELLS.md names.
 #[test]
@@ -85,6 +85,8 @@ fn counts_stop_at_their_range() {
     made(Call::Bundle { client: 0, revision: 0, records: record.repeat(BUNDLE) });
     made(Call::Preview { joiner: 0, joinee: 1, bib: 7 });
     made(Call::Join { joiner: 0, joinee: 1 });
+    made(Call::Mark { revision: 0, name: b"JURY".to_vec() });
+    made(Call::Drop { name: b"JURY".to_vec() });
 }
 
 /// Every other byte is in range, whatever it is.
@@ -119,6 +121,10 @@ fn wrong_lengths() {
         Call::Bundle { client: 0, revision: 0, records: Vec::new() },
         Call::Preview { joiner: 0, joinee: 1, bib: 7 },
         Call::Sync { revision: 1 },
+        Call::Mark { revision: 0, name: b"JURY".to_vec() },
+        // 1 comes before 17 and 18.
+        Call::Mark { revision: 0, name: Vec::new() },
+        Call::Drop { name: b"JURY".to_vec() },
     ];
     let cells = cells();
     for length in [0, 1, 12, 40_959, 40_960, BYTES - 1, BYTES + 1, 2 * BYTES] {
@@ -182,8 +188,14 @@ struct Met {
 
 impl Met {
     /// Makes any call, which is judged, and after an accepted list some more. `at` tells which.
-    fn calls(&mut self, at: &str, rng: &mut Rng, mut judged: impl FnMut(&Call) -> Given) {
-        let call = any_call(rng);
+    fn calls(
+        &mut self,
+        at: &str,
+        rng: &mut Rng,
+        names: &[Vec<u8>],
+        mut judged: impl FnMut(&Call) -> Given,
+    ) {
+        let call = any_call(rng, names);
         let Given { answer: Answer { code, value, .. }, sheet } = judged(&call);
         *self.codes.entry(code).or_default() += 1;
         let (Call::List { revision, .. }, 1..) = (call, value) else { return };
@@ -208,29 +220,34 @@ impl Met {
 fn random_calls_on_damaged_buffers() {
     let cells = cells();
     let mut met = Met::default();
-    let (mut reused, mut synced) = (0, 0);
+    let (mut reused, mut synced, mut marked, mut dropped) = (0, 0, 0, 0);
     for seed in seeds(BUFFERS) {
         let mut rng = Rng::new(seed);
         let mut t = damaged(&cells, &mut rng);
+        let names = names(&t);
         for step in 0..CALLS {
             let at = format!("seed {seed}, call {step}");
-            met.calls(&at, &mut rng, |call| {
+            met.calls(&at, &mut rng, &names, |call| {
                 let all_given = t.get(GIVEN) == Some(&REVISIONS);
                 let given = judged(&cells, &mut t, call)
                     .unwrap_or_else(|fault| panic!("{at}, `{call}`: {fault}"));
                 let accepted = given.answer.code == Code::Accepted;
                 reused += usize::from(all_given && accepted && call.name() == "fork");
                 synced += usize::from(accepted && call.name() == "sync");
+                marked += usize::from(accepted && call.name() == "mark");
+                dropped += usize::from(accepted && call.name() == "drop");
                 given
             });
         }
     }
     assert!(reused >= 50, "{reused} forks took a number from the queue");
     assert!(synced >= 50, "{synced} syncs");
+    assert!(marked >= 50, "{marked} marks");
+    assert!(dropped >= 50, "{dropped} drops");
     let Met { codes, states } = met;
     // 13 is given by the program alone.
     let numbers: Vec<u8> = codes.keys().map(|code| code.number()).collect();
-    assert_eq!(numbers, [0, 1, 2, 3, 4, 5, 6, 7, 8, 9, 10, 11, 12, 14, 15]);
+    assert_eq!(numbers, [0, 1, 2, 3, 4, 5, 6, 7, 8, 9, 10, 11, 12, 14, 15, 16, 17, 18]);
     assert!(codes.values().all(|&times| times >= 10), "{codes:?}");
     assert_eq!(states.len(), 3, "{states:?}");
     assert!(states.values().all(|&times| times >= 30), "{states:?}");
@@ -256,6 +273,10 @@ fn judged(cells: &[Cell], t: &mut Vec<u8>, call: &Call) -> Result<Given, String>
         Call::Bundle { .. } if table => fault_of_bundles(before.clone(), one, answered),
         Call::Preview { .. } if table => fault_of_previews(before.clone(), one, answered),
         Call::Sync { .. } if table => fault_of_syncs(before.clone(), one, answered),
+        Call::Mark { revision, name } if table => {
+            let (right, left) = forked_and_named(&before, *revision, name);
+            (right != given.answer || left != *t).then(|| format!("as a fork {right}"))
+        }
         _ => None,
     };
     if let Some(fault) = fault {
@@ -276,86 +297,28 @@ fn judged(cells: &[Cell], t: &mut Vec<u8>, call: &Call) -> Result<Given, String>
     }
 }
 
-fn random_bytes(rng: &mut Rng) -> Vec<u8> {
-    (0..BYTES / 8).flat_map(|_| rng.bits().to_le_bytes()).collect()
-}
-
-/// Random bytes, a fresh table or the table of a random day, each with random cells; most are in
-/// range, so that the calls get past code 1.
-fn damaged(cells: &[Cell], rng: &mut Rng) -> Vec<u8> {
-    let mut t = match rng.below(4) {
-        0 => fresh_bytes(),
-        1 => random_bytes(rng),
-        _ => {
-            let mut t = fresh_bytes();
-            let (many, few) = (Profile::MIXED, Profile::SMALL_REUSED);
-            let kind = rng.pick(&[many, many, many, Profile::SINGLE_MAIN, few]);
-            for call in random_day(&kind, rng.bits()) {
-                library(&mut t, &call);
-            }
-            t
-        }
+/// What a mark answers and leaves, worked out from the fork: "Mark has fork's refusals and value".
+fn forked_and_named(before: &[u8], revision: u8, name: &[u8]) -> (Answer, Vec<u8>) {
+    let mut t = before.to_vec();
+    t[SINGLE] = 0;
+    let forked = library(&mut t, &Call::Fork { revision }).answer;
+    let code = match forked.code {
+        code @ (Code::NeverGiven | Code::Joined) => code,
+        _ if before[SINGLE] == 1 => Code::OffTheLine,
+        Code::Accepted if is_bad(before, name) => Code::BadName,
+        code => code,
     };
-    // Random bytes are no table until each cell is put in range.
-    let all_in_range = !is_table(cells, &t) && rng.percent(80);
-    for cell in cells {
-        if all_in_range || rng.percent(5) {
-            let (low, high) = (*cell.range.start(), *cell.range.end());
-            let any = low + rng.below(usize::from(high - low) + 1) as u16;
-            cell.set(&mut t, rng.pick(&[low, high, any, any, any, any]));
-        }
+    if code != Code::Accepted {
+        return (Answer::refused(code), before.to_vec());
     }
-    for _ in 0..rng.below(200) {
-        let at = rng.below(BYTES);
-        if !cells.iter().any(|cell| (cell.at..cell.at + cell.width).contains(&at)) {
-            t[at] = rng.bits() as u8;
-        }
-    }
-    // The other choice than the day had.
-    if t[SINGLE] <= 1 && rng.percent(10) {
-        t[SINGLE] ^= 1;
-    }
-    if rng.percent(15) {
-        let cell = &cells[rng.below(cells.len())];
-        cell.set(&mut t, rng.bits() as u16 & cell.most());
-    }
-    t
+    let number = forked.value as usize;
+    t[STATE + number] = MARKED;
+    t[NAMES + 4 * number..][..4].copy_from_slice(name);
+    (forked, t)
 }
 
-/// Mostly numbers in range.
-fn any_call(rng: &mut Rng) -> Call {
-    let mut below = |n: usize| if rng.percent(3) { rng.below(256) } else { rng.below(n) };
-    let [client, revision, other] = [CLIENTS, REVISIONS, REVISIONS].map(|n| below(n.into()) as u8);
-    let kind = (1 + below(4)) as u8;
-    let bib = rng.below(usize::from(BIBS) + 10) as u16;
-    match rng.below(14) {
-        0 => Call::Query { client, revision, bib },
-        1 => Call::Yield { client },
-        2 => Call::Fork { revision },
-        3 => Call::Join { joiner: revision, joinee: other },
-        4 => Call::List { revision, room: SHEET },
-        5 => Call::List { revision, room: rng.below(200) },
-        6 => Call::Fill { revision },
-        7 => Call::Preview { joiner: revision, joinee: other, bib },
-        8 => Call::Bundle { client, revision, records: any_records(rng) },
-        9 | 10 => Call::Sync { revision },
-        _ => Call::Update { client, revision, kind, bib, v: rng.bits() as u32 },
-    }
-}
-
-/// The records of a bundle, most of them good; in some cases a wrong one.
-fn any_records(rng: &mut Rng) -> Vec<u8> {
-    let (few, any) = (1 + rng.below(4), 1 + rng.below(BUNDLE + 2));
-    let count = rng.pick(&[few, few, BUNDLE, any]);
-    let record = |_| {
-        let [kind, client, bib, rest] = [0; 4].map(|_: u8| rng.bits());
-        let bib = if bib % 100 == 0 { BIBS } else { (bib % u64::from(BIBS)) as u16 };
-        let kind = 1 + (kind % 4) as u8;
-        Line { kind, client: client as u8, bib, v: rest as u32, number: (rest >> 32) as u32 }
-    };
-    let mut records: Vec<u8> = (0..count).map(record).flat_map(Line::to_bytes).collect();
-    if rng.percent(10) {
-        records.truncate(rng.below(records.len() + 1));
-    }
-    records
+/// Whether a name is not four letters A to Z, or is that of a mark from 1 to 63.
+fn is_bad(t: &[u8], name: &[u8]) -> bool {
+    let in_use = |number| t[STATE + number] == MARKED && t[NAMES + 4 * number..][..4] == *name;
+    name.len() != 4 || !name.iter().all(u8::is_ascii_uppercase) || (1..64).any(in_use)
 }

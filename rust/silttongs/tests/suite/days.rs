@@ -4,8 +4,8 @@
 use calls::{Answer, Call, Line, BIBS};
 use days::{
     chains_of_joins, days_of, every_fill, every_list, every_preview, fault_of_bundles,
-    fault_of_fills, fault_of_numbers, fault_of_previews, fault_of_syncs, late_days, must_pass,
-    one_in, seeds, Profile,
+    fault_of_fills, fault_of_marks, fault_of_numbers, fault_of_origins, fault_of_previews,
+    fault_of_syncs, late_days, must_pass, one_in, seeds, Profile,
 };
 use silttongs::{lines, Entry, Table};
 
@@ -33,6 +33,7 @@ fn small_days_with_every_listing_and_fill_after_every_step() {
     must_pass(Profile::SMALL.days(seeds(800)), fault_with_reads);
     must_pass(Profile::SMALL_REUSED.days(seeds(20)), fault_with_reads);
     must_pass(Profile::SMALL_SINGLE_MAIN.days(seeds(150)), fault_with_reads);
+    must_pass(Profile::SMALL_MARKED.days(seeds(250)), fault_with_reads);
     must_pass(chains_of_joins(0..10), fault_with_reads);
 }
 
@@ -41,6 +42,7 @@ fn small_days_with_every_listing_and_fill_after_every_step() {
 fn small_days_with_every_preview_after_every_step() {
     must_pass(Profile::SMALL.days(seeds(100)), fault_with_previews);
     must_pass(Profile::SMALL_SINGLE_MAIN.days(seeds(30)), fault_with_previews);
+    must_pass(Profile::SMALL_MARKED.days(seeds(30)), fault_with_previews);
 }
 
 /// 02, U4, U6 and U8, by the library alone: a bundle is its updates and a yield, or changes nothing; a
@@ -73,6 +75,22 @@ fn numbers_go_by_the_order_of_the_hand_ins() {
     let numbers = |calls: &[Call]| fault_of_numbers(fresh_bytes(), calls, answered);
     must_pass(one_in(4), numbers);
     must_pass(Profile::SMALL_REUSED.days(seeds(60)), numbers);
+}
+
+/// 02, U9, by the library alone: names, codes and lists of marks, and what comes of them.
+#[test]
+fn marks_go_by_the_calls_before() {
+    let kinds = [
+        (Profile::SMALL_MARKED, 300),
+        (Profile::MARKED, 100),
+        (Profile::CROWDED_MARKED, 4),
+        (Profile::RENEWED, 60),
+        (Profile::SINGLE_MAIN, 60),
+    ];
+    must_pass(days_of(&kinds), |calls| {
+        fault_of_marks(fresh_bytes(), calls, answered)
+            .or_else(|| fault_of_origins(fresh_bytes(), calls, answered))
+    });
 }
 
 /// 02, U1: after every step, the own updates of all boxes out come to the updates accepted.

@@ -43,6 +43,8 @@ pub(crate) fn library(bytes: &mut [u8], call: &Call) -> Given {
         Call::Yield { client } => table.yield_(client).map(|()| Answer::accepted(0)),
         Call::Fork { revision } => table.fork(revision).map(started),
         Call::Sync { revision } => table.sync(revision).map(started),
+        Call::Mark { revision, ref name } => table.mark(revision, name).map(started),
+        Call::Drop { ref name } => table.drop(name).map(|()| Answer::accepted(0)),
         Call::Fresh { single_main } => {
             Table::fresh(bytes, choice(single_main)).map(|_| Answer::accepted(0))
         }

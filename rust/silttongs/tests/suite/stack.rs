@@ -5,8 +5,8 @@ use std::thread;
 use calls::UPDATES;
 use silttongs::{Day, Entry, Kind, Refusal, Standing, Table, BUNDLE, BYTES, SHEET};
 
-/// The longest own list, and so the deepest recursion, on box 1: a query walks it, and a fork, a list
-/// and a preview too.
+/// The longest own list, and so the deepest recursion, on box 1: a query walks it, and a fork, a mark, a
+/// list and a preview too.
 #[test]
 fn the_deepest_calls_fit_in_96_kib() {
     let run = || {
@@ -26,6 +26,8 @@ fn the_deepest_calls_fit_in_96_kib() {
         table.fill(1)?;
         assert_eq!(table.preview(0, 1, 7)?.standing, standing);
         table.fork(1)?;
+        table.mark(1, "JURY")?;
+        table.drop("JURY")?;
         table.sync(1)?;
         table.join(0, 2)?;
         Ok::<Standing, Refusal>(standing)

@@ -1,43 +1,32 @@
--- `revisions::join::join` meets its contract: the pieces in a row. Assumes nothing.
+-- `revisions::join::join` meets its contract: the merge, which leaves a table in range, and the drop. Assumes nothing.
 use mathlib.Core.Path.{_∙_, ap}
+use native.Mathlib.Omega.{arith}
 use borrow.Author.Needs.{needs}
-use Rattle.cells.specs.Decode.{cells}
-use Rattle.cells.specs.CellSteps.{oneFewer}
+use Rattle.cells.specs.Range.{inRange}
+use Rattle.cells.proofs.Stays.{Lower, merge-stays}
 use Rattle.revisions.proofs.Writes.{join-done}
 use Rattle.revisions.proofs.join.join.Statement.{statement}
 use Rattle.revisions.proofs.join.join.Tie as tie
 
-returns : tie.Need-returns
-unfolding cells
-returns c =
-    let at-retire = c .before .before in
-    let at-count3 = at-retire .before .before .before .before in
-    let at-splice = at-count3 .before .before .before .before in
-    let at-fewer = at-splice .before .before in
-    let at-out = at-fewer .before in
-    let at-queue-end = at-out .before .before in
-    let at-counted = at-queue-end .before .before in
-    let at-count2 = at-counted .before in
-    let at-count = at-count2 .before .before in
-    let start = at-count .before .before .before in
+drop-requires : tie.Need-drop-requires
+drop-requires c κs =
+    let at-merge = c .before .before .before in
+    let start = at-merge .before .before .before in
     let s = start .args in
-    let out = at-fewer .one-fewer .ensures .0 ∙ ap oneFewer (at-out .out .ensures .0) in (
-      at-count .count .ensures .0,
-      join-done (s .d .now) (start .pre .0) _ _ _ (s .a .0) (s .b .0) (at-count2 .count2 .result) (at-count .count .result) (at-counted .counted .result) (at-queue-end .queue-end .result) (at-fewer .one-fewer .result)
-          (at-count2 .count2 .ensures .0) (at-count .count .ensures .0) (at-counted .counted .ensures .0) (at-queue-end .queue-end .ensures .0) out (at-splice .splice .ensures) (at-count3 .count3 .ensures) (at-retire .retire .ensures),
-    )
+    let L : Lower (s .d .now) = record { long = start .pre .0; ranged = start .pre .1 } in
+    (search needs, ap inRange (at-merge .merge .ensures .1) ∙ merge-stays (s .d .now) L (s .a .0) (s .b .0) (start .pre .2) (start .pre .3) .ranged, omega arith)
+
+returns : tie.Need-returns
+returns c =
+    let at-drop = c .before .before in
+    let at-merge = at-drop .before .before .before .before in
+    let start = at-merge .before .before .before in
+    let s = start .args in
+    (at-merge .merge .ensures .0, join-done (s .d .now) (start .pre .0) _ _ (s .a .0) (s .b .0) (start .pre .2) (at-merge .merge .ensures .1) (at-drop .drop .ensures))
 
 pub join-spec : {M : Type 1} → statement M
 join-spec = tie.close (tie.spec
     (λ c κs. search needs)
-    (λ c κs. search needs)
-    (λ c. search needs)
-    (λ c κs. search needs)
-    (λ c κs. search needs)
-    (λ c κs. search needs)
-    (λ c κs. search needs)
-    (λ c κs. search needs)
-    (λ c κs. search needs)
-    (λ c κs. search needs)
+    drop-requires
     (λ c. search needs)
     returns)
