@@ -125,7 +125,9 @@ uint64_t silttongs_fork(uint8_t *table, size_t length, uint8_t box);
 
 /* Hands a box in: the joiner takes over the joinee's updates, behind its own. Codes 1, 3, 4, 15, 16, 7,
  * 11, in this order; 15 for another joiner than box 0 on a single-main day, 16 if either box is marked.
- * Value: how many updates the joiner gained. */
+ * Value: how many updates the joiner gained.
+ *
+ * However many those are, the table differs from its former bytes at no more than 256 places. */
 uint64_t silttongs_join(uint8_t *table, size_t length, uint8_t joiner, uint8_t joinee);
 
 /* Hands a box in to box 0 and sends a new one off from there, on any day: as silttongs_join into box 0
@@ -134,7 +136,7 @@ uint64_t silttongs_join(uint8_t *table, size_t length, uint8_t joiner, uint8_t j
  *
  * The old number is handed in before the new one is taken. So while numbers are left that were never
  * used it takes the next of them, and with 64 boxes out it answers the number that it was given: go on
- * with the value, not with `box`. */
+ * with the value, not with `box`. The table differs from its former bytes at no more than 512 places. */
 uint64_t silttongs_sync(uint8_t *table, size_t length, uint8_t box);
 
 /* Marks a box, marked or not: a new box is sent off from it as by silttongs_fork, and bears the name

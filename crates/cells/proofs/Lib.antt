@@ -3,10 +3,13 @@ pub mod Tables
 pub mod Parts
 pub mod Words
 pub mod Flags
+pub mod Bytes
 pub mod Chain
 pub mod Stops
 pub mod Places
 pub mod Sized
+pub mod LightFlags
+pub mod Light
 pub mod Follow
 pub mod FollowFork
 pub mod FollowFresh

@@ -1,6 +1,6 @@
--- Of the claims only `StaysTable` (crate consistency) rests on this file; else it serves the code.
+-- Of the claims only `StaysTable` (crate consistency) and those of `table` specs/Light rest on this file; else it serves the code.
 -- Numbers in bytes: words of two bytes, the low byte first; half bytes; links, of a byte and a half byte each; names of four bytes.
-use Prim.Native.Nat.{ℕ, _+_, _*_, _/_, _%_}
+use Prim.Native.Nat.{ℕ, _+_, _*_, _/_, _%_, _<_}
 use mathlib.Core.Bool.{cond}
 use mathlib.Core.List.{List, [], _∷_}
 use lib.Dec.{eqb}
@@ -8,6 +8,10 @@ use lib.ListN.{getD, set}
 
 abbrev pub byte : List ℕ → ℕ → ℕ
 byte t i = getD t i 0
+
+-- what a list lent as bytes is
+abbrev pub Bytes : List ℕ → Type 0
+Bytes t = (i : ℕ) → byte t i < 256
 
 unfoldable pub word : List ℕ → ℕ → ℕ
 word t r = byte t (2 * r) + 256 * byte t (2 * r + 1)

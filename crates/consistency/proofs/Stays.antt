@@ -8,7 +8,7 @@ use native.Mathlib.Omega.{arith}
 use lib.Dec.{eqb, ltb}
 use lib.ListN.{length, length-replicate}
 use borrow.Author.Tests.{eq-eqb, ltb-true, not-false}
-use Rattle.lists.proofs.Cases.{and-true, cases, or-false}
+use Rattle.lists.proofs.Cases.{and-true, cases}
 use Rattle.lists.specs.Names.{Name}
 use Rattle.bundles.specs.declared.entry.Entry.{Entry}
 use Rattle.updates.specs.Kinds.{kindOf}
@@ -17,11 +17,11 @@ use Rattle.desk.specs.Checks.{checks, settle}
 use Rattle.desk.proofs.Checks.{Ends, Passed, _also_, ends, no, no-table-first, yes}
 use Rattle.cells.specs.Sizes.{clients, revisions, updates}
 use Rattle.cells.specs.Cells.{nextNumber}
-use Rattle.cells.specs.Checks.{bearer, givenOut, isClient, joinable}
+use Rattle.cells.specs.Checks.{bearer, givenOut, isClient}
 use Rattle.cells.specs.Steps.{closeBytes, dropBytes, forkBytes, joinBytes, markBytes, queryBytes, updateBytes}
 use Rattle.cells.proofs.Bearer.{bearer-number}
 use Rattle.cells.proofs.Range.{next-ranged, ranges}
-use Rattle.cells.proofs.Stays.{Lower, close-stays, drop-stays, fork-stays, fresh-stays, join-stays, joinee-some, mark-stays, query-stays, update-stays}
+use Rattle.cells.proofs.Stays.{Lower, close-stays, drop-stays, fork-stays, fresh-stays, join-stays, mark-stays, query-stays, update-stays}
 use Rattle.entries.specs.Sizes as Upper
 use Rattle.entries.specs.Stored.{entry}
 use Rattle.entries.specs.Entries.{wrote}
@@ -31,6 +31,7 @@ use Rattle.table.specs.Answers.{afterTaken, refused}
 use Rattle.table.specs.Out.{Out, tableBytes}
 use Rattle.table.specs.Calls.{asOne, asked, batchOut, bundleOut, dropOut, entriesOut, fillOut, forkOut, freshOut, joinEnd, joinOut, listOut, markOut, noFill, noProspect, previewOut, queryOut, sentOut, settled, syncOut, updateOut, yieldOut}
 use Rattle.table.proofs.Halves.{lower-of, table-of, upper-length}
+use Rattle.table.proofs.Syncs.{joins}
 use Rattle.table.specs.declared.answer.Level.{Level}
 use Rattle.table.specs.declared.answer.Prospect.{Prospect}
 use Rattle.consistency.specs.Table.{served}
@@ -99,10 +100,7 @@ module _ (t : List ℕ) (h : isTable t ≡ true) where
       table-of (dropBytes (low t) (bearer (cellsOf t) name)) (high t) (drop-stays (low t) L (bearer (cellsOf t) name) (found .0) (found .1)) upper
 
   join-end : (n m : ℕ) → Passed (checks (asked t) (Join n m)) → isTable (joinBytes (low t) n m ++ high t) ≡ true
-  join-end n m (e1 also e3 also e4 also e15 also e16 also e7 also e11 also P) =
-      let both = or-false (not (givenOut (cellsOf t) n)) (not (givenOut (cellsOf t) m)) e3 in
-      let pos = joinee-some (cellsOf t) n m (not-false (joinable (cellsOf t) n m) e11) in
-      table-of (joinBytes (low t) n m) (high t) (join-stays (low t) L n m (revision n (both .0)) (revision m (both .1)) pos) upper
+  join-end n m P = let J = joins t n m P in table-of (joinBytes (low t) n m) (high t) (join-stays (low t) L n m (J .joiner) (J .joinee) (J .some)) upper
 
   yield-end : (c : ℕ) → isTable (closeBytes (low t) c ++ high t) ≡ true
   yield-end c = table-of (closeBytes (low t) c) (high t) (close-stays (low t) L c) upper

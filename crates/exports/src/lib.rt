@@ -4,6 +4,7 @@ ghost use mathlib.Core.Bool.{not};
 ghost use mathlib.Core.Path.{_≡_};
 ghost use lib.Dec.{eqb};
 ghost use Prim.Native.Nat.{_≤_};
+ghost use Rattle.lists.specs.Differences.{differences};
 ghost use Rattle.table.specs.Calls.{bundleOut, dropOut, fillOut, forkOut, freshOut, joinOut, listOut, markOut, previewOut, queryOut, syncOut, updateOut, yieldOut};
 ghost use Rattle.exports.specs.Packed.{exported, exportedLevel, exportedProspect, returned, packed, packedGain, packedState, stateNumber};
 use updates::standing::State;
@@ -98,7 +99,7 @@ pub extern "C" fn silttongs_fork(t: &mut [u8], revision: u8) -> u64
 
 #[no_mangle]
 pub extern "C" fn silttongs_join(t: &mut [u8], joiner: u8, joinee: u8) -> u64
-    ensures { λ r. ⌜ returned r (now (t .exit)) ≡ exported (joinOut (now (t .entry)) joiner joinee) ⌝ }
+    ensures { λ r. ⌜ (returned r (now (t .exit)) ≡ exported (joinOut (now (t .entry)) joiner joinee)) × (differences (now (t .entry)) (now (t .exit)) ≤ 256) ⌝ }
 {
     let a = forking::join::join(t, joiner, joinee);
     pack(a.code, a.value)
@@ -106,7 +107,7 @@ pub extern "C" fn silttongs_join(t: &mut [u8], joiner: u8, joinee: u8) -> u64
 
 #[no_mangle]
 pub extern "C" fn silttongs_sync(t: &mut [u8], joinee: u8) -> u64
-    ensures { λ r. ⌜ returned r (now (t .exit)) ≡ exported (syncOut (now (t .entry)) joinee) ⌝ }
+    ensures { λ r. ⌜ (returned r (now (t .exit)) ≡ exported (syncOut (now (t .entry)) joinee)) × (differences (now (t .entry)) (now (t .exit)) ≤ 512) ⌝ }
 {
     let a = forking::sync::sync(t, joinee);
     pack(a.code, a.value)

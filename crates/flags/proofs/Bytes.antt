@@ -1,4 +1,4 @@
--- Bytes by their bits: a byte is the byte of its own bits; the bits of an or and of an exclusive or; one bit alone.
+-- Bytes by their bits: the bits of an or and of an exclusive or; one bit alone.
 use Prim.Native.Nat.{ℕ, zero, suc, _+_, _*_, _/_, _%_, _^_, _<_}
 use mathlib.Core.Bool.{Bool, true, not, cond, _||_, _&&_, or-false}
 use mathlib.Core.Path.{_≡_, refl, sym, _∙_, ap}
@@ -13,14 +13,7 @@ use Rattle.cells.specs.Tables.{every}
 use Rattle.cells.specs.Flags.{bit, byteOf}
 use Rattle.cells.proofs.Tables.{every-at}
 use Rattle.cells.proofs.Flags.{bit-byte, byte-same}
-
--- looked up for each of the 256 bytes
-all-bytes : every (λ b. eqb (byteOf (bit b)) b) 256 ≡ true
-unfolding every
-all-bytes = refl
-
-pub bits-byte : (b : ℕ) → b < 256 → byteOf (bit b) ≡ b
-bits-byte b h = eqb-true _ b (every-at (λ z. eqb (byteOf (bit z)) z) 256 b all-bytes h)
+use Rattle.cells.proofs.Bytes.{bits-byte}
 
 pub byte-is : (b : ℕ) (f : ℕ → Bool) → b < 256 → ((j : ℕ) → j < 8 → bit b j ≡ f j) → b ≡ byteOf f
 byte-is b f h e = sym (bits-byte b h) ∙ byte-same (bit b) f e

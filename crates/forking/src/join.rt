@@ -2,8 +2,9 @@
 ghost use mathlib.Core.Path.{_≡_};
 ghost use mathlib.Core.Bool.{true};
 ghost use mathlib.Core.List.{_++_};
-ghost use Prim.Native.Nat.{_<_};
+ghost use Prim.Native.Nat.{_<_, _≤_};
 ghost use lib.ListN.{length};
+ghost use Rattle.lists.specs.Differences.{differences};
 ghost use Rattle.cells.specs.Sizes.{revisions};
 ghost use Rattle.cells.specs.Range.{inRange};
 ghost use Rattle.cells.specs.Steps.{joinBytes};
@@ -44,8 +45,9 @@ fn join_sound(t: &mut [u8], joiner: u8, joinee: u8) -> Answer
     Answer { code: 0, value }
 }
 
+// The table differs from its former bytes at no more than 256 places (02, U11).
 pub fn join(t: &mut [u8], joiner: u8, joinee: u8) -> Answer
-    ensures { λ a. ⌜ left a (now (t .exit)) ≡ joinOut (now (t .entry)) joiner joinee ⌝ }
+    ensures { λ a. ⌜ (left a (now (t .exit)) ≡ joinOut (now (t .entry)) joiner joinee) × (differences (now (t .entry)) (now (t .exit)) ≤ 256) ⌝ }
 {
     let TableCheck::Sound = sound::check_table(t) else {
         return Answer { code: 1, value: 0 };

@@ -1,8 +1,9 @@
 // The call sync (02, U8): a revision is joined into the main revision, which then forks; the new number is the value.
 ghost use mathlib.Core.Path.{_≡_};
 ghost use mathlib.Core.Bool.{true};
-ghost use Prim.Native.Nat.{_<_};
+ghost use Prim.Native.Nat.{_<_, _≤_};
 ghost use lib.ListN.{length};
+ghost use Rattle.lists.specs.Differences.{differences};
 ghost use Rattle.cells.specs.Sizes.{revisions};
 ghost use Rattle.cells.specs.Range.{inRange};
 ghost use Rattle.table.specs.Halves.{isTable, low};
@@ -40,8 +41,9 @@ fn sync_sound(t: &mut [u8], joinee: u8) -> Answer
     }
 }
 
+// The table differs from its former bytes at no more than 512 places (02, U11).
 pub fn sync(t: &mut [u8], joinee: u8) -> Answer
-    ensures { λ a. ⌜ left a (now (t .exit)) ≡ syncOut (now (t .entry)) joinee ⌝ }
+    ensures { λ a. ⌜ (left a (now (t .exit)) ≡ syncOut (now (t .entry)) joinee) × (differences (now (t .entry)) (now (t .exit)) ≤ 512) ⌝ }
 {
     let TableCheck::Sound = sound::check_table(t) else {
         return Answer { code: 1, value: 0 };

@@ -13,3 +13,4 @@ pub mod Rows
 pub mod Told
 pub mod Renamed
 pub mod Names
+pub mod Differences

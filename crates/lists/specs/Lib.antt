@@ -4,3 +4,4 @@ pub mod Arranged
 pub mod Pool
 pub mod Sums
 pub mod Names
+pub mod Differences

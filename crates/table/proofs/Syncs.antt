@@ -5,10 +5,9 @@ use mathlib.Core.Path.{_≡_, sym, ap, _∙_}
 use mathlib.Core.List.{List, _++_}
 use native.Mathlib.Omega.{arith}
 use lib.Dec.{eqb, ltb}
-use lib.ListN.{length}
 use borrow.Author.Tests.{ltb-true, ne-eqb, not-false}
 use Rattle.lists.proofs.Cases.{and-true, or-false}
-use Rattle.desk.specs.Calls.{Sync}
+use Rattle.desk.specs.Calls.{Join, Sync}
 use Rattle.desk.specs.Checks.{checks}
 use Rattle.desk.proofs.Checks.{Passed, _also_}
 use Rattle.cells.specs.Sizes.{revisions}
@@ -60,14 +59,33 @@ module _ (t : List ℕ) (h : isTable t ≡ true) (m : ℕ) (ml : m < revisions) 
       rw (left-table, left-cells, still-given (cellsOf t) m pos, g, still-out (cellsOf t) m pos, j, and-false, b, left-room)
       (rw (low-of d (high t) (left-lower .long), high-of d (high t) (left-lower .long), join-decoded (low t) (lower-of t h .1) 0 m (omega arith) ml))
 
+-- what the checks of a join leave of the table, the joiner and the joinee
+pub record Joins (t : List ℕ) (n m : ℕ) : Type 0 where
+  pub table : isTable t ≡ true
+  pub joiner : n < revisions
+  pub joinee : m < revisions
+  pub some : 0 < m
+  pub given : givenOut (cellsOf t) n ≡ true
+  pub out : joined (cellsOf t) n ≡ false
+  pub idle : busy (cellsOf t) n ≡ false
+
+pub joins : (t : List ℕ) (n m : ℕ) → Passed (checks (asked t) (Join n m)) → Joins t n m
+joins t n m (e1 also e3 also e4 also e15 also e16 also e7 also e11 also P) =
+    let k = cellsOf t in
+    let never = or-false (not (givenOut k n)) (not (givenOut k m)) e3 in
+    let given-n = not-false (givenOut k n) (never .0) in
+    let given-m = not-false (givenOut k m) (never .1) in
+    record {
+      table = not-false (isTable t) e1;
+      joiner = ltb-true n revisions (and-true (ltb n revisions) _ given-n .0);
+      joinee = ltb-true m revisions (and-true (ltb m revisions) _ given-m .0);
+      some = joinee-some k n m (not-false (joinable k n m) e11);
+      given = given-n;
+      out = or-false (joined k n) (joined k m) e4 .0;
+      idle = or-false (busy k n) (busy k m) e7 .0;
+    }
+
 -- so a sync whose checks find nothing is taken
 pub sync-ends : (t : List ℕ) (m : ℕ) → Passed (checks (asked t) (Sync m))
     → asOne t (forkOut (joinEnd t 0 m .lent) 0) ≡ taken (forkBytes (joinBytes (low t) 0 m) 0 (nextNumber (cells (joinBytes (low t) 0 m))) ++ high t) (nextNumber (cells (joinBytes (low t) 0 m)))
-sync-ends t m (e1 also e3 also e4 also e15 also e16 also e7 also e11 also P) =
-    let k = cellsOf t in
-    let given = or-false (not (givenOut k 0)) (not (givenOut k m)) e3 in
-    let out = or-false (joined k 0) (joined k m) e4 in
-    let idle = or-false (busy k 0) (busy k m) e7 in
-    let ml = ltb-true m revisions (and-true (ltb m revisions) _ (not-false (givenOut k m) (given .1)) .0) in
-    let pos = joinee-some k 0 m (not-false (joinable k 0 m) e11) in
-    ap (asOne t) (sync-forks t (not-false (isTable t) e1) m ml pos (not-false (givenOut k 0) (given .0)) (out .0) (idle .0))
+sync-ends t m P = let J = joins t 0 m P in ap (asOne t) (sync-forks t (J .table) m (J .joinee) (J .some) (J .given) (J .out) (J .idle))

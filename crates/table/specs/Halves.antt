@@ -1,4 +1,4 @@
--- Of the claims only `StaysTable` (crate consistency) rests on this file; else it serves the definitions of the calls. The lent buffer in halves: the revisions' 40,960 bytes, then the entries' 24,576.
+-- Of the claims only `StaysTable` (crate consistency) and those of specs/Light rest on this file; else it serves the definitions of the calls. The lent buffer in halves: the revisions' 40,960 bytes, then the entries' 24,576.
 use Prim.Native.Nat.{ℕ}
 use mathlib.Core.Bool.{Bool, _&&_}
 use mathlib.Core.List.{List}

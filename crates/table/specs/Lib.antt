@@ -5,3 +5,4 @@ pub mod Answers
 pub mod Calls
 pub mod Found
 pub mod Checks
+pub mod Light

@@ -1,7 +1,7 @@
 //! Random days, and the checkers that judge them.
 //!
 //! Days are made from a seed, but for the short ones of [`late_days`]. A failed check prints the
-//! seed, and the shortest day found that still fails. There are ten checks:
+//! seed, and the shortest day found that still fails. There are eleven checks:
 //!
 //! - the literal replay and the baseline agree on every answer;
 //! - an arbitration order (01: line-up) has what demand 3 says of it, by brute force;
@@ -12,7 +12,8 @@
 //! - a sync is the join into the main revision and the fork of it;
 //! - single-main days have what 02's U8 asks to show of them;
 //! - marks have names and lists by the calls before, and refuse what they must;
-//! - what comes of a mark is taken over by nothing that does not.
+//! - what comes of a mark is taken over by nothing that does not;
+//! - joins and syncs leave the table but at few places.
 
 #![forbid(unsafe_code)]
 
@@ -31,6 +32,7 @@ mod history;
 mod judge;
 mod juries;
 mod late;
+mod light;
 mod line_up;
 mod marks;
 mod meeting;
@@ -59,6 +61,7 @@ pub use fills::fault_of_fills;
 pub use generator::random_day;
 pub use judge::{must_find, must_pass};
 pub use late::late_days;
+pub use light::Heaviest;
 pub use line_up::{broken_sentence, SENTENCES};
 pub use marks::fault_of_marks;
 pub use meeting::meeting;

@@ -206,7 +206,8 @@ impl<B: AsMut<[u8]>> Table<B> {
     }
 
     /// Hands a box in: the joiner takes over the joinee's updates, behind its own. How many it
-    /// gained is the answer.
+    /// gained is the answer. However many those are, the table differs from its former bytes at no
+    /// more than 256 places.
     ///
     /// ```
     /// use silttongs::{Day, Kind, Refusal, Table, BYTES};
@@ -230,7 +231,8 @@ impl<B: AsMut<[u8]>> Table<B> {
     /// Hands a box in to box 0 and sends a new one off from there, in one call, on any day: as
     /// [`join`](Table::join) and then [`fork`](Table::fork) of box 0, but both or neither. The new
     /// box's number is the answer. The old number is handed in before a new one is taken; so with 64
-    /// boxes out it is the same again.
+    /// boxes out it is the same again. The table differs from its former bytes at no more than 512
+    /// places.
     ///
     /// ```
     /// use silttongs::{Day, Kind, Refusal, Standing, Table, BYTES};

@@ -5,7 +5,7 @@ use Rattle.exports.proofs.silttongs_join.Statement.{statement}
 use Rattle.exports.proofs.silttongs_join.Tie as tie
 
 returns : tie.Need-returns
-returns c = gives _ (c .pack .ensures) (c .before .before .before .join .ensures)
+returns c = let at-join = c .before .before .before in (gives _ (c .pack .ensures) (at-join .join .ensures .0), at-join .join .ensures .1)
 
 pub silttongs-join-spec : {M : Type 1} → statement M
 silttongs-join-spec = tie.close (tie.spec (λ c κs. search needs) (λ c κs. search needs) (λ c. search needs) returns)

@@ -4,7 +4,7 @@
 use std::collections::BTreeMap;
 
 use calls::{Answer, Call, Code, Line, State, CLIENTS, REVISIONS};
-use days::{fault_of_bundles, fault_of_previews, fault_of_syncs, seeds, Rng};
+use days::{fault_of_bundles, fault_of_previews, fault_of_syncs, seeds, Heaviest, Rng};
 use silttongs::{Refusal, Table, BUNDLE, BYTES};
 
 use super::cells::{cells, is_table, Cell};
@@ -279,7 +279,7 @@ fn judged(cells: &[Cell], t: &mut Vec<u8>, call: &Call) -> Result<Given, String>
         }
         _ => None,
     };
-    if let Some(fault) = fault {
+    if let Some(fault) = fault.or_else(|| Heaviest::default().fault_of(call, &before, t)) {
         return Err(fault);
     }
     if code != Code::Accepted && (given != refused(call, code) || *t != before) {

@@ -7,6 +7,7 @@ mod cells;
 mod damaged;
 mod days;
 mod given;
+mod light;
 mod marks;
 mod meeting;
 mod numbers;

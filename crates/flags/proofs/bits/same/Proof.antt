@@ -1,7 +1,7 @@
 -- `flags::bits::same` meets its contract. Assumes nothing.
 use mathlib.Core.Path.{sym}
 use native.Mathlib.Omega.{arith}
-use Rattle.flags.proofs.Bytes.{bits-byte}
+use Rattle.cells.proofs.Bytes.{bits-byte}
 use Rattle.flags.proofs.bits.same.Statement.{statement}
 use Rattle.flags.proofs.bits.same.Tie as tie
 

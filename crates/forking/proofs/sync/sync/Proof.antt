@@ -1,16 +1,29 @@
 -- `forking::sync::sync` meets its contract: code 1, then the other checks and the work. Assumes nothing.
 use mathlib.Core.Path.{_∙_, sym}
+use native.Mathlib.Omega.{arith}
 use borrow.Author.Needs.{needs}
 use Rattle.table.proofs.Buffer.{is-table, no-table}
+use Rattle.table.proofs.Light.{light-syncs, promised}
 use Rattle.forking.proofs.Syncs.{no-sync}
 use Rattle.forking.proofs.sync.sync.Statement.{statement}
 use Rattle.forking.proofs.sync.sync.Tie as tie
 
 returns : tie.Need-returns
-returns c = no-sync _ (no-table _ (sym (c .before .before .check-table .ensures) ∙ c .enum-told2 .given .1)) _
+returns c =
+    let at-check = c .before .before in
+    let entry = at-check .before .before in
+    let s = entry .before .args in
+    promised (light-syncs (s .t .now) (λ i. omega (arith, entry .slice-known .given i)) (s .joinee)) _ _ (no-sync _ (no-table _ (sym (at-check .check-table .ensures) ∙ c .enum-told2 .given .1)) _)
 
 sync-sound-requires : tie.Need-sync-sound-requires
 sync-sound-requires c κs = is-table _ (sym (c .before .before .before .check-table .ensures) ∙ c .before .enum-told .given .1)
+
+returns-2 : tie.Need-returns-2
+returns-2 c =
+    let at-sound = c .before .before in
+    let entry = at-sound .before .before .before .before .before .before in
+    let s = entry .before .args in
+    promised (light-syncs (s .t .now) (λ i. omega (arith, entry .slice-known .given i)) (s .joinee)) _ _ (at-sound .sync-sound .ensures)
 
 pub sync-spec : {M : Type 1} → statement M
 sync-spec = tie.close (tie.spec
@@ -21,4 +34,4 @@ sync-spec = tie.close (tie.spec
     returns
     sync-sound-requires
     (λ c. search needs)
-    (λ c. search needs))
+    returns-2)

@@ -40,7 +40,7 @@ returns-5 : tie.Need-returns-5
 returns-5 c =
     let at-join = c .before .before .before in
     let told = at-join .before .before .before .step5 .given .1 in
-    rw told (plain _ _ _ _ (c .without-state4 .ensures) (at-join .join .ensures))
+    rw told (plain _ _ _ _ (c .without-state4 .ensures) (at-join .join .ensures .0))
 
 returns-6 : tie.Need-returns-6
 returns-6 c = rw (c .enum-told .given .1)
