@@ -24,18 +24,32 @@ fn kind_after(n: u8) -> Kind
     }
 }
 
+pub fn bib_of(p: &[u8]) -> u16
+    requires { ⌜ length (now p) ≡ 6 ⌝ }
+    ensures { λ b. ⌜ b ≡ decoded (now (p .entry)) .bib ⌝ }
+{
+    let bib = wide(p[0]) + 256 * wide(p[1] % 4);
+    bib as u16
+}
+
+pub fn kind_of(p: &[u8]) -> Kind
+    requires { ⌜ length (now p) ≡ 6 ⌝ }
+    ensures { λ k. ⌜ k ≡ decoded (now (p .entry)) .kind ⌝ }
+{
+    kind_after(p[1] / 4 % 4)
+}
+
 pub fn load(p: &[u8]) -> Entry
     requires { ⌜ length (now p) ≡ 6 ⌝ }
     ensures { λ e. ⌜ e ≡ decoded (now (p .entry)) ⌝ }
 {
-    let mixed = p[1];
-    let kind = kind_after(mixed / 4 % 4);
-    let bib = wide(p[0]) + 256 * wide(mixed % 4);
+    let kind = kind_of(p);
+    let bib = bib_of(p);
     let v = wide(p[2]) + 256 * wide(p[3]) + 65536 * wide(p[4]) + 16777216 * wide(p[5]);
     Entry {
         kind,
-        client: mixed / 16,
-        bib: bib as u16,
+        client: p[1] / 16,
+        bib,
         v,
     }
 }

@@ -1,7 +1,8 @@
 -- The search for a revision among those that are out, and the walk back from the left.
 use Prim.Native.Nat.{ℕ, zero, suc, _+_, _-_, _<_, _≤_}
+use mathlib.Core.Bool.{true}
 use mathlib.Core.Path.{_≡_, sym, ap, _∙_}
-use mathlib.Core.List.{List, [], _++_}
+use mathlib.Core.List.{List, [], _∷_, _++_}
 use native.Mathlib.Numerals.{add-one}
 use native.Mathlib.Omega.{arith}
 use lib.ListN.{length, getD, drop, drop-of-length-le}
@@ -13,7 +14,9 @@ use Rattle.cells.specs.Parts.{size, layoutPart}
 use Rattle.cells.specs.Words.{byte}
 use Rattle.cells.specs.Cells.{Cells, outs}
 use Rattle.cells.specs.Decode.{cells}
+use Rattle.cells.specs.Range.{inRange}
 use Rattle.cells.proofs.Parts.{split-sized}
+use Rattle.cells.proofs.Range.{ranges}
 
 pub outs-length : (d : List ℕ) → length d ≡ lowerBytes → cells d .out ≤ revisions → length (outs (cells d)) ≡ cells d .out
 unfolding cells size
@@ -21,6 +24,16 @@ outs-length d h o = let l = split-sized d h .of layoutPart in length-take-le (ce
 
 pub outs-at : (k : Cells) (i : ℕ) → i < k .out → getD (outs k) i 0 ≡ byte (k .layout) i
 outs-at k i h = getD-take (k .out) (k .layout) i 0 h
+
+-- the revisions from a place on: that at the place, and those behind it; behind the last there are none
+module _ (d : List ℕ) (h : length d ≡ lowerBytes) (g : inRange d ≡ true) where
+  pub from-place : (i x : ℕ) → i < cells d .out → x ≡ byte (cells d .layout) i → drop i (outs (cells d)) ≡ x ∷ drop (i + 1) (outs (cells d))
+  from-place i x l e =
+      let n = outs-length d h (ranges d g .most-out) in
+      drop-cons (outs (cells d)) i 0 (omega arith) ∙ rw (outs-at (cells d) i l, e, add-one)
+
+  pub past-places : (i : ℕ) → cells d .out ≤ i → drop i (outs (cells d)) ≡ []
+  past-places i l = let n = outs-length d h (ranges d g .most-out) in drop-of-length-le (outs (cells d)) {i = i} (omega arith)
 
 module _ (r : ℕ) (l : List ℕ) where
   pub sought-more : (j : ℕ) → j < length l → (getD l j 0 ≡ r → ⊥) → behind r l ≡ behind r (drop j l) → behind r l ≡ behind r (drop (j + 1) l)

@@ -113,6 +113,17 @@ gather-more link u (suc m) out p h =
     let g : m < length (set out m u) = simp length-set (omega arith) in
     rw (sub-one, drop-cons (set out m u) m 0 g, getD-set-same out m u 0 (omega arith), drop-set-lt (suc m) out m u (omega arith), append-assoc)
 
+-- of an own list, read backwards: its last entry, and what is left
+pub picks-none : (b : ℕ) (f : ℕ → Bool) (link : ℕ → ℕ) (u n : ℕ) → n ≡ 0 → picks b f (chain link u n) ≡ []
+unfolding chain
+picks-none b f link u n e = rw e (picks-nil b f)
+
+pub picks-last : (b : ℕ) (f : ℕ → Bool) (link : ℕ → ℕ) (u n : ℕ) → 0 < n → picks b f (chain link u n) ≡ picks b f (chain link (link u) (n - 1)) ++ offered b f (n - 1) u
+unfolding chain
+picks-last b f link u zero h = absurd (omega arith)
+picks-last b f link u (suc m) h =
+    rw sub-one (picks-more b f (chain link (link u) m) u ∙ ap (λ i. picks b f (chain link (link u) m) ++ offered b f i u) (chain-length link (link u) m))
+
 -- what a list leaves in the first n places: itself, so the own list
 pub fits : (n : ℕ) (a b l : List ℕ) → n ≡ length a → l ≡ a ++ b → (n ≤ length l) × (take n l ≡ a)
 fits n a b l e h = (rw (h, length-append) (omega arith), rw h (take-at a b n (sym e)))

@@ -33,7 +33,7 @@ fn push(out: &mut [u16], n: usize, x: u16) -> usize
 }
 
 // Whether r inherited u, the entry at place i of a list of which it inherited the first `base`.
-fn wanted(d: &[u8], r: Revision, base: usize, i: usize, u: usize) -> bool
+pub fn wanted(d: &[u8], r: Revision, base: usize, i: usize, u: usize) -> bool
     requires { ⌜ (length (now d) ≡ lowerBytes) × (r .0 < revisions) ⌝ }
     ensures { λ x. ⌜ x ≡ (ltb i base || flagged (cells (now (d .entry))) (r .0) u) ⌝ }
 {
@@ -89,7 +89,7 @@ fn add_some(
 }
 
 // How many of the first entries of x's list r inherited by count.
-fn base_in(d: &[u8], r: Revision, x: Revision) -> usize
+pub fn base_in(d: &[u8], r: Revision, x: Revision) -> usize
     requires { ⌜ (length (now d) ≡ lowerBytes) × (r .0 < revisions) ⌝ }
     ensures { λ b. ⌜ b ≡ baseIn (cells (now (d .entry))) (r .0) (x .0) ⌝ }
 {
@@ -100,7 +100,7 @@ fn base_in(d: &[u8], r: Revision, x: Revision) -> usize
 }
 
 // The revision at a place of the layout: a number in range on every table in range.
-fn at_place(d: &[u8], i: usize) -> Revision
+pub fn at_place(d: &[u8], i: usize) -> Revision
     requires { ⌜ (length (now d) ≡ lowerBytes) × (inRange (now d) ≡ true) × (i < revisions) ⌝ }
     ensures { λ x. ⌜ (x .0 ≡ byte (cells (now (d .entry)) .layout) i) × (x .0 < revisions) ⌝ }
 {
@@ -111,7 +111,7 @@ fn at_place(d: &[u8], i: usize) -> Revision
 }
 
 // The place of r among those that are out, or their number.
-fn place_of(d: &[u8], r: Revision) -> usize
+pub fn place_of(d: &[u8], r: Revision) -> usize
     requires { ⌜ (length (now d) ≡ lowerBytes) × (inRange (now d) ≡ true) ⌝ }
     ensures { λ j. ⌜ (j ≤ revisions) × (behind (r .0) (outs (cells (now (d .entry)))) ≡ drop (j + 1) (outs (cells (now (d .entry))))) ⌝ }
 {

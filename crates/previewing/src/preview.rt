@@ -6,18 +6,15 @@ ghost use Prim.Native.Nat.{_<_};
 ghost use lib.ListN.{length};
 ghost use Rattle.cells.specs.Sizes as Lower;
 ghost use Rattle.cells.specs.Sizes.{revisions};
-ghost use Rattle.cells.specs.Decode.{cells};
-ghost use Rattle.cells.specs.Order.{order};
 ghost use Rattle.cells.specs.Range.{inRange};
 ghost use Rattle.cells.specs.Steps.{joinBytes};
-ghost use Rattle.entries.specs.Entries.{entryAt};
-ghost use Rattle.entries.specs.Folded.{standingOf};
 ghost use Rattle.table.specs.Halves.{cellsOf, high, isTable, low};
 ghost use Rattle.table.specs.Out.{tableBytes};
 ghost use Rattle.table.specs.Calls.{foreseen, noProspect, previewOut, standingAt};
 ghost use Rattle.table.specs.Checks.{joinIn};
 ghost use Rattle.previewing.specs.Checks.{previewCheck};
 use buffers::put::copy;
+use querying::standing::standing_on;
 use querying::standing::tell;
 use revisions::join::join;
 use sizes::numbers::Revision;
@@ -30,7 +27,6 @@ use table::join::check_join;
 use table::pair::PairCheck;
 use table::sound;
 use table::sound::TableCheck;
-use updates::standing::Standing;
 use updates::standing::State;
 
 fn refused(code: u8) -> Prospect
@@ -60,22 +56,12 @@ fn join_copy(t: &[u8], d: &mut [u8], a: Revision, b: Revision)
     join(d, a, b);
 }
 
-// The standing of a bib at r, by the revisions in d and the entries in t.
-fn standing_on(d: &[u8], t: &[u8], r: Revision, bib: u16) -> Standing
-    requires { ⌜ (length (now d) ≡ Lower.lowerBytes) × (inRange (now d) ≡ true) × (length (now t) ≡ tableBytes) × (r .0 < revisions) ⌝ }
-    ensures { λ s. ⌜ s ≡ standingOf (entryAt (high (now (t .entry)))) bib (order (cells (now (d .entry))) (r .0)) ⌝ }
-{
-    let mut out = order::links::room();
-    let n = order::visible::list(d, r, &mut out);
-    entries::standing::standing(&t[Table::LOWER..Table::BYTES], &out, n, bib)
-}
-
 // A copy of t that has been joined, d its lower half, read at a.
 fn read_on(d: &[u8], t: &[u8], a: Revision, bib: u16, gain: u16) -> Prospect
     requires { ⌜ (length (now d) ≡ Lower.lowerBytes) × (inRange (now d) ≡ true) × (length (now t) ≡ tableBytes) × (a .0 < revisions) ⌝ }
     ensures { λ p. ⌜ p ≡ foreseen (standingAt (now (d .entry) ++ high (now (t .entry))) (a .0) bib) gain ⌝ }
 {
-    let standing = standing_on(d, t, a, bib);
+    let standing = standing_on(d, &t[Table::LOWER..Table::BYTES], a, bib);
     let told = tell(standing);
     let state = told.state;
     Prospect {

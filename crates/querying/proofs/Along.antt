@@ -13,10 +13,10 @@ use Rattle.table.specs.Out.{tableBytes}
 use Rattle.table.specs.Calls.{standingAt}
 use Rattle.table.proofs.Halves.{high-whole}
 
--- the standing along what was listed, from the upper half as it was lent
-pub along-entries : (t l o : List ℕ) (bib : ℕ) (s : Standing) → length t ≡ tableBytes → l ≡ o → s ≡ standingOf (entryAt (take Upper.entryBytes (high t))) bib l → s ≡ standingOf (entryAt (high t)) bib o
-along-entries t l o bib s h e ev = ev ∙ ap (λ (u : List ℕ). standingOf (entryAt u) bib l) (high-whole t h) ∙ ap (standingOf (entryAt (high t)) bib) e
+-- the standing after some numbers, from the upper half as it was lent
+pub along-entries : (t ns : List ℕ) (bib : ℕ) (s : Standing) → length t ≡ tableBytes → s ≡ standingOf (entryAt (take Upper.entryBytes (high t))) bib ns → s ≡ standingOf (entryAt (high t)) bib ns
+along-entries t ns bib s h e = e ∙ ap (λ (u : List ℕ). standingOf (entryAt u) bib ns) (high-whole t h)
 
-pub standing-along : (t l : List ℕ) (r bib : ℕ) (s : Standing) → length t ≡ tableBytes → l ≡ order (cellsOf t) r → s ≡ standingOf (entryAt (take Upper.entryBytes (high t))) bib l → s ≡ standingAt t r bib
+pub standing-along : (t : List ℕ) (r bib : ℕ) (s : Standing) → length t ≡ tableBytes → s ≡ standingOf (entryAt (take Upper.entryBytes (high t))) bib (order (cellsOf t) r) → s ≡ standingAt t r bib
 unfolding standingAt
-standing-along t l r bib s h e ev = along-entries t l (order (cellsOf t) r) bib s h e ev
+standing-along t r bib s h e = along-entries t (order (cellsOf t) r) bib s h e

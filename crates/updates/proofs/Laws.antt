@@ -1,6 +1,6 @@
 -- Laws about the definitions by name: they need no definition's text.
 use Prim.Native.Nat.{ℕ}
-use mathlib.Core.Bool.{Bool, true, false, cond}
+use mathlib.Core.Bool.{Bool, true, false, false≢true, cond}
 use mathlib.Core.Path.{_≡_, refl, _∙_, ap}
 use mathlib.Core.List.{List, [], _∷_, _++_}
 use native.Mathlib.Omega.{arith}
@@ -9,6 +9,7 @@ use borrow.Author.Tests.{eqb-true}
 use Rattle.updates.specs.Kinds.{kindNumber, kindCheck}
 use Rattle.updates.specs.Effect.{effect}
 use Rattle.updates.specs.Applied.{Update, applied}
+use Rattle.updates.specs.Absolute.{absolute}
 use Rattle.updates.specs.declared.kind.Kind.{Kind}
 use Rattle.updates.specs.declared.kind.Kind.the-variants.{Time, Earliest, Penalty, Strike}
 use Rattle.updates.specs.declared.standing.Standing.{Standing}
@@ -45,3 +46,16 @@ pub applied-append : (us ws : List Update) (x : Standing) → applied (us ++ ws)
 unfolding applied
 applied-append [] ws x = refl
 applied-append (u ∷ us) ws x = applied-append us ws (effect (u .kind) (u .v) x)
+
+-- the effect of an absolute update is the same whatever stood before
+whatever-stood : (k : Kind) (v : ℕ) (x y : Standing) → absolute k ≡ true → effect k v x ≡ effect k v y
+unfolding absolute effect
+whatever-stood Time v x y e = refl
+whatever-stood Earliest v x y e = absurd (false≢true e)
+whatever-stood Penalty v x y e = absurd (false≢true e)
+whatever-stood Strike v x y e = refl
+
+-- the effects before an absolute one do not matter, nor what they began with
+pub from-absolute : (us ws : List Update) (u : Update) (x y : Standing) → absolute (u .kind) ≡ true → applied (us ++ (u ∷ ws)) x ≡ applied (u ∷ ws) y
+unfolding applied
+from-absolute us ws u x y e = applied-append us (u ∷ ws) x ∙ ap (applied ws) (whatever-stood (u .kind) (u .v) (applied us x) y e)

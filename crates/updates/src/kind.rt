@@ -1,5 +1,6 @@
 // The four kinds of update, and the range check by which alone a kind byte becomes one.
 ghost use mathlib.Core.Path.{_≡_};
+ghost use Rattle.updates.specs.Absolute.{absolute};
 ghost use Rattle.updates.specs.Kinds.{kindNumber, kindCheck};
 
 pub enum Kind {
@@ -37,5 +38,17 @@ pub fn number(kind: Kind) -> u8
         Kind::Earliest => 2,
         Kind::Penalty => 3,
         Kind::Strike => 4,
+    }
+}
+
+// Whether the effect is the same whatever stood before, so that no update before this one counts.
+pub fn is_absolute(kind: Kind) -> bool
+    ensures { λ r. ⌜ r ≡ absolute kind ⌝ }
+{
+    match kind {
+        Kind::Time => true,
+        Kind::Earliest => false,
+        Kind::Penalty => false,
+        Kind::Strike => true,
     }
 }

@@ -16,6 +16,7 @@ mod numbers;
 mod order;
 mod parts;
 mod range;
+mod standing;
 mod steps;
 mod table;
 mod update;

@@ -1,10 +1,8 @@
 //! The updates visible at a revision, in listed order: docs/CELLS.md, "What the cells mean".
 
-use crate::entry::Entry;
-use crate::numbers::{Bib, Revision, LOG};
+use crate::numbers::{Revision, LOG};
 use crate::parts::ROW;
 use crate::table::Table;
-use crate::update::Standing;
 
 /// Room for the numbers of all updates.
 pub(crate) type Numbers = [u16; LOG];
@@ -29,6 +27,22 @@ impl Table<'_> {
         own
     }
 
+    /// The revisions behind r in the layout, the nearest first.
+    pub(crate) fn behind(&self, r: Revision) -> &[u8] {
+        let outs = &self.layout()[..usize::from(self.out())];
+        let place = outs.iter().position(|&other| other == r.0);
+        place.map_or(&[][..], |place| &outs[place + 1..])
+    }
+
+    /// How many of the first entries of another's own list r inherited by count.
+    pub(crate) fn base_in(&self, r: Revision, other: Revision) -> u16 {
+        if other == Revision::MAIN {
+            self.base(r)
+        } else {
+            0
+        }
+    }
+
     /// The order of a revision: what it inherited of each list behind it in the layout, last place
     /// first, then its own list.
     pub(crate) fn order<'n>(&self, r: Revision, numbers: &'n mut Numbers) -> &'n [u16] {
@@ -41,27 +55,15 @@ impl Table<'_> {
                 count += 1;
             }
         };
-        let outs = &self.layout()[..usize::from(self.out())];
-        let place = outs.iter().position(|&other| other == r.0);
-        let behind = place.map_or(&[][..], |place| &outs[place + 1..]);
-        for &other in behind.iter().rev() {
+        for &other in self.behind(r).iter().rev() {
             let other = Revision(other);
-            let base = if other == Revision::MAIN { self.base(r) } else { 0 };
             let own = self.own(other, &mut scratch);
-            let (by_count, others) = own.split_at(own.len().min(usize::from(base)));
+            let base = usize::from(self.base_in(r, other));
+            let (by_count, others) = own.split_at(own.len().min(base));
             by_count.iter().for_each(|&u| push(u));
             others.iter().filter(|&&u| has(&row, u)).for_each(|&u| push(u));
         }
         self.own(r, &mut scratch).iter().for_each(|&u| push(u));
         &numbers[..count]
-    }
-
-    /// How a bib stands at a revision.
-    pub(crate) fn standing(&self, r: Revision, bib: Bib) -> Standing {
-        self.order(r, &mut [0; LOG])
-            .iter()
-            .map(|&u| Entry::from_bytes(self.entry(u)))
-            .filter(|entry| entry.bib == bib.0)
-            .fold(Standing::at(0), |standing, entry| entry.kind.applied(standing, entry.v))
     }
 }

@@ -54,6 +54,11 @@ impl Kind {
         self as u8 - 1
     }
 
+    /// Whether its effect is the same however the bib stood.
+    pub(crate) fn is_absolute(self) -> bool {
+        matches!(self, Kind::Time | Kind::Strike)
+    }
+
     /// How a bib stands after an update of this kind.
     pub(crate) fn applied(self, bib: Standing, v: u32) -> Standing {
         match self {

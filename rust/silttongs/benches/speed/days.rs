@@ -7,6 +7,11 @@ fn entry(n: usize) -> (u8, u16, u32) {
     (1 + (n % 4) as u8, (n * 7 % usize::from(BIBS)) as u16, n as u32)
 }
 
+/// The bib of the n-th update of a day. Every update of bib 7 is an Earliest.
+pub(crate) fn bib(n: usize) -> u16 {
+    entry(n).1
+}
+
 /// The n-th update of a day.
 pub(crate) fn update(client: u8, revision: u8, n: usize) -> Call {
     let (kind, bib, v) = entry(n);
@@ -35,6 +40,27 @@ pub(crate) fn chain(updates: usize, revisions: usize) -> Vec<Call> {
         calls.extend(share.map(|n| update(0, revision as u8, n)));
         calls.push(Call::Yield { client: 0 });
     }
+    calls
+}
+
+/// The same with every update an Earliest of bib 7.
+pub(crate) fn of_one_bib(updates: usize, revisions: usize) -> Vec<Call> {
+    let mut calls = chain(updates, revisions);
+    for call in &mut calls {
+        if let Call::Update { kind, bib, .. } = call {
+            (*kind, *bib) = (2, 7);
+        }
+    }
+    calls
+}
+
+/// Two revisions whose clients take turns, and one joined into the other: no link of its list leads to
+/// the number before.
+pub(crate) fn in_turn(updates: usize) -> Vec<Call> {
+    let mut calls = vec![Call::Fork { revision: 0 }];
+    calls.extend((0..updates).map(|n| update((n % 2) as u8, (n % 2) as u8, n)));
+    calls.extend([0, 1].map(|client| Call::Yield { client }));
+    calls.push(Call::Join { joiner: 0, joinee: 1 });
     calls
 }
 

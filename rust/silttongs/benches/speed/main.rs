@@ -1,5 +1,6 @@
 //! The static library against `baseline`, which keeps the same cells and makes the same checks, in
-//! one process. docs/PERFORMANCE.md has the method and figures.
+//! one process; and, where it is installed, beside SQLite. docs/PERFORMANCE.md has the method and
+//! figures.
 //!
 //!     cargo bench --offline --manifest-path rust/Cargo.toml -p silttongs
 //!     cargo bench --offline --manifest-path rust/Cargo.toml -p silttongs -- --plot FILE
@@ -7,12 +8,16 @@
 mod days;
 mod plot;
 mod sides;
+mod sqlite;
 
 use std::hint::black_box;
 use std::time::Instant;
 
 use calls::{Call, CLIENTS, UPDATES};
-use days::{bundle, chain, handed_in, mark, marked, single_main, update, whole, NAME};
+use days::{
+    bib, bundle, chain, handed_in, in_turn, mark, marked, of_one_bib, single_main, update, whole,
+    NAME,
+};
 use sides::{made, Side};
 use silttongs::SHEET;
 
@@ -32,6 +37,7 @@ pub(crate) struct Times {
 /// Some calls on a table.
 struct Case {
     name: String,
+    day: Vec<Call>,
     table: Box<[u8]>,
     calls: Vec<Call>,
     times: Times,
@@ -40,7 +46,13 @@ struct Case {
 impl Case {
     fn of_calls(name: impl Into<String>, day: &[Call], calls: &[Call]) -> Self {
         let times = Times { baseline: u64::MAX, library: u64::MAX };
-        Case { name: name.into(), table: made(day), calls: calls.to_vec(), times }
+        Case {
+            name: name.into(),
+            day: day.to_vec(),
+            table: made(day),
+            calls: calls.to_vec(),
+            times,
+        }
     }
 
     /// Both sides in turn, each sample on a copy of the table; they must leave the same bytes, of
@@ -59,6 +71,14 @@ impl Case {
             spent += baseline + library;
             samples += 1;
         }
+    }
+
+    /// The value of the last call.
+    fn value(&self) -> u64 {
+        let mut t = self.table.clone();
+        let mut sheet = vec![0; SHEET];
+        let values = self.calls.iter().map(|call| Side::Library.call(&mut t, &mut sheet, call).1);
+        values.last().flatten().unwrap_or(0)
     }
 
     fn ratio(&self) -> f64 {
@@ -87,19 +107,33 @@ fn single_calls() -> Vec<Case> {
     let middle = chain(2_048, 8);
     let one_revision = chain(UPDATES, 1);
     let full = chain(UPDATES, 8);
+    let crowded = chain(UPDATES, 64);
     let query = |revision| [Call::Query { client: 0, revision, bib: 7 }];
+    // The update a hundred before the end is a Time, and the last of its bib.
+    let timed = bib(UPDATES - 100);
+    let query_timed = |revision| [Call::Query { client: 0, revision, bib: timed }];
     let list = |revision| [Call::List { revision, room: SHEET }];
     let strange = [Call::Yield { client: CLIENTS }];
     let pair = [update(0, 7, 7), Call::Yield { client: 0 }];
-    let preview = |joiner, joinee| [Call::Preview { joiner, joinee, bib: 7 }];
+    let preview = |bib| [Call::Preview { joiner: 6, joinee: 7, bib }];
     vec![
         Case::of_calls("range check alone: a yield with code 2", &middle, &strange),
         Case::of_calls("yield", &middle, &[Call::Yield { client: 0 }]),
         Case::of_calls("fill", &middle, &[Call::Fill { revision: 7 }]),
         Case::of_calls("update + yield, 2,048 updates, 8 boxes", &middle, &pair),
         Case::of_calls("bundle of 64, 2,048 updates, 8 boxes", &middle, &[bundle(0, 7, 7)]),
-        Case::of_calls("query, 4,096 visible updates, 1 box", &one_revision, &query(0)),
-        Case::of_calls("query, 4,096 visible updates, 8 boxes", &full, &query(7)),
+        Case::of_calls("query, no Time or Strike, 4,096 updates, 1 box", &one_revision, &query(0)),
+        Case::of_calls("query, no Time or Strike, 4,096 updates, 8 boxes", &full, &query(7)),
+        Case::of_calls("query, no Time or Strike, 4,096 updates, 64 boxes", &crowded, &query(63)),
+        Case::of_calls(
+            "query, 4,096 Earliest of its bib, 8 boxes",
+            &of_one_bib(UPDATES, 8),
+            &query(7),
+        ),
+        Case::of_calls("query, no Time or Strike, every link a jump", &in_turn(UPDATES), &query(0)),
+        Case::of_calls("query, a Time in the last hundred, 1 box", &one_revision, &query_timed(0)),
+        Case::of_calls("query, a Time in the last hundred, 8 boxes", &full, &query_timed(7)),
+        Case::of_calls("query, a Time in the last hundred, 64 boxes", &crowded, &query_timed(63)),
         Case::of_calls("list of 4,096 updates, 1 box", &one_revision, &list(0)),
         Case::of_calls("list of 4,096 updates, 8 boxes", &full, &list(7)),
         Case::of_calls(
@@ -117,7 +151,8 @@ fn single_calls() -> Vec<Case> {
             &full,
             &[Call::Join { joiner: 6, joinee: 7 }],
         ),
-        Case::of_calls("preview of that join", &full, &preview(6, 7)),
+        Case::of_calls("preview of that join, no Time or Strike", &full, &preview(7)),
+        Case::of_calls("preview of that join, a Time in the last hundred", &full, &preview(timed)),
         Case::of_calls("fresh", &middle, &[Call::Fresh { single_main: false }]),
         Case::of_calls("fresh, single-main", &middle, &[Call::Fresh { single_main: true }]),
         Case::of_calls("day of 4,096 updates, 63 forks and joins", &[], &whole(false)),
@@ -230,10 +265,11 @@ fn main() {
         case.times.library -= clock;
     }
 
-    println!("{:<44} {:>10} {:>10} {:>7}", "nanoseconds", "baseline", "library", "ratio");
+    println!("{:<52} {:>10} {:>10} {:>7}", "nanoseconds", "baseline", "library", "ratio");
     single.iter().for_each(|case| print_case(&case.name, case));
     print_growth("updates, 8 boxes", &by_updates);
     print_growth("boxes, 2,048 updates", &by_revisions);
+    print_sqlite(&single);
     if let Some(file) = plot {
         let points = |cases: &[(usize, Case)]| {
             cases.iter().map(|(size, case)| (case.name.clone(), *size, case.times)).collect()
@@ -249,7 +285,24 @@ fn print_growth(title: &str, cases: &[(usize, Case)]) {
     }
 }
 
+/// The times of the calls that a program on SQLite makes too, and answers alike.
+fn print_sqlite(cases: &[Case]) {
+    let days = cases.iter().map(|case| (&*case.name, &*case.day, &*case.calls));
+    let Some(times) = sqlite::times(days) else {
+        println!("\nSQLite is not installed, or cc is not: no figures of it");
+        return;
+    };
+    println!("\n{:<52} {:>10} {:>10}", "nanoseconds", "SQLite", "library");
+    for case in cases {
+        let Some(&(nanoseconds, value)) = times.get(&case.name) else { continue };
+        if !matches!(case.calls[..], [Call::Bundle { .. }]) {
+            assert_eq!(value, case.value(), "{}: SQLite answers otherwise", case.name);
+        }
+        println!("{:<52} {nanoseconds:>10} {:>10}", case.name, case.times.library);
+    }
+}
+
 fn print_case(name: &str, case: &Case) {
     let Times { baseline, library } = case.times;
-    println!("{name:<44} {baseline:>10} {library:>10} {:>7.2}", case.ratio());
+    println!("{name:<52} {baseline:>10} {library:>10} {:>7.2}", case.ratio());
 }
