@@ -61,7 +61,8 @@ enum {
     SILTTONGS_OFF_THE_LINE = 15,  /* single-main day: a mark; or not box 0 is forked, or joined into */
     SILTTONGS_MARKED_BOX = 16,    /* the box is marked */
     SILTTONGS_BAD_NAME = 17,      /* for a mark: not four letters A to Z, or in use */
-    SILTTONGS_NO_SUCH_MARK = 18   /* for a drop: no mark that is out has the name */
+    SILTTONGS_NO_SUCH_MARK = 18,  /* for a drop: no mark that is out has the name */
+    SILTTONGS_BAD_LIST = 21       /* for a verify: length or offset under 8, or they do not fit the count */
 };
 
 /* The kinds of update, and what each does to a bib. */
@@ -190,6 +191,16 @@ uint64_t silttongs_bundle(uint8_t *table, size_t length, uint8_t tablet, uint8_t
  * The table is only read: a preview is no event. */
 uint64_t silttongs_preview(const uint8_t *table, size_t length, uint8_t joiner, uint8_t joinee,
                            uint16_t bib);
+
+/* Checks an order of the day's updates that other software made. Codes 1, 21. Value: 1 if it has every
+ * update taken today exactly once and no other number, and every box that is out, marked or not, has
+ * its listed updates standing in it in the listed order, those of open transactions too; else 0.
+ *
+ * The order is a file: a header of a count and an offset, 4 bytes each, then update numbers of 2 bytes,
+ * all least significant byte first; bytes between header and numbers are not looked at. The table is
+ * only read. */
+uint64_t silttongs_verify(const uint8_t *table, size_t length, const uint8_t *order,
+                          size_t order_length);
 
 #ifdef __cplusplus
 }

@@ -7,4 +7,5 @@ pub mod Demand
 pub mod Fills
 pub mod Previews
 pub mod Syncs
+pub mod Orders
 mod Examples

@@ -1,6 +1,6 @@
 -- A refused call changes nothing, whatever the buffer is.
 use Prim.Native.Nat.{ℕ}
-use mathlib.Core.Bool.{not}
+use mathlib.Core.Bool.{false, not}
 use mathlib.Core.Path.{_≡_, refl, ap}
 use mathlib.Core.List.{List, [], _∷_}
 use lib.Dec.{eqb}
@@ -9,17 +9,19 @@ use borrow.Author.Tests.{eqb-false}
 use Rattle.lists.specs.Lists.{_∈_}
 use Rattle.lists.proofs.Cases.{cases}
 use Rattle.bundles.specs.declared.entry.Entry.{Entry}
-use Rattle.desk.specs.Calls.{Call, Update, Query, Yield, Fork, Join, Sync, Mark, Drop, Bundle, Looks, Show, Fill, Preview, Batch, Records, Entries, entriesOf}
+use Rattle.desk.specs.Calls.{Call, Update, Query, Yield, Fork, Join, Sync, Mark, Drop, Bundle, Looks, Show, Fill, Preview, Verify, Batch, Records, Entries, entriesOf}
 use Rattle.desk.specs.Checks.{checks, settle, codesFor}
 use Rattle.desk.proofs.Checks.{Passed, Refused, among-in, refused-only}
 use Rattle.table.specs.Answers.{afterTaken, refused}
 use Rattle.table.specs.Out.{Out, tableBytes}
-use Rattle.table.specs.Calls.{asked, batchOut, bundleOut, dropOut, entriesOut, fillOut, forkOut, freshOut, joinOut, listOut, markOut, noFill, noProspect, previewOut, queryOut, sentOut, settled, syncOut, updateOut, yieldOut}
+use Rattle.table.specs.Calls.{asked, batchOut, bundleOut, dropOut, entriesOut, fillOut, forkOut, freshOut, joinOut, listOut, markOut, noFill, noProspect, previewOut, queryOut, sentOut, settled, syncOut, updateOut, verdict, verifyOut, yieldOut}
 use Rattle.table.proofs.Syncs.{sync-ends}
+use Rattle.table.specs.declared.answer.Answer.{Answer}
 use Rattle.table.specs.declared.answer.Level.{Level}
 use Rattle.table.specs.declared.answer.Prospect.{Prospect}
 use Rattle.consistency.specs.Table.{onTable, outReply}
 use Rattle.consistency.proofs.Table.Calls.{levelReply, prospectReply}
+use Rattle.consistency.proofs.Table.Orders.{verdictReply}
 use Rattle.consistency.specs.Refusals.{FreshRefused, RefusalsChangeNothing}
 
 abbrev listed : Call ℕ → List ℕ
@@ -49,6 +51,10 @@ module _ (t : List ℕ) where
   preview-refused : (n m bib : ℕ) → (previewOut t n m bib .code ≡ 0 → ⊥) → Refused (λ (f : Prospect). f .code) noProspect (listed (Looks (Preview n m bib))) (previewOut t n m bib)
   unfolding previewOut
   preview-refused n m bib = refused-only (λ (f : Prospect). f .code) noProspect (λ k. refl) (asked t) (Looks (Preview n m bib)) _ (λ P h. absurd (h refl))
+
+  verify-refused : (file : List ℕ) → (verifyOut t file .code ≡ 0 → ⊥) → Refused (λ (a : Answer). a .code) (λ code. verdict code false) (listed (Looks (Verify file))) (verifyOut t file)
+  unfolding verifyOut
+  verify-refused file = refused-only (λ (a : Answer). a .code) (λ code. verdict code false) (λ k. refl) (asked t) (Looks (Verify file)) _ (λ P h. absurd (h refl))
 
 -- a sync whose checks find nothing is taken
 sync-refused : (t : List ℕ) (m : ℕ) → (syncOut t m .code ≡ 0 → ⊥) → OutRefused t (listed (Sync m)) (syncOut t m)
@@ -91,6 +97,7 @@ refusals-change-nothing t (Bundle c n (Entries es)) e = let r = batch-refused t 
 refusals-change-nothing t (Looks (Show n s)) e = let r = out-refused t s (Looks (Show n (length s))) _ (λ P h. absurd (h refl)) e in record { number = r .number; blank = ap (λ u. record { reply = outReply u (u .lent); table = t }) (r .is) }
 refusals-change-nothing t (Looks (Fill n)) e = let r = level-refused t (Looks (Fill n)) _ (λ P h. absurd (h refl)) e in record { number = r .number; blank = ap (λ f. record { reply = levelReply f; table = t }) (r .is) }
 refusals-change-nothing t (Looks (Preview n m bib)) e = let r = preview-refused t n m bib e in record { number = r .number; blank = ap (λ f. record { reply = prospectReply f; table = t }) (r .is) }
+refusals-change-nothing t (Looks (Verify file)) e = let r = verify-refused t file e in record { number = r .number; blank = ap (λ a. record { reply = verdictReply a; table = t }) (r .is) }
 
 pub fresh-refused : FreshRefused
 unfolding freshOut

@@ -12,7 +12,7 @@ use Rattle.lists.proofs.Cases.{and-true, cases}
 use Rattle.lists.specs.Names.{Name}
 use Rattle.bundles.specs.declared.entry.Entry.{Entry}
 use Rattle.updates.specs.Kinds.{kindOf}
-use Rattle.desk.specs.Calls.{Call, Update, Query, Yield, Fork, Join, Sync, Mark, Drop, Bundle, Looks, Show, Fill, Preview, Batch, Records, Entries, entriesOf}
+use Rattle.desk.specs.Calls.{Call, Update, Query, Yield, Fork, Join, Sync, Mark, Drop, Bundle, Looks, Show, Fill, Preview, Verify, Batch, Records, Entries, entriesOf}
 use Rattle.desk.specs.Checks.{checks, settle}
 use Rattle.desk.proofs.Checks.{Ends, Passed, _also_, ends, no, no-table-first, yes}
 use Rattle.cells.specs.Sizes.{clients, revisions, updates}
@@ -29,9 +29,10 @@ use Rattle.entries.proofs.Entries.{wrote-length}
 use Rattle.table.specs.Halves.{low, high, cellsOf, isTable}
 use Rattle.table.specs.Answers.{afterTaken, refused}
 use Rattle.table.specs.Out.{Out, tableBytes}
-use Rattle.table.specs.Calls.{asOne, asked, batchOut, bundleOut, dropOut, entriesOut, fillOut, forkOut, freshOut, joinEnd, joinOut, listOut, markOut, noFill, noProspect, previewOut, queryOut, sentOut, settled, syncOut, updateOut, yieldOut}
+use Rattle.table.specs.Calls.{asOne, asked, batchOut, bundleOut, dropOut, entriesOut, fillOut, forkOut, freshOut, joinEnd, joinOut, listOut, markOut, noFill, noProspect, previewOut, queryOut, sentOut, settled, syncOut, updateOut, verdict, verifyOut, yieldOut}
 use Rattle.table.proofs.Halves.{lower-of, table-of, upper-length}
 use Rattle.table.proofs.Syncs.{joins}
+use Rattle.table.specs.declared.answer.Answer.{Answer}
 use Rattle.table.specs.declared.answer.Level.{Level}
 use Rattle.table.specs.declared.answer.Prospect.{Prospect}
 use Rattle.consistency.specs.Table.{served}
@@ -152,7 +153,7 @@ sync-kept t h m P = by _ (kept _ (join-end t h 0 m P) (Fork 0) (fork-leaves _ 0)
     by o K = cases (eqb (o .code) 0) (λ q. rw q K) (λ q. rw q (h, K .1))
 
 pub stays-table : StaysTable
-unfolding queryOut joinOut syncOut markOut dropOut listOut fillOut bundleOut entriesOut previewOut
+unfolding queryOut joinOut syncOut markOut dropOut listOut fillOut bundleOut entriesOut previewOut verifyOut
 stays-table t (Update c n k bib v) = update-leaves t c n k bib v
 stays-table t (Query c n bib) = record { stays = λ h. out-stays t h (Query c n bib) _ (query-end t h c n bib); one = out-one t t (Query c n bib) _ (λ h P e. omega arith) }
 stays-table t (Yield c) = yield-leaves t c
@@ -166,6 +167,7 @@ stays-table t (Bundle c n (Entries es)) = record { stays = λ h. batch-stays t h
 stays-table t (Looks (Show n s)) = record { stays = λ h. h; one = out-one t s (Looks (Show n (length s))) _ (λ h P e. omega arith) }
 stays-table t (Looks (Fill n)) = record { stays = λ h. h; one = one-exactly (λ (f : Level). f .code) noFill (λ k. refl) t (Looks (Fill n)) _ (λ h P e. omega arith) }
 stays-table t (Looks (Preview n m bib)) = record { stays = λ h. h; one = one-exactly (λ (f : Prospect). f .code) noProspect (λ k. refl) t (Looks (Preview n m bib)) _ (λ h P e. omega arith) }
+stays-table t (Looks (Verify file)) = record { stays = λ h. h; one = one-exactly (λ (a : Answer). a .code) (λ code. verdict code false) (λ k. refl) t (Looks (Verify file)) _ (λ h P e. omega arith) }
 
 pub fresh-makes-table : FreshMakesTable
 unfolding freshOut

@@ -6,4 +6,5 @@ pub mod Calls
 pub mod Bundles
 pub mod Previews
 pub mod Syncs
+pub mod Orders
 pub mod Follows

@@ -5,7 +5,7 @@ use mathlib.Core.Path.{_≡_}
 use mathlib.Core.List.{List, [], _∷_}
 use lib.ListN.{length, replicate}
 use Rattle.desk.specs.Calls.{callsOn}
-use Rattle.plain.specs.Edges.{Edge, Said, edges, codes, reused, marks, onLine, expected, said}
+use Rattle.plain.specs.Edges.{Edge, Said, edges, codes, reused, marks, onLine, orders, expected, said}
 use Rattle.table.specs.Out.{tableBytes}
 use Rattle.table.specs.Calls.{freshOut}
 use Rattle.consistency.specs.Table.{repliesOn}
@@ -19,4 +19,4 @@ abbrev pub EdgesHold : Type 0
 EdgesHold =
     (t : List ℕ) → length t ≡ tableBytes
     → (computedOn t false edges ≡ expected edges) × (computedOn t false codes ≡ expected codes) × (computedOn t false reused ≡ expected reused) × (computedOn t false marks ≡ expected marks)
-    × (computedOn t true onLine ≡ expected onLine)
+    × (computedOn t true onLine ≡ expected onLine) × (computedOn t false orders ≡ expected orders)

@@ -8,3 +8,4 @@ pub mod Edges
 pub mod Fills
 pub mod Previews
 pub mod Syncs
+pub mod Orders

@@ -1,4 +1,4 @@
--- The calls and what they answer with: 01, "Codes of the desk" and "Listing a box"; 02, U1, U2, U4, U6, U8 and U9. On paper a sheet is told by its
+-- The calls and what they answer with: 01, "Codes of the desk" and "Listing a box"; 02, U1, U2, U4, U6, U8, U9 and U13. On paper a sheet is told by its
 -- length, at a table it is bytes.
 use Prim.Native.Nat.{ℕ}
 use mathlib.Core.Bool.{Bool, _||_}
@@ -33,6 +33,8 @@ pub data Look (Sheet : Type 0) : Type 0 where
   Show : (revision : ℕ) (sheet : Sheet) → Look Sheet
   Fill : (revision : ℕ) → Look Sheet
   Preview : (joiner joinee bib : ℕ) → Look Sheet
+  -- 02, U13: "Check a file against a table"
+  Verify : (file : List ℕ) → Look Sheet
 
 pub data Call (Sheet : Type 0) : Type 0 where
   Update : (client revision kind bib v : ℕ) → Call Sheet
@@ -62,6 +64,7 @@ callOn f (Bundle c n batch) = Bundle c n batch
 callOn f (Looks (Show n sheet)) = Looks (Show n (f sheet))
 callOn f (Looks (Fill n)) = Looks (Fill n)
 callOn f (Looks (Preview n m bib)) = Looks (Preview n m bib)
+callOn f (Looks (Verify file)) = Looks (Verify file)
 
 abbrev pub callsOn : {S R : Type 0} → (S → R) → List (Call S) → List (Call R)
 callsOn f [] = []

@@ -5,7 +5,8 @@ use mathlib.Core.Bool.{Bool, cond, _||_}
 use mathlib.Core.List.{List, [], _∷_, _++_}
 use Rattle.lists.specs.Names.{Name}
 use Rattle.updates.specs.Kinds.{badBib, badKind}
-use Rattle.desk.specs.Calls.{Call, Update, Query, Yield, Fork, Join, Sync, Mark, Drop, Bundle, Looks, Show, Fill, Preview, isWrongBatch}
+use Rattle.orderfile.specs.File.{isBadList}
+use Rattle.desk.specs.Calls.{Call, Update, Query, Yield, Fork, Join, Sync, Mark, Drop, Bundle, Looks, Show, Fill, Preview, Verify, isWrongBatch}
 
 -- a code, and whether it applies
 pub record Check : Type 0 where
@@ -80,6 +81,8 @@ checks q (Looks (Show n room)) = 1 if q .noTable ∷ 3 if q .never n ∷ 4 if q 
 checks q (Looks (Fill n)) = 1 if q .noTable ∷ 3 if q .never n ∷ 4 if q .joined n ∷ []
 -- 02, U6: "Refusals are those of the join, then 5 for the bib"
 checks q (Looks (Preview n m bib)) = joinChecks q n m ++ (5 if badBib bib ∷ [])
+-- 02, U13: 21 "checked after 1"
+checks q (Looks (Verify file)) = 1 if q .noTable ∷ 21 if isBadList file ∷ []
 
 -- the first check that applies ends the call with its refusal; where none does, the call ends as it does when taken
 abbrev pub settle : {A : Type 0} → List Check → (ℕ → A) → A → A
@@ -100,3 +103,4 @@ codesFor (Bundle c n batch) = 1 ∷ 14 ∷ 2 ∷ 3 ∷ 4 ∷ 16 ∷ 5 ∷ 6 ∷ 
 codesFor (Looks (Show n sheet)) = 1 ∷ 3 ∷ 4 ∷ 7 ∷ 12 ∷ []
 codesFor (Looks (Fill n)) = 1 ∷ 3 ∷ 4 ∷ []
 codesFor (Looks (Preview n m bib)) = 1 ∷ 3 ∷ 4 ∷ 15 ∷ 16 ∷ 7 ∷ 11 ∷ 5 ∷ []
+codesFor (Looks (Verify file)) = 1 ∷ 21 ∷ []

@@ -4,6 +4,7 @@ use mathlib.Core.List.{List}
 use Rattle.updates.specs.declared.standing.State.{State}
 use Rattle.updates.specs.declared.standing.State.the-variants.{Neither, Timed, Struck}
 use Rattle.table.specs.Out.{Out}
+use Rattle.table.specs.declared.answer.Answer.{Answer}
 use Rattle.table.specs.declared.answer.Level.{Level}
 use Rattle.table.specs.declared.answer.Prospect.{Prospect}
 
@@ -36,6 +37,10 @@ returned result lent = record { result = result; lent = lent }
 -- an answer of 01 as its export returns it
 unfoldable pub exported : Out → Returned
 exported o = returned (packedState (o .code) (o .state) (o .value)) (o .lent)
+
+-- a verify's code and value: nothing is lent to be written
+unfoldable pub exportedAnswer : Answer → ℕ
+exportedAnswer a = packed (a .code) (a .value)
 
 -- a fill's two numbers, 16 bits each: the table's above the revision's own
 unfoldable pub exportedLevel : Level → ℕ

@@ -5,8 +5,8 @@ ghost use mathlib.Core.Path.{_≡_};
 ghost use lib.Dec.{eqb};
 ghost use Prim.Native.Nat.{_≤_};
 ghost use Rattle.lists.specs.Differences.{differences};
-ghost use Rattle.table.specs.Calls.{bundleOut, dropOut, fillOut, forkOut, freshOut, joinOut, listOut, markOut, previewOut, queryOut, syncOut, updateOut, yieldOut};
-ghost use Rattle.exports.specs.Packed.{exported, exportedLevel, exportedProspect, returned, packed, packedGain, packedState, stateNumber};
+ghost use Rattle.table.specs.Calls.{bundleOut, dropOut, fillOut, forkOut, freshOut, joinOut, listOut, markOut, previewOut, queryOut, syncOut, updateOut, verifyOut, yieldOut};
+ghost use Rattle.exports.specs.Packed.{exported, exportedAnswer, exportedLevel, exportedProspect, returned, packed, packedGain, packedState, stateNumber};
 use updates::standing::State;
 
 // The value in the lower 32 bits, the code in the eight above them.
@@ -152,4 +152,12 @@ pub extern "C" fn silttongs_preview(t: &[u8], joiner: u8, joinee: u8, bib: u16) 
     let p = previewing::preview::preview(t, joiner, joinee, bib);
     let state = p.state;
     pack_gain(p.code, state, p.value, p.gain)
+}
+
+#[no_mangle]
+pub extern "C" fn silttongs_verify(t: &[u8], order: &[u8]) -> u64
+    ensures { λ r. ⌜ r ≡ exportedAnswer (verifyOut (now (t .entry)) (now (order .entry))) ⌝ }
+{
+    let a = verifying::verify::verify(t, order);
+    pack(a.code, a.value)
 }

@@ -13,6 +13,8 @@ use Rattle.updates.specs.Effect.{earliest, penalized, effect, stateOf, valueIn}
 use Rattle.updates.specs.Applied.{applied}
 use Rattle.buffers.specs.Numbers.{number}
 use Rattle.bundles.specs.Records.{entriesIn, entriesFrom, isWrong}
+use Rattle.orderfile.specs.File.{isBadList, numbersOf, numbersIn, fileOf}
+use Rattle.orderfile.specs.Test.{noOther, noneTwice, isComplete, placeFrom, rises, inOrder, fits}
 use Rattle.diagram.specs.Sizes.{revisionLimit, clientLimit, updateLimit}
 use Rattle.diagram.specs.Diagram.{leads}
 use Rattle.diagram.specs.Effects.{tabulate}
@@ -24,7 +26,7 @@ use Rattle.desk.specs.Calls.{Call, Update, Query, Yield, Fork, Join, Bundle, En
 use Rattle.entries.specs.declared.entry.Entry.{Entry}
 use Rattle.plain.specs.Record.{Line, PlainDay, freshDay}
 use Rattle.plain.specs.Answers.{called, sent, dayFrom, dayAfter, answersFrom, answers}
-use Rattle.plain.specs.Edges.{edges, codes, reused, marks, onLine, said, expected, computed, ok, refusal, neither, filled, list, fill, lent, sends, small, unknownBib}
+use Rattle.plain.specs.Edges.{edges, codes, reused, marks, onLine, orders, said, expected, computed, ok, refusal, neither, filled, list, fill, lent, sends, small, unknownBib}
 
 pub edges-hold : computed false edges ≡ expected edges
 unfolding called answersFrom answers after leads tabulate isGiven meant isNamed markNamed nextNumber fourLetters unknownClient marked badName openElsewhere busyByOther busy anyBelow stale logFull noneLeft notJoinable revisionLimit clientLimit updateLimit kindCheck effect earliest penalized stateOf valueIn applied sent entriesIn entriesFrom isWrong number
@@ -45,6 +47,11 @@ marks-hold = refl
 pub on-line-hold : computed true onLine ≡ expected onLine
 unfolding called answersFrom answers after leads tabulate isGiven meant isNamed markNamed nextNumber fourLetters unknownClient marked badName openElsewhere busyByOther busy anyBelow stale logFull noneLeft notJoinable revisionLimit clientLimit updateLimit kindCheck effect earliest penalized stateOf valueIn applied sent entriesIn entriesFrom isWrong number
 on-line-hold = refl
+
+pub orders-hold : computed false orders ≡ expected orders
+unfolding called answersFrom answers after leads tabulate isGiven meant isNamed markNamed nextNumber fourLetters unknownClient marked badName openElsewhere busyByOther busy anyBelow stale logFull noneLeft notJoinable revisionLimit clientLimit updateLimit kindCheck effect earliest penalized stateOf valueIn applied sent entriesIn entriesFrom isWrong number
+    fits isComplete noOther noneTwice inOrder rises placeFrom isBadList numbersIn numbersOf fileOf
+orders-hold = refl
 
 -- the fresh day, but with this many updates taken and boxes sent
 abbrev counted : ℕ → ℕ → PlainDay

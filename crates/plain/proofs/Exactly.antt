@@ -1,5 +1,5 @@
 -- A call is taken exactly if the rules of 002 and the limits of 01 and 02 allow it.
-use Prim.Native.Nat.{ℕ, _<_, _/_, _%_}
+use Prim.Native.Nat.{ℕ, _+_, _*_, _<_, _/_, _%_}
 use mathlib.Core.Bool.{Bool, true, false, not, _&&_, _||_, and-false}
 use mathlib.Core.Path.{_≡_, refl, sym, _∙_, ap, subst}
 use mathlib.Core.Logic.{_↔_}
@@ -8,7 +8,7 @@ use mathlib.Core.List.{List, [], _∷_, _++_}
 use native.Mathlib.Omega.{arith}
 use lib.Dec.{eqb}
 use lib.ListN.{length}
-use borrow.Author.Tests.{eqb-true, eqb-false, ne-eqb, le-ltb, lt-ltb, ltb-false, ltb-true, not-false}
+use borrow.Author.Tests.{eqb-true, eqb-false, eq-eqb, ne-eqb, le-ltb, lt-ltb, ltb-false, ltb-true, not-false}
 use Rattle.lists.proofs.Cases.{cases, or-false}
 use Rattle.updates.specs.declared.kind.Kind.{Kind}
 use Rattle.updates.specs.declared.kind.Kind.the-variants.{Time, Earliest, Penalty, Strike}
@@ -16,7 +16,9 @@ use Rattle.updates.specs.declared.kind.KindCheck.the-variants.{Known, Unknown}
 use Rattle.updates.specs.Kinds.{badBib, badKind, isUnknown, kindCheck}
 use Rattle.bundles.specs.declared.entry.Entry.{Entry}
 use Rattle.bundles.specs.Records.{isWrong}
-use Rattle.desk.specs.Calls.{Batch, Call, Update, Query, Yield, Fork, Join, Sync, Mark, Drop, Bundle, Looks, Show, Fill, Preview, Entries, Records, entriesOf, isWrongBatch}
+use Rattle.orderfile.specs.File.{count, offset, isBadList}
+use Rattle.orderfile.proofs.Numbers.{good-fits}
+use Rattle.desk.specs.Calls.{Batch, Call, Update, Query, Yield, Fork, Join, Sync, Mark, Drop, Bundle, Looks, Show, Fill, Preview, Verify, Entries, Records, entriesOf, isWrongBatch}
 use Rattle.desk.specs.Checks.{checks}
 use Rattle.desk.proofs.Checks as Rows
 use Rattle.desk.proofs.Checks.{_also_, goes-on, passed-both}
@@ -37,7 +39,7 @@ use Rattle.plain.specs.Record.{PlainDay}
 use Rattle.plain.specs.Answers.{Outcome, asOne, asked, called, dayAfter, ending, joined, refused, sent}
 use Rattle.plain.specs.Bundles.{AllTaken, parts}
 use Rattle.plain.specs.Taken.{bundleSteps, endOf, stepsAfter}
-use Rattle.plain.specs.Allowed.{Allowed, AreEntries, IsBatch, IsBib, IsKind, JoinAllowed, Meaning, OnLine}
+use Rattle.plain.specs.Allowed.{Allowed, AreEntries, IsBatch, IsBib, IsKind, IsList, JoinAllowed, Meaning, OnLine}
 use Rattle.plain.proofs.Ends.{Joins, Passes, drop-accepts, fork-accepts, mark-accepts, given, join-passes, known-kind, means, preview-passes, query-accepts, update-accepts, was-taken, yield-accepts}
 use Rattle.plain.proofs.Bundles.{after-bundled, first-of, parts-sent, sent-parts}
 use Rattle.plain.proofs.Steps.{all-accepted, marks-after, same-choice, same-day, sent-ran}
@@ -89,6 +91,14 @@ batch-good (Records bytes) (n, l, a, b) =
     let r : length bytes % 12 ≡ 0 = omega arith in
     rw (r, q, ne-eqb n 0 (λ e. omega arith), le-ltb 64 n b)
 batch-good (Entries es) (a, b) = rw (ne-eqb (length es) 0 (λ e. omega arith), le-ltb 64 (length es) b)
+
+-- 21
+good-list : (file : List ℕ) → isBadList file ≡ false → IsList file
+good-list file e = let g = good-fits file e in (omega arith, g .0, g .1)
+
+list-good : (file : List ℕ) → IsList file → isBadList file ≡ false
+unfolding isBadList
+list-good file (a, b, c) = rw (le-ltb (length file) 8 a, le-ltb (offset file) 8 b, eq-eqb (offset file + 2 * count file) (length file) c)
 
 -- where no check applies the call ends as it does
 pub passed-is : (p : PlainDay) (c : Call ℕ) → Passes p c → called p c ≡ ending p c
@@ -204,6 +214,7 @@ module _ (single : Bool) (before : List (Call ℕ)) where
   passed-allowed (Looks (Show n room)) (e1 also e3 also e4 also e7 also e12 also Rows.none) z = meaning n e3 (record { out = (is-out n e3, e4); idle = busy-idle y fine (meant y n) .0 e7; fits = ltb-false room _ e12 })
   passed-allowed (Looks (Fill n)) (e1 also e3 also e4 also Rows.none) z = meaning n e3 (is-out n e3, e4)
   passed-allowed (Looks (Preview n m bib)) P z = let q = preview-passes p n m bib P in (join-means n m (join-passes p n m (q .0)), good-bib bib (q .1))
+  passed-allowed (Looks (Verify file)) (e1 also e21 also Rows.none) z = good-list file e21
 
   taken-allowed : (c : Call ℕ) → called p c .answer .code ≡ 0 → Allowed single before c
   taken-allowed c e = let w = was-taken p c e in passed-allowed c (w .0) (rw (w .1) at e)
@@ -261,6 +272,7 @@ module _ (single : Bool) (before : List (Call ℕ)) where
       passed-on p (Looks (Show n room)) (refl also given A also t .out .1 also busy-idle y fine (meant y n) .1 (t .idle) also le-ltb room _ (t .fits) also Rows.none)
   allowed-taken (Looks (Fill n)) A = passed-on p (Looks (Fill n)) (refl also given A also A .holds .1 also Rows.none)
   allowed-taken (Looks (Preview n m bib)) A = passed-on p (Looks (Preview n m bib)) (passed-both (join-row n m (A .0)) (bib-good bib (A .1) also Rows.none))
+  allowed-taken (Looks (Verify file)) A = passed-on p (Looks (Verify file)) (refl also list-good file A also Rows.none)
 
   pub exactly : (c : Call ℕ) → (called p c .answer .code ≡ 0) ↔ Allowed single before c
   exactly c = (taken-allowed c, allowed-taken c)

@@ -1,4 +1,4 @@
--- The starred edges by computing, code 1, which does not arise, one line-up for every list of calls, previews, syncs, and own updates that add up.
+-- The starred edges by computing, code 1, which does not arise, one line-up for every list of calls, previews, syncs, orders, and own updates that add up.
 pub mod Edges
 pub mod Ends
 pub mod Bundles
@@ -8,5 +8,6 @@ pub mod Values
 pub mod Previews
 pub mod Syncs
 pub mod Marks
+pub mod Orders
 pub mod LineUp
 pub mod Fills

@@ -10,7 +10,7 @@ use borrow.Author.Tests.{eqb-false, eqb-true, ne-eqb}
 use Rattle.lists.proofs.Cases.{cases}
 use Rattle.lists.proofs.Changed.{changed-other}
 use Rattle.bundles.specs.declared.entry.Entry.{Entry}
-use Rattle.desk.specs.Calls.{Bundle, Call, Fill, Fork, Join, Looks, Preview, Query, Show, Sync, Mark, Drop, Update, Yield, entriesOf}
+use Rattle.desk.specs.Calls.{Bundle, Call, Fill, Fork, Join, Looks, Preview, Query, Show, Sync, Mark, Drop, Update, Verify, Yield, entriesOf}
 use Rattle.desk.specs.Checks.{checks}
 use Rattle.desk.proofs.Checks.{Ends, no, yes, ends}
 use Rattle.diagram.proofs.Order.Runs.{accepted-both, along, named-run, run-both}
@@ -54,6 +54,7 @@ ending-fair p (Bundle c n batch) = bundled-fair p (sent p c n (entriesOf batch))
 ending-fair p (Looks (Show n room)) = good refl
 ending-fair p (Looks (Fill n)) = good refl
 ending-fair p (Looks (Preview n m bib)) = good refl
+ending-fair p (Looks (Verify file)) = good refl
 
 pub called-fair : (p : PlainDay) (c : Call ℕ) → Fair p (called p c)
 unfolding called

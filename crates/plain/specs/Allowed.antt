@@ -1,18 +1,19 @@
 -- Demand 2 for each call: 00, "A step is taken exactly if that paper's construction and transaction rules, for joins its server pool's rule, and our
 -- stated limits allow it". No test and no code is named here. The rules are `MayFollow` (crate diagram, specs/Lawful): the run of the steps taken so
 -- far, with this one, keeps 002's rules within 01's sizes. The rest are limits of 01 and 02.
-use Prim.Native.Nat.{ℕ, _*_, _<_, _≤_}
+use Prim.Native.Nat.{ℕ, _+_, _*_, _<_, _≤_}
 use mathlib.Core.Bool.{Bool, true, false}
 use mathlib.Core.Path.{_≡_}
 use mathlib.Core.Option.{none, some}
 use mathlib.Core.List.{List, [], _∷_, _++_}
 use lib.ListN.{length}
 use Rattle.bundles.specs.declared.entry.Entry.{Entry}
+use Rattle.orderfile.specs.File.{count, offset}
 use Rattle.diagram.specs.Day.{Day, IsOut, IsIdle, isGiven, meant}
 use Rattle.diagram.specs.Steps as Steps
 use Rattle.diagram.specs.Steps.{Event}
 use Rattle.diagram.specs.Lawful.{MayFollow, EachMayFollow}
-use Rattle.desk.specs.Calls.{Call, Update, Query, Yield, Fork, Join, Sync, Mark, Drop, Bundle, Looks, Show, Fill, Preview, Batch, Records, Entries, entriesOf}
+use Rattle.desk.specs.Calls.{Call, Update, Query, Yield, Fork, Join, Sync, Mark, Drop, Bundle, Looks, Show, Fill, Preview, Verify, Batch, Records, Entries, entriesOf}
 use Rattle.plain.specs.Answers.{shownAt}
 use Rattle.plain.specs.Taken.{endOf, stepsAfter, bundleSteps}
 
@@ -36,6 +37,10 @@ AreEntries (e ∷ es) = IsBib (e .bib) × IsKind (e .kind) × AreEntries es
 abbrev pub IsBatch : Batch → Type 0
 IsBatch (Records bytes) = (n : ℕ) × (length bytes ≡ 12 * n) × (1 ≤ n) × (n ≤ 64)
 IsBatch (Entries es) = (1 ≤ length es) × (length es ≤ 64)
+
+-- 21: "if the length or the offset is under 8, or offset + 2 times the count isn't the length"
+abbrev pub IsList : List ℕ → Type 0
+IsList file = (8 ≤ length file) × (8 ≤ offset file) × (offset file + 2 * count file ≡ length file)
 
 -- a revision that can be listed: it is out and idle, and the sheet has room. 002 has no lists: 4, 7 and 12 of one are limits of 01
 pub record CanShow (y : Day) (r room : ℕ) : Type 0 where
@@ -71,3 +76,5 @@ Allowed single before (Looks (Show n room)) = Meaning (endOf single before) n (�
 Allowed single before (Looks (Fill n)) = Meaning (endOf single before) n (IsOut (endOf single before))
 -- 02, U6: where the join is allowed, and the bib is one
 Allowed single before (Looks (Preview n m bib)) = JoinAllowed single before n m × IsBib bib
+-- 02, U13: any file that is no bad list
+Allowed single before (Looks (Verify file)) = IsList file

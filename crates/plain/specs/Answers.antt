@@ -9,7 +9,9 @@ use lib.Dec.{eqb, ltb}
 use Rattle.lists.specs.Names.{Name}
 use Rattle.updates.specs.Kinds.{kindOf}
 use Rattle.bundles.specs.declared.entry.Entry as Sent
-use Rattle.desk.specs.Calls.{Call, Update, Query, Yield, Fork, Join, Sync, Mark, Drop, Bundle, Looks, Look, Show, Fill, Preview, Answer, plainly, reading, level, entriesOf}
+use Rattle.orderfile.specs.File.{numbersIn}
+use Rattle.orderfile.specs.Test.{fits}
+use Rattle.desk.specs.Calls.{Call, Update, Query, Yield, Fork, Join, Sync, Mark, Drop, Bundle, Looks, Look, Show, Fill, Preview, Verify, Answer, plainly, reading, level, entriesOf}
 use Rattle.desk.specs.Checks.{Tests, checks, settle}
 use Rattle.diagram.specs.Effects.{own, view}
 use Rattle.diagram.specs.Day.{Day, isGiven, isNamed, markNamed, meant, nextNumber}
@@ -103,6 +105,10 @@ sent p c n (e ∷ es) = afterTaken (settled p (Update c n (e .kind) (e .bib) (e 
 abbrev pub bundled : PlainDay → Outcome → Outcome
 bundled p o = cond (eqb (o .answer .code) 0) (taken (o .next) (p .day .updates)) (refused p (o .answer .code))
 
+-- 02, U13: of the revisions that are out, what their terminals see: "every box out", "open transactions included"
+abbrev pub fitsDay : Day → List ℕ → Bool
+fitsDay y numbers = fits (y .updates) (y .revisions) (λ r. not (y .joined r)) (shownAt y) numbers
+
 -- what a call that only looks tells: the day stays
 abbrev pub told : PlainDay → Look ℕ → Answer (List Line)
 -- "list, the count n of updates visible at the line end"; "The sheet receives n entries of 12 bytes, in the order in which the effects apply on the way
@@ -112,6 +118,8 @@ told p (Show n room) = plainly 0 (length (shownAt (p .day) (meant (p .day) n))) 
 told p (Fill n) = level (length (ownAt (p .day) (meant (p .day) n))) (p .day .updates) []
 -- 02, U6: "the state and value at the joiner's line end and the gain", where that line end is the join vertex, the next vertex of the day
 told p (Preview n m bib) = reading (pathResult (joined p n m .next) (length (p .day .diagram)) bib) (joined p n m .answer .value) []
+-- 02, U13: "Say yes, value 1, and else value 0"
+told p (Verify file) = plainly 0 (cond (fitsDay (p .day) (numbersIn file)) 1 0) []
 
 -- how a call ends that no check stops
 abbrev pub ending : PlainDay → Call ℕ → Outcome

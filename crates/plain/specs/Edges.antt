@@ -1,4 +1,4 @@
--- 01, "Edges of a race day": the starred edges E1 to E9 as one table of calls with what each gives; and 02, U1 to U4, U6 to U9.
+-- 01, "Edges of a race day": the starred edges E1 to E9 as one table of calls with what each gives; and 02, U1 to U4, U6 to U9 and U13.
 use Prim.Native.Nat.{ℕ, zero, suc}
 use mathlib.Core.Bool.{Bool}
 use mathlib.Core.List.{List, [], _∷_, _++_}
@@ -6,7 +6,8 @@ use lib.ListN.{replicate}
 use Rattle.lists.specs.Names.{Name}
 use Rattle.updates.specs.declared.standing.Standing.the-variants.{At, Struck}
 use Rattle.bundles.specs.declared.entry.Entry as Sent
-use Rattle.desk.specs.Calls.{Call, Update, Query, Yield, Fork, Join, Sync, Mark, Drop, Bundle, Looks, Show, Fill, Preview, Entries, Records, Answer, plainly, reading, level, answerOn}
+use Rattle.orderfile.specs.File.{fileOf}
+use Rattle.desk.specs.Calls.{Call, Update, Query, Yield, Fork, Join, Sync, Mark, Drop, Bundle, Looks, Show, Fill, Preview, Verify, Entries, Records, Answer, plainly, reading, level, answerOn}
 use Rattle.plain.specs.Answers.{answers}
 
 -- what a call gives, the sheet apart
@@ -56,6 +57,9 @@ fill n = Looks (Fill n)
 
 abbrev preview : ℕ → ℕ → ℕ → Call ℕ
 preview n m bib = Looks (Preview n m bib)
+
+abbrev verify : List ℕ → Call ℕ
+verify numbers = Looks (Verify (fileOf numbers))
 
 -- the numbers of the kinds
 abbrev time : ℕ
@@ -284,6 +288,31 @@ onLine =
     (refusal 3 ∷ refusal 15 ∷ ok 1 ∷ neither ∷ refusal 15 ∷ refusal 18 ∷ ok 0 ∷ ok 2 ∷ refusal 4 ∷ [])
     -- "sync never meets 10": with 64 boxes out it answers the number that it was given
     ∷ edge (forks 63 ++ (Fork 0 ∷ Sync 5 ∷ Fork 0 ∷ [])) (upFrom 1 63 ++ (refusal 10 ∷ ok 5 ∷ refusal 10 ∷ []))
+    ∷ []
+
+-- 02, U13: orders from other makers
+abbrev pub orders : List Edge
+orders =
+    -- no update was taken: the empty list is right. Then box 0 lists 0, 2 and box 1 lists 0, 1, both with a transaction open: 1 and 2 may stand either way
+    edge
+    (verify [] ∷ Update 0 0 time 7 61000 ∷ verify [] ∷ Yield 0 ∷ Fork 0 ∷ Update 1 1 penalty 7 5000 ∷ Update 0 0 time 7 60000
+    ∷ verify (0 ∷ 1 ∷ 2 ∷ []) ∷ verify (0 ∷ 2 ∷ 1 ∷ []) ∷ verify (1 ∷ 0 ∷ 2 ∷ []) ∷ verify (2 ∷ 0 ∷ 1 ∷ [])
+    -- a number twice and another missing; one missing; one too high, also in place of another
+    ∷ verify (0 ∷ 1 ∷ 1 ∷ []) ∷ verify (0 ∷ 1 ∷ []) ∷ verify (0 ∷ 1 ∷ 2 ∷ 3 ∷ []) ∷ verify (0 ∷ 1 ∷ 3 ∷ [])
+    -- after the join box 0 lists 0, 2, 1, and box 1 is handed in
+    ∷ Yield 0 ∷ Yield 1 ∷ Join 0 1 ∷ verify (0 ∷ 1 ∷ 2 ∷ []) ∷ verify (0 ∷ 2 ∷ 1 ∷ []) ∷ [])
+    (ok 1 ∷ ok 0 ∷ ok 0 ∷ ok 0 ∷ ok 1 ∷ ok 1 ∷ ok 2
+    ∷ ok 1 ∷ ok 1 ∷ ok 0 ∷ ok 0
+    ∷ ok 0 ∷ ok 0 ∷ ok 0 ∷ ok 0
+    ∷ ok 0 ∷ ok 0 ∷ ok 1 ∷ ok 0 ∷ ok 1 ∷ [])
+    -- 21: too short, an offset under 8, a length that does not fit; a gap is not looked at
+    ∷ edge
+    (Looks (Verify []) ∷ Looks (Verify (replicate 8 0)) ∷ Looks (Verify (fileOf [] ++ (0 ∷ []))) ∷ Looks (Verify (0 ∷ 0 ∷ 0 ∷ 0 ∷ 9 ∷ 0 ∷ 0 ∷ 0 ∷ 7 ∷ [])) ∷ [])
+    (refusal 21 ∷ refusal 21 ∷ refusal 21 ∷ ok 1 ∷ [])
+    -- a marked box is out, and lists 0
+    ∷ edge
+    (Update 0 0 time 7 50 ∷ Yield 0 ∷ Mark 0 past ∷ Update 0 0 penalty 7 5 ∷ verify (0 ∷ 1 ∷ []) ∷ verify (1 ∷ 0 ∷ []) ∷ Drop past ∷ verify (0 ∷ 1 ∷ []) ∷ [])
+    (ok 0 ∷ ok 0 ∷ ok 1 ∷ ok 1 ∷ ok 1 ∷ ok 0 ∷ ok 0 ∷ ok 1 ∷ [])
     ∷ []
 
 abbrev pub said : {S : Type 0} → List (Answer S) → List Said

@@ -20,7 +20,7 @@ use Rattle.diagram.specs.Pool.{ByPool}
 use Rattle.diagram.specs.Witness.{Witness}
 use Rattle.diagram.specs.Lawful.{EachMayFollow}
 use Rattle.diagram.specs.Arbitration.{Explains, Shows, WholeAt, Extends}
-use Rattle.desk.specs.Calls.{Call, Update, Query, Fork, Join, Sync, Bundle, Looks, Show, Fill, Preview, Answer, Batch, entriesOf}
+use Rattle.desk.specs.Calls.{Call, Update, Query, Fork, Join, Sync, Bundle, Looks, Show, Fill, Preview, Verify, Answer, Batch, entriesOf}
 use Rattle.plain.specs.Record.{PlainDay, Line, freshDay, standingOf, linesOf}
 use Rattle.plain.specs.Answers.{called, dayAfter}
 use Rattle.plain.specs.Taken.{Taken, endOf, stepsAfter}
@@ -29,6 +29,7 @@ use Rattle.plain.specs.Allowed.{Allowed, Meaning, OnLine}
 use Rattle.plain.specs.Values.{Forked, Gained, Filled}
 use Rattle.plain.specs.Previews.{Foresees}
 use Rattle.plain.specs.Syncs.{OnSingleMain, Synced}
+use Rattle.plain.specs.Orders.{GetsYes, Verified}
 use Rattle.plain.specs.Marks.{OnMarks}
 
 -- what is shown at vertex x, in the order of a line-up, with the state and value of one bib
@@ -106,3 +107,7 @@ pub record LineUp (single : Bool) (cs : List (Call ℕ)) : Type 0 where
   pub single-main : single ≡ true → OnSingleMain cs
   -- 02, U9
   pub marks : OnMarks single cs
+  -- 02, U13: what a taken verify says; and after all calls this line-up, as any that explains the day, gets a yes when written as a file
+  pub verified : (before rest : List (Call ℕ)) (file : List ℕ) → Taken single cs before (Looks (Verify file)) rest
+      → Verified (endOf single before) file (called (dayAfter single before) (Looks (Verify file)) .answer)
+  pub own-orders : (own : List ℕ) → Explains (endOf single cs) own → GetsYes single cs own

@@ -2,7 +2,7 @@
 -- of a day need not be read here: `Explained.agreement` (`consistency` specs/Demand, proved in proofs/Table/Follows) ties them to the plain day, for every
 -- buffer made fresh and every list of calls. Of other contents "answers .. follow from the cells alone". A list has its sheet lent, and only reads the table.
 use Prim.Native.Nat.{ℕ, _*_}
-use mathlib.Core.Bool.{Bool, not, cond}
+use mathlib.Core.Bool.{Bool, false, not, cond, _&&_}
 use mathlib.Core.List.{List, [], _∷_, _++_}
 use lib.Dec.{eqb, ltb}
 use lib.ListN.{length, replicate}
@@ -12,8 +12,11 @@ use Rattle.updates.specs.Kinds.{kindOf}
 use Rattle.updates.specs.Effect.{stateOf, valueIn}
 use Rattle.updates.specs.declared.standing.Standing.{Standing}
 use Rattle.updates.specs.declared.standing.State.the-variants.{Neither}
-use Rattle.desk.specs.Calls.{Update, Query, Yield, Fork, Join, Sync, Mark, Drop, Bundle, Looks, Show, Fill, Preview, Batch, Records, Entries, entriesOf}
+use Rattle.desk.specs.Calls.{Update, Query, Yield, Fork, Join, Sync, Mark, Drop, Bundle, Looks, Show, Fill, Preview, Verify, Batch, Records, Entries, entriesOf}
 use Rattle.desk.specs.Checks.{Tests, _if_, checks, settle}
+use Rattle.orderfile.specs.File.{numbersIn}
+use Rattle.orderfile.specs.Test.{fits}
+use Rattle.cells.specs.Sizes.{revisions}
 use Rattle.cells.specs.Cells.{Cells, nextNumber}
 use Rattle.cells.specs.Order.{order}
 use Rattle.cells.specs.Checks.{isClient, givenOut, joined, offLine, isMark, openElsewhere, busy, busyByOther, stale, logFull, noneLeft, joinable, badName, noSuchMark, bearer}
@@ -27,6 +30,7 @@ use Rattle.table.specs.Halves.{low, high, cellsOf, isTable}
 use Rattle.table.specs.Out.{tableBytes}
 use Rattle.table.specs.Answers.{refused, taken, answered, afterTaken}
 use Rattle.table.specs.Out.{Out}
+use Rattle.table.specs.declared.answer.Answer.{Answer}
 use Rattle.table.specs.declared.answer.Level.{Level}
 use Rattle.table.specs.declared.answer.Prospect.{Prospect}
 
@@ -141,3 +145,17 @@ foreseen s gain = record { code = 0; state = stateOf s; value = valueIn s; gain 
 -- "equal to joining on a copy of the table and reading there". A reading is no query: no client's checks are asked there
 unfoldable pub previewOut : List ℕ → ℕ → ℕ → ℕ → Prospect
 previewOut t n m bib = settle (checks (asked t) (Looks (Preview n m bib))) noProspect (foreseen (standingAt (joinEnd t n m .lent) n bib) (joinEnd t n m .value))
+
+-- 02, U13: "every box out", busy or marked too
+abbrev pub isOut : Cells → ℕ → Bool
+isOut k n = givenOut k n && not (joined k n)
+
+-- "Say yes, value 1, and else value 0"; a refusal has value 0 too
+abbrev pub verdict : ℕ → Bool → Answer
+verdict code agrees = record { code = code; value = cond agrees 1 0 }
+
+abbrev pub fitsTable : Cells → List ℕ → Bool
+fitsTable k numbers = fits (k .updates) revisions (isOut k) (order k) numbers
+
+unfoldable pub verifyOut : List ℕ → List ℕ → Answer
+verifyOut t file = settle (checks (asked t) (Looks (Verify file))) (λ code. verdict code false) (verdict 0 (fitsTable (cellsOf t) (numbersIn file)))

@@ -8,6 +8,7 @@ use crate::calls::{
 };
 use crate::calls::{Fill, Preview, LISTED};
 use crate::numbers::LOG;
+use crate::orders::verify;
 use crate::parts::BYTES;
 use crate::update::Standing;
 
@@ -61,6 +62,7 @@ pub fn call(t: &mut [u8], call: &Call) -> Result<Answer, Code> {
         Call::Sync { revision } => sync(t, revision)?,
         Call::Mark { revision, ref name } => mark(t, revision, name)?,
         Call::Drop { ref name } => drop(t, name)?,
+        Call::Verify { ref order } => verify(t, order)?,
     };
     Ok(Answer::accepted(value))
 }

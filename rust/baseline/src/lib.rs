@@ -14,6 +14,7 @@ mod entry;
 mod flags;
 mod numbers;
 mod order;
+mod orders;
 mod parts;
 mod range;
 mod standing;
@@ -27,5 +28,6 @@ pub use self::calls::{
 pub use self::calls::{Fill, Preview};
 pub use bundle::bundle;
 pub use day::{call, Day};
+pub use orders::verify;
 pub use parts::BYTES;
 pub use update::Standing;

@@ -2,7 +2,7 @@
 
 use std::fmt;
 
-use crate::Line;
+use crate::{order_file, Line};
 
 /// A call with its arguments as they come, in range or not.
 #[derive(Clone, Debug, PartialEq, Eq)]
@@ -102,6 +102,12 @@ pub enum Call {
         /// Its name.
         name: Vec<u8>,
     },
+    /// Whether an order of updates from another maker fits the day. A verify is no event, and no step of
+    /// a day file.
+    Verify {
+        /// The file: see [`order_file`].
+        order: Vec<u8>,
+    },
 }
 
 /// The kinds of update by name, kind 1 first. What each makes of a bib, by 01 and 02's U2:
@@ -132,6 +138,7 @@ impl Call {
             Call::Sync { .. } => "sync",
             Call::Mark { .. } => "mark",
             Call::Drop { .. } => "drop",
+            Call::Verify { .. } => "verify",
         }
     }
 }
@@ -162,6 +169,7 @@ impl fmt::Display for Call {
                 write!(f, "box {revision} \"{}\"", name.escape_ascii())
             }
             Call::Drop { ref name } => write!(f, "\"{}\"", name.escape_ascii()),
+            Call::Verify { ref order } => write_order(f, order),
         }
     }
 }
@@ -196,6 +204,21 @@ fn write_records(f: &mut fmt::Formatter<'_>, records: &[u8]) -> fmt::Result {
     }
 }
 
+/// The numbers, if they stand right behind the header; else the bytes.
+fn write_order(f: &mut fmt::Formatter<'_>, order: &[u8]) -> fmt::Result {
+    let numbers: Vec<u16> = match order.split_at_checked(8) {
+        Some((_, numbers)) => {
+            numbers.as_chunks().0.iter().map(|&n| u16::from_le_bytes(n)).collect()
+        }
+        None => Vec::new(),
+    };
+    if order_file(&numbers) == order {
+        write!(f, "order {numbers:?}")
+    } else {
+        write!(f, "bytes {order:?}")
+    }
+}
+
 #[cfg(test)]
 mod tests {
     use super::*;
@@ -223,6 +246,12 @@ mod tests {
             (Call::Mark { revision: 0, name: vec![] }, "mark box 0 \"\""),
             (Call::Drop { name: b"JURY".into() }, "drop \"JURY\""),
             (Call::Drop { name: b"a\"\xff".into() }, r#"drop "a\"\xff""#),
+            (Call::Verify { order: order_file(&[0, 4_095]) }, "verify order [0, 4095]"),
+            (Call::Verify { order: vec![1, 2] }, "verify bytes [1, 2]"),
+            (
+                Call::Verify { order: [order_file(&[]), vec![9]].concat() },
+                "verify bytes [0, 0, 0, 0, 8, 0, 0, 0, 9]",
+            ),
         ];
         for (call, text) in written {
             assert_eq!(call.to_string(), text);

@@ -47,10 +47,12 @@ pub enum Code {
     BadName = 17,
     /// 02, U9: no mark that is out has the name.
     NoSuchMark = 18,
+    /// 02, U13: the header of an order does not fit its length.
+    BadList = 21,
 }
 
 /// Each code with its name, in the order of their numbers.
-const NAMED: [(Code, &str); 19] = [
+const NAMED: [(Code, &str); 20] = [
     (Code::Accepted, "taken"),
     (Code::NoTable, "no table"),
     (Code::UnknownClient, "strange tablet"),
@@ -70,12 +72,13 @@ const NAMED: [(Code, &str); 19] = [
     (Code::Marked, "marked box"),
     (Code::BadName, "bad name"),
     (Code::NoSuchMark, "no such mark"),
+    (Code::BadList, "bad list"),
 ];
 
 impl Code {
     /// The code of a number, if there is one.
     pub fn of(number: u8) -> Option<Self> {
-        NAMED.get(usize::from(number)).map(|&(code, _)| code)
+        NAMED.iter().map(|&(code, _)| code).find(|code| code.number() == number)
     }
 
     /// The number.
@@ -85,7 +88,10 @@ impl Code {
 
     /// The name.
     pub fn name(self) -> &'static str {
-        NAMED[usize::from(self.number())].1
+        match NAMED.iter().find(|(code, _)| *code == self) {
+            Some((_, name)) => name,
+            None => unreachable!("each code has its name"),
+        }
     }
 }
 
@@ -101,9 +107,15 @@ mod tests {
 
     #[test]
     fn each_number_has_its_code() {
-        for number in 0..=18 {
-            assert_eq!(Code::of(number).map(Code::number), Some(number));
+        let numbers: Vec<u8> = (0..=18).chain([21]).collect();
+        for number in 0..=u8::MAX {
+            let known = numbers.contains(&number).then_some(number);
+            assert_eq!(Code::of(number).map(Code::number), known);
         }
-        assert_eq!(Code::of(19), None);
+    }
+
+    #[test]
+    fn each_code_has_its_name() {
+        assert!(NAMED.iter().all(|&(code, name)| code.name() == name));
     }
 }

@@ -12,9 +12,11 @@
 mod answer;
 mod call;
 mod code;
+mod order;
 mod sizes;
 
 pub use answer::{Answer, Line, State};
 pub use call::{Call, KINDS, STRIKE};
 pub use code::Code;
+pub use order::order_file;
 pub use sizes::{BIBS, BUNDLE, CLIENTS, REVISIONS, SHEET, UPDATES};

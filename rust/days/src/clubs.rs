@@ -16,6 +16,7 @@ impl Profile {
             sync: 14,
             mark: 8,
             drop: 4,
+            verify: 4,
             ..Profile::MIXED.weights
         },
         main: 60,
@@ -36,6 +37,7 @@ impl Profile {
             sync: 18,
             mark: 4,
             drop: 2,
+            verify: 4,
             ..Profile::SMALL.weights
         },
         main: 75,
@@ -68,6 +70,7 @@ impl Profile {
             sync: 12,
             mark: 12,
             drop: 6,
+            verify: 4,
             ..Profile::MIXED.weights
         },
         main: 40,

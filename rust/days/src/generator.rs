@@ -39,6 +39,9 @@ pub(crate) struct Generator<'a> {
     /// Where each client was last, or who took that over.
     pub(crate) last: [u8; CLIENTS as usize],
     pub(crate) updates: usize,
+    /// The numbers that are out, and the updates of each, as they stand in one arbitration order.
+    pub(crate) row: Vec<u8>,
+    pub(crate) own: [Vec<u16>; REVISIONS as usize],
     /// What was picked together with the call before it.
     pub(crate) next: Option<Call>,
 }
@@ -60,6 +63,8 @@ impl<'a> Generator<'a> {
             open: [None; CLIENTS as usize],
             last: [0; CLIENTS as usize],
             updates: 0,
+            row: vec![0],
+            own: [const { Vec::new() }; REVISIONS as usize],
             next: None,
         }
     }
@@ -78,7 +83,7 @@ impl<'a> Generator<'a> {
         match *call {
             Call::Update { client, revision, .. } => {
                 self.entered(client, revision);
-                self.updates += 1;
+                self.took(revision, 1);
             }
             Call::Query { client, revision, .. } => self.entered(client, revision),
             Call::Yield { client } => self.open[usize::from(client)] = None,
@@ -91,7 +96,7 @@ impl<'a> Generator<'a> {
             Call::Bundle { client, revision, ref records } => {
                 self.entered(client, revision);
                 self.open[usize::from(client)] = None;
-                self.updates += records.len() / Line::BYTES;
+                self.took(revision, records.len() / Line::BYTES);
             }
             Call::Fresh { .. } => self.renewed(),
             Call::Mark { revision, ref name } => {
@@ -100,6 +105,7 @@ impl<'a> Generator<'a> {
             }
             Call::Drop { ref name } => self.dropped(name),
             Call::List { .. } | Call::Fill { .. } | Call::Preview { .. } => {}
+            Call::Verify { .. } => {}
         }
     }
 
@@ -108,14 +114,24 @@ impl<'a> Generator<'a> {
         self.last[usize::from(client)] = revision;
     }
 
+    fn took(&mut self, revision: u8, count: usize) {
+        let numbers = self.updates..self.updates + count;
+        self.own[usize::from(revision)].extend(numbers.map(|number| number as u16));
+        self.updates += count;
+    }
+
     fn forked(&mut self, forker: u8, number: u8) {
         self.out.push(number);
+        let place = self.row.iter().position(|&other| other == forker);
+        self.row.insert(place.map_or(0, |place| place + 1), number);
         self.forker[usize::from(number)] = forker;
         self.given = self.given.max(usize::from(number) + 1);
     }
 
     fn joined(&mut self, joiner: u8, joinee: u8) {
-        self.out.retain(|&revision| revision != joinee);
+        self.handed_in(joinee);
+        let gained = std::mem::take(&mut self.own[usize::from(joinee)]);
+        self.own[usize::from(joiner)].extend(gained);
         let moved = self.last.iter_mut().chain(&mut self.forker);
         moved.filter(|revision| **revision == joinee).for_each(|place| *place = joiner);
     }
@@ -124,8 +140,13 @@ impl<'a> Generator<'a> {
         let mut marks = self.marks.iter();
         if let Some((&number, _)) = marks.find(|(_, borne)| *borne == name) {
             self.marks.remove(&number);
-            self.out.retain(|&revision| revision != number);
+            self.handed_in(number);
         }
+    }
+
+    fn handed_in(&mut self, number: u8) {
+        self.out.retain(|&revision| revision != number);
+        self.row.retain(|&revision| revision != number);
     }
 
     /// What the answers told was of the day before.
@@ -133,7 +154,7 @@ impl<'a> Generator<'a> {
         let fresh = Generator::new(self.profile, 0);
         (self.out, self.given, self.forker) = (fresh.out, fresh.given, fresh.forker);
         (self.open, self.last, self.updates) = (fresh.open, fresh.last, fresh.updates);
-        self.marks = fresh.marks;
+        (self.row, self.own, self.marks) = (fresh.row, fresh.own, fresh.marks);
     }
 
     fn pick(&mut self) -> Call {
@@ -156,7 +177,7 @@ impl<'a> Generator<'a> {
         let w = self.profile.weights;
         let (start, fork) = (self.may_start(), self.may_fork());
         let yields = |generator: &mut Self| Call::Yield { client: generator.client() };
-        let picks: [(usize, bool, Pick<'a>); 12] = [
+        let picks: [(usize, bool, Pick<'a>); 13] = [
             (w.update, true, Self::update),
             (w.query, true, Self::query),
             (w.yields, true, yields),
@@ -169,6 +190,7 @@ impl<'a> Generator<'a> {
             (w.bundle, true, Self::bundle),
             (w.preview, true, Self::preview),
             (w.fill, true, Self::fill),
+            (w.verify, true, Self::verify),
         ];
         let mut at = self.rng.below(picks.iter().map(|(weight, ..)| weight).sum());
         for (weight, allowed, pick) in picks {

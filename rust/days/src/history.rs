@@ -58,6 +58,7 @@ impl History {
             Call::Fresh { single_main } => *self = History { single_main, ..History::fresh() },
             Call::Query { .. } | Call::Yield { .. } => {}
             Call::List { .. } | Call::Fill { .. } | Call::Preview { .. } => {}
+            Call::Verify { .. } => {}
         }
     }
 
@@ -81,7 +82,8 @@ impl History {
 /// The numbers of revisions that a call names.
 pub(crate) fn named(call: &Call) -> Vec<u8> {
     match *call {
-        Call::Yield { .. } | Call::Fresh { .. } | Call::Drop { .. } => vec![],
+        Call::Yield { .. } | Call::Fresh { .. } => vec![],
+        Call::Drop { .. } | Call::Verify { .. } => vec![],
         Call::Update { revision, .. } | Call::Query { revision, .. } => vec![revision],
         Call::Bundle { revision, .. } | Call::List { revision, .. } => vec![revision],
         Call::Fork { revision } | Call::Fill { revision } => vec![revision],

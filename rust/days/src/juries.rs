@@ -16,6 +16,7 @@ impl Profile {
             sync: 12,
             mark: 16,
             drop: 10,
+            verify: 4,
             ..Profile::MIXED.weights
         },
         from_marks: 40,

@@ -13,7 +13,8 @@
 //! - single-main days have what 02's U8 asks to show of them;
 //! - marks have names and lists by the calls before, and refuse what they must;
 //! - what comes of a mark is taken over by nothing that does not;
-//! - joins and syncs leave the table but at few places.
+//! - joins and syncs leave the table but at few places;
+//! - a verify says yes to the day's own line-up, and to others what the literal replay says.
 
 #![forbid(unsafe_code)]
 
@@ -38,6 +39,7 @@ mod marks;
 mod meeting;
 mod naming;
 mod numbers;
+mod orders;
 mod origins;
 mod previews;
 mod profile;
@@ -49,6 +51,7 @@ mod sample;
 mod single_main;
 mod spoiling;
 mod syncs;
+mod verdicts;
 
 pub use arbitration::arbitration_order;
 pub use bundles::{fault_of_bundles, updates_of};
@@ -74,3 +77,4 @@ pub use rng::Rng;
 pub use sample::{days_of, one_in, seeds, Sample};
 pub use single_main::{strange_code, unseen_by_a_start};
 pub use syncs::fault_of_syncs;
+pub use verdicts::{every_order, fault_of_orders, own_order};

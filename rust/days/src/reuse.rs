@@ -26,6 +26,7 @@ impl Profile {
             sync: 4,
             mark: 4,
             drop: 4,
+            verify: 4,
         },
         newest: 40,
         main: 25,
@@ -71,6 +72,7 @@ impl Profile {
             sync: 3,
             mark: 4,
             drop: 4,
+            verify: 4,
             ..Profile::SMALL.weights
         },
         newest: 40,

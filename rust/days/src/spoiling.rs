@@ -29,6 +29,7 @@ impl Generator<'_> {
                 Call::Mark { revision, name: self.ill_formed(name) }
             }
             Call::Drop { name } => Call::Drop { name: self.ill_formed(name) },
+            Call::Verify { order } => Call::Verify { order: self.ill_headed(order) },
             Call::Fresh { .. } => call,
             Call::Update { .. } | Call::Query { .. } | Call::Yield { .. } | Call::Bundle { .. } => {
                 entry_with(call, strange)

@@ -76,7 +76,7 @@ fn every_call_meets_each_of_its_codes() {
             *met.entry((call.name(), day.call(&call).code.number())).or_default() += 1;
         }
     }
-    let codes: [(&str, &[u8]); 13] = [
+    let codes: [(&str, &[u8]); 14] = [
         ("update", &[0, 2, 3, 4, 5, 6, 7, 8, 9, 16]),
         ("query", &[0, 2, 3, 4, 5, 6, 7, 8, 16]),
         ("yield", &[0, 2]),
@@ -90,6 +90,7 @@ fn every_call_meets_each_of_its_codes() {
         ("sync", &[0, 3, 4, 7, 11, 16]),
         ("mark", &[0, 3, 4, 7, 10, 15, 17]),
         ("drop", &[0, 18]),
+        ("verify", &[0, 21]),
     ];
     for (call, codes) in codes {
         let of_call = met.iter().filter(|((name, _), _)| *name == call);

@@ -81,7 +81,7 @@ impl Met {
             },
             Call::Mark { revision, .. } if accepted => self.marked(day, revision, value as u8),
             Call::Drop { ref name } if accepted => self.dropped(day, name),
-            Call::Mark { .. } | Call::Drop { .. } | Call::Yield { .. } => {}
+            Call::Mark { .. } | Call::Drop { .. } | Call::Yield { .. } | Call::Verify { .. } => {}
             Call::Fresh { .. } => unreachable!("a day on reused numbers is one day"),
         }
     }
@@ -213,7 +213,7 @@ fn days_on_reused_numbers_meet_what_they_are_for() {
 /// The small ones begin with all numbers given out.
 #[test]
 fn small_days_on_reused_numbers_meet_what_they_are_for() {
-    let mut times = tally(Profile::SMALL_REUSED.days(0..200), 63);
+    let mut times = tally(Profile::SMALL_REUSED.days(0..300), 63);
     for long in
         ["a never-used number while others are free", "a revision that was out for 100 forks"]
     {

@@ -1,5 +1,5 @@
-//! The checks behind codes 2 to 12 and 14 to 18, each by itself: 01, "Codes of the desk", and 02, U4, U7,
-//! U8 and U9.
+//! The checks behind codes 2 to 12, 14 to 18 and 21, each by itself: 01, "Codes of the desk", and 02, U4,
+//! U7, U8, U9 and U13.
 
 use calls::Code;
 
@@ -45,6 +45,16 @@ pub(crate) fn listing_fits(visible: usize, room: usize) -> Result<(), Code> {
 pub(crate) fn bundle_whole(bytes: usize) -> Result<(), Code> {
     let whole = bytes.is_multiple_of(ENTRY);
     refuse_if(!whole || !(1..=64).contains(&(bytes / ENTRY)), Code::WrongBundle)
+}
+
+/// 21: "if the length or the offset is under 8, or offset + 2 times the count isn't the length"; else the
+/// numbers.
+pub(crate) fn list_good(order: &[u8]) -> Result<Vec<usize>, Code> {
+    refuse_if(order.len() < 8, Code::BadList)?;
+    let number = |bytes: &[u8]| bytes.iter().rev().fold(0, |n, &byte| 256 * n + u64::from(byte));
+    let (count, offset) = (number(&order[..4]), number(&order[4..8]));
+    refuse_if(offset < 8 || offset + 2 * count != order.len() as u64, Code::BadList)?;
+    Ok(order[offset as usize..].chunks(2).map(|bytes| number(bytes) as usize).collect())
 }
 
 impl Day {

@@ -49,6 +49,12 @@ extern "C" {
         records_length: usize,
     ) -> u64;
     fn silttongs_preview(table: *const u8, length: usize, joiner: u8, joinee: u8, bib: u16) -> u64;
+    fn silttongs_verify(
+        table: *const u8,
+        length: usize,
+        order: *const u8,
+        order_length: usize,
+    ) -> u64;
 }
 
 // Each export takes any bytes and any numbers: it has no precondition, is proved to stay within
@@ -141,4 +147,14 @@ pub(crate) fn preview(t: &[u8], joiner: u8, joinee: u8, bib: u16) -> Result<Prev
     // SAFETY: as above. The table is only read.
     let packed = unsafe { silttongs_preview(t.as_ptr(), t.len(), joiner, joinee, bib) };
     Preview::from_packed(packed)
+}
+
+pub(crate) fn verify(t: &[u8], order: &[u8]) -> Result<bool, Refusal> {
+    // SAFETY: as above. Table and order are only read.
+    let packed = unsafe { silttongs_verify(t.as_ptr(), t.len(), order.as_ptr(), order.len()) };
+    match answer(packed)? {
+        0 => Ok(false),
+        1 => Ok(true),
+        value => unreachable!("value {value} of a verify"),
+    }
 }

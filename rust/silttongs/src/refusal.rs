@@ -49,10 +49,12 @@ pub enum Refusal {
     BadName = 17,
     /// No mark that is out has the name.
     NoSuchMark = 18,
+    /// The header of an order does not fit its length.
+    BadList = 21,
 }
 
 /// In the order of their numbers. 13 is given by the program `day` alone.
-const ALL: [Refusal; 17] = [
+const ALL: [Refusal; 18] = [
     Refusal::NoTable,
     Refusal::UnknownClient,
     Refusal::NeverGiven,
@@ -70,6 +72,7 @@ const ALL: [Refusal; 17] = [
     Refusal::Marked,
     Refusal::BadName,
     Refusal::NoSuchMark,
+    Refusal::BadList,
 ];
 
 impl Refusal {
@@ -98,6 +101,7 @@ impl Refusal {
             Refusal::Marked => "marked box",
             Refusal::BadName => "bad name",
             Refusal::NoSuchMark => "no such mark",
+            Refusal::BadList => "bad list",
         }
     }
 }
@@ -130,7 +134,7 @@ mod tests {
 
     #[test]
     fn each_number_has_its_refusal() {
-        assert!(ALL.map(Refusal::code).into_iter().eq((1..=12).chain(14..=18)));
+        assert!(ALL.map(Refusal::code).into_iter().eq((1..=12).chain(14..=18).chain([21])));
         for refusal in ALL {
             assert_eq!(answer(u64::from(refusal.code()) << 32), Err(refusal));
         }

@@ -45,7 +45,7 @@ impl TryFrom<u8> for Kind {
 }
 
 /// A table on bytes of its own, as `[u8; BYTES]` or `Box<[u8]>`, or on lent ones, as `&mut [u8]`,
-/// or `&[u8]` for what only reads: lists, fills, previews and [`marks`](Table::marks).
+/// or `&[u8]` for what only reads: lists, fills, previews, verifies and [`marks`](Table::marks).
 ///
 /// Nothing but the bytes is kept. A refused call changes none of them. A box is a revision of the
 /// table, a tablet is a client.
@@ -470,6 +470,38 @@ impl<B: AsRef<[u8]>> Table<B> {
     /// Codes 1, 3, 4, 15, 16, 7 and 11 as for the join, then 5 for the bib.
     pub fn preview(&self, joiner: u8, joinee: u8, bib: u16) -> Result<Preview, Refusal> {
         exports::preview(self.0.as_ref(), joiner, joinee, bib)
+    }
+
+    /// Whether an order of updates that other software made fits the table: it has every update taken
+    /// exactly once and no other number, and the visible updates of every box out, busy or marked too,
+    /// stand in it in listed order. The table stays: a verify is no event.
+    ///
+    /// The order is a file: a count and an offset, 4 bytes each, then from the offset on the updates'
+    /// numbers, 2 bytes each, all with the least significant byte first.
+    ///
+    /// ```
+    /// use silttongs::{Day, Kind, Refusal, Table, BYTES};
+    ///
+    /// let mut table = Table::fresh([0; BYTES], Day::Ordinary)?;
+    /// table.fork(0)?;
+    /// table.update(3, 1, Kind::Penalty, 7, 5_000)?;
+    /// table.yield_(3)?;
+    /// table.update(2, 0, Kind::Time, 7, 60_000)?;
+    /// table.yield_(2)?;
+    /// table.join(0, 1)?;
+    ///
+    /// let [wrong, right] = [[0, 1], [1, 0]].map(|[a, b]| [2, 0, 0, 0, 8, 0, 0, 0, a, 0, b, 0]);
+    /// assert_eq!(table.verify(&wrong), Ok(false));
+    /// assert_eq!(table.verify(&right), Ok(true));
+    /// assert_eq!(table.verify(&right[..11]), Err(Refusal::BadList));
+    /// # Ok::<(), Refusal>(())
+    /// ```
+    ///
+    /// # Errors
+    ///
+    /// Codes 1 and 21.
+    pub fn verify(&self, order: &[u8]) -> Result<bool, Refusal> {
+        exports::verify(self.0.as_ref(), order)
     }
 
     /// The marks that are out, in the order of their numbers, read from the table's cells.

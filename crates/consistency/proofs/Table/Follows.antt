@@ -10,7 +10,7 @@ use Rattle.diagram.specs.Steps.{run, runFrom}
 use Rattle.cells.specs.Sizes as Lower
 use Rattle.cells.specs.Steps.{freshBytes}
 use Rattle.entries.specs.Sizes as Upper
-use Rattle.desk.specs.Calls.{Call, Update, Query, Yield, Fork, Join, Sync, Mark, Drop, Bundle, Looks, Show, Fill, Preview, Records, Entries, callOn}
+use Rattle.desk.specs.Calls.{Call, Update, Query, Yield, Fork, Join, Sync, Mark, Drop, Bundle, Looks, Show, Fill, Preview, Verify, Records, Entries, callOn}
 use Rattle.plain.specs.Record.{PlainDay, freshDay}
 use Rattle.plain.specs.Answers.{called, answers, answersFrom, dayFrom}
 use Rattle.table.specs.Out.{tableBytes}
@@ -23,6 +23,7 @@ use Rattle.consistency.proofs.Table.Stands.{Stands}
 use Rattle.consistency.proofs.Table.Calls.{Same, update-same, query-same, yield-same, fork-same, join-same, mark-same, drop-same, list-same, fill-same}
 use Rattle.consistency.proofs.Table.Bundles.{bundle-same, entries-same}
 use Rattle.consistency.proofs.Table.Previews.{preview-same}
+use Rattle.consistency.proofs.Table.Orders.{verify-same}
 use Rattle.consistency.proofs.Table.Syncs.{sync-same}
 
 module _ (p : PlainDay) (t : List ℕ) (S : Stands p t) where
@@ -40,6 +41,7 @@ module _ (p : PlainDay) (t : List ℕ) (S : Stands p t) where
   call-same (Looks (Show n s)) = list-same p t S n s
   call-same (Looks (Fill n)) = fill-same p t S n
   call-same (Looks (Preview n m bib)) = preview-same p t S n m bib
+  call-same (Looks (Verify file)) = verify-same p t S file
 
 filled : (a : List ℕ) (n m k : ℕ) → length a ≡ n → n + m ≡ k → length (a ++ replicate m 0) ≡ k
 filled a n m k e f = length-append a (replicate m 0) ∙ rw (e, length-replicate {A = ℕ} m 0) f

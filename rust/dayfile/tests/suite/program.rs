@@ -48,7 +48,7 @@ fn record(call: &Call, rng: &mut Rng) -> Option<Record> {
             Record { step: 5, revision: joiner, second: joinee, ..any }
         }
         Call::List { .. } | Call::Fill { .. } => return None,
-        Call::Bundle { .. } | Call::Preview { .. } => return None,
+        Call::Bundle { .. } | Call::Preview { .. } | Call::Verify { .. } => return None,
         Call::Fresh { .. } | Call::Sync { .. } | Call::Mark { .. } | Call::Drop { .. } => {
             return None
         }

@@ -5,13 +5,14 @@ mod bundles;
 mod fills;
 mod marks;
 mod numbers;
+mod orders;
 mod previews;
 mod race_day;
 mod readings;
 mod single_main;
 mod struck;
 
-use calls::{Answer, Call};
+use calls::{order_file, Answer, Call};
 
 const TIME: u8 = 1;
 const EARLIEST: u8 = 2;
@@ -60,6 +61,14 @@ fn mark(revision: u8, name: impl AsRef<[u8]>) -> Call {
 
 fn drop_mark(name: impl AsRef<[u8]>) -> Call {
     Call::Drop { name: name.as_ref().to_vec() }
+}
+
+fn verify(numbers: &[u16]) -> Call {
+    verify_file(order_file(numbers))
+}
+
+fn verify_file(order: Vec<u8>) -> Call {
+    Call::Verify { order }
 }
 
 /// Makes the table fresh: an ordinary day.

@@ -117,16 +117,16 @@ fn named(call: &Call) -> Vec<u8> {
         Call::Join { joiner, joinee } | Call::Preview { joiner, joinee, .. } => {
             vec![joiner, joinee]
         }
-        Call::Yield { .. } | Call::Fresh { .. } | Call::Drop { .. } => vec![],
+        Call::Yield { .. } | Call::Fresh { .. } | Call::Drop { .. } | Call::Verify { .. } => vec![],
     }
 }
 
 #[test]
 fn wrong_marks_and_drops_are_found() {
     let kinds = [
-        (Profile::MARKED, 120),
+        (Profile::MARKED, 300),
         (Profile::CROWDED_MARKED, 12),
-        (Profile::RENEWED, 120),
+        (Profile::RENEWED, 200),
         (Profile::SINGLE_MAIN, 60),
         (Profile::CROWDED_SINGLE_MAIN, 12),
     ];

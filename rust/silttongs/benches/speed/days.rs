@@ -1,6 +1,6 @@
 //! The days that are timed.
 
-use calls::{Call, Line, BIBS, BUNDLE, CLIENTS, REVISIONS, UPDATES};
+use calls::{order_file, Call, Line, BIBS, BUNDLE, CLIENTS, REVISIONS, UPDATES};
 
 /// Kind, bib and argument of the n-th update of a day.
 fn entry(n: usize) -> (u8, u16, u32) {
@@ -90,6 +90,19 @@ pub(crate) fn single_main(updates: usize, revisions: usize) -> Vec<Call> {
     calls.extend((0..updates).map(|n| update(0, 1, n)));
     calls.push(Call::Yield { client: 0 });
     calls
+}
+
+/// So many updates on the main revision, and so many revisions out that all list them.
+pub(crate) fn alike(updates: usize, revisions: usize) -> Vec<Call> {
+    let mut calls = chain(updates, 1);
+    calls.extend((1..revisions).map(|_| Call::Fork { revision: 0 }));
+    calls
+}
+
+/// A verify of so many updates, as they were entered.
+pub(crate) fn verify(updates: usize) -> Call {
+    let numbers: Vec<u16> = (0..updates as u16).collect();
+    Call::Verify { order: order_file(&numbers) }
 }
 
 /// The name of the mark that is made or dropped.

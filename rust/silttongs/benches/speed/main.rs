@@ -15,8 +15,8 @@ use std::time::Instant;
 
 use calls::{Call, CLIENTS, UPDATES};
 use days::{
-    bib, bundle, chain, handed_in, in_turn, mark, marked, of_one_bib, single_main, update, whole,
-    NAME,
+    alike, bib, bundle, chain, handed_in, in_turn, mark, marked, of_one_bib, single_main, update,
+    verify, whole, NAME,
 };
 use sides::{made, Side};
 use silttongs::SHEET;
@@ -189,6 +189,16 @@ fn marks() -> Vec<Case> {
     ]
 }
 
+/// 02, U13: an order that fits, with 64 boxes out: each sent off by the one before it, or all by box 0.
+fn verified() -> Vec<Case> {
+    let (chain, alike) = (chain(UPDATES, 64), alike(UPDATES, 64));
+    vec![
+        Case::of_calls("verify of 4,096 updates, 64 boxes", &chain, &[verify(UPDATES)]),
+        Case::of_calls("verify of 4,096 updates, 64 boxes alike", &alike, &[verify(UPDATES)]),
+        Case::of_calls("verify that ends at the count", &chain, &[verify(UPDATES - 1)]),
+    ]
+}
+
 /// 02, U7: the same calls on a short day, and on one that has 20,000 forks and joins behind it.
 fn reused() -> Vec<Case> {
     let short = chain(2_048, 8);
@@ -251,6 +261,7 @@ fn main() {
     let mut single = single_calls();
     single.extend(synced());
     single.extend(marks());
+    single.extend(verified());
     single.extend(reused());
     let mut by_updates = growth(&[64, 1_024, 2_048, 3_072, 4_080], |updates| (updates, 8));
     let mut by_revisions = growth(&[2, 8, 16, 32, 48, 63], |revisions| (2_048, revisions));

@@ -57,6 +57,7 @@ fn call_baseline(t: &mut [u8], sheet: &mut [u8], call: &Call) -> Result<Option<u
         Call::Sync { revision } => baseline::sync(t, revision).map(one),
         Call::Mark { revision, ref name } => baseline::mark(t, revision, name).map(one),
         Call::Drop { ref name } => baseline::drop(t, name).map(one),
+        Call::Verify { ref order } => baseline::verify(t, order).map(one),
     }
 }
 
@@ -83,6 +84,7 @@ fn call_library(t: &mut [u8], sheet: &mut [u8], call: &Call) -> Result<Option<u6
         Call::Sync { revision } => table.sync(revision).map(one),
         Call::Mark { revision, ref name } => table.mark(revision, name).map(one),
         Call::Drop { ref name } => table.drop(name).map(|()| one(0_u32)),
+        Call::Verify { ref order } => table.verify(order).map(one),
         Call::Fresh { single_main } => {
             let day = if single_main { Day::SingleMain } else { Day::Ordinary };
             Table::fresh(t, day).map(|_| one(0_u32))

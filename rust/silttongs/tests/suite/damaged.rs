@@ -3,7 +3,7 @@
 
 use std::collections::BTreeMap;
 
-use calls::{Answer, Call, Code, Line, State, CLIENTS, REVISIONS};
+use calls::{order_file, Answer, Call, Code, Line, State, CLIENTS, REVISIONS};
 use days::{fault_of_bundles, fault_of_previews, fault_of_syncs, seeds, Heaviest, Rng};
 use silttongs::{Refusal, Table, BUNDLE, BYTES};
 
@@ -13,7 +13,7 @@ use super::given::{
     answered, by_baseline, choice, difference, first_difference, fresh_bytes, library, only_reads,
     sheet, Given,
 };
-use super::random::{any_call, damaged, names, random_bytes, MARKED, NAMES, SINGLE, STATE};
+use super::random::{any_call, damaged, names, random_bytes, taken, MARKED, NAMES, SINGLE, STATE};
 
 /// How many damaged buffers are tried.
 const BUFFERS: u64 = 8_000;
@@ -125,6 +125,9 @@ fn wrong_lengths() {
         // 1 comes before 17 and 18.
         Call::Mark { revision: 0, name: Vec::new() },
         Call::Drop { name: b"JURY".to_vec() },
+        Call::Verify { order: order_file(&[]) },
+        // 1 comes before 21.
+        Call::Verify { order: Vec::new() },
     ];
     let cells = cells();
     for length in [0, 1, 12, 40_959, 40_960, BYTES - 1, BYTES + 1, 2 * BYTES] {
@@ -192,10 +195,10 @@ impl Met {
         &mut self,
         at: &str,
         rng: &mut Rng,
-        names: &[Vec<u8>],
+        (names, taken): (&[Vec<u8>], u16),
         mut judged: impl FnMut(&Call) -> Given,
     ) {
-        let call = any_call(rng, names);
+        let call = any_call(rng, names, taken);
         let Given { answer: Answer { code, value, .. }, sheet } = judged(&call);
         *self.codes.entry(code).or_default() += 1;
         let (Call::List { revision, .. }, 1..) = (call, value) else { return };
@@ -220,14 +223,15 @@ impl Met {
 fn random_calls_on_damaged_buffers() {
     let cells = cells();
     let mut met = Met::default();
-    let (mut reused, mut synced, mut marked, mut dropped) = (0, 0, 0, 0);
+    let [mut reused, mut synced, mut marked, mut dropped, mut verified] = [0; 5];
     for seed in seeds(BUFFERS) {
         let mut rng = Rng::new(seed);
         let mut t = damaged(&cells, &mut rng);
         let names = names(&t);
         for step in 0..CALLS {
             let at = format!("seed {seed}, call {step}");
-            met.calls(&at, &mut rng, &names, |call| {
+            let taken = taken(&t);
+            met.calls(&at, &mut rng, (&names, taken), |call| {
                 let all_given = t.get(GIVEN) == Some(&REVISIONS);
                 let given = judged(&cells, &mut t, call)
                     .unwrap_or_else(|fault| panic!("{at}, `{call}`: {fault}"));
@@ -236,6 +240,7 @@ fn random_calls_on_damaged_buffers() {
                 synced += usize::from(accepted && call.name() == "sync");
                 marked += usize::from(accepted && call.name() == "mark");
                 dropped += usize::from(accepted && call.name() == "drop");
+                verified += usize::from(given.answer.value == 1 && call.name() == "verify");
                 given
             });
         }
@@ -244,10 +249,11 @@ fn random_calls_on_damaged_buffers() {
     assert!(synced >= 50, "{synced} syncs");
     assert!(marked >= 50, "{marked} marks");
     assert!(dropped >= 50, "{dropped} drops");
+    assert!(verified >= 50, "{verified} orders that fit");
     let Met { codes, states } = met;
     // 13 is given by the program alone.
     let numbers: Vec<u8> = codes.keys().map(|code| code.number()).collect();
-    assert_eq!(numbers, [0, 1, 2, 3, 4, 5, 6, 7, 8, 9, 10, 11, 12, 14, 15, 16, 17, 18]);
+    assert_eq!(numbers, [0, 1, 2, 3, 4, 5, 6, 7, 8, 9, 10, 11, 12, 14, 15, 16, 17, 18, 21]);
     assert!(codes.values().all(|&times| times >= 10), "{codes:?}");
     assert_eq!(states.len(), 3, "{states:?}");
     assert!(states.values().all(|&times| times >= 30), "{states:?}");

@@ -4,8 +4,8 @@
 use calls::{Answer, Call, Line, BIBS};
 use days::{
     chains_of_joins, days_of, every_fill, every_list, every_preview, fault_of_bundles,
-    fault_of_fills, fault_of_marks, fault_of_numbers, fault_of_origins, fault_of_previews,
-    fault_of_syncs, late_days, must_pass, one_in, seeds, Profile,
+    fault_of_fills, fault_of_marks, fault_of_numbers, fault_of_orders, fault_of_origins,
+    fault_of_previews, fault_of_syncs, late_days, must_pass, one_in, seeds, Profile,
 };
 use silttongs::{lines, Entry, Table};
 
@@ -75,6 +75,17 @@ fn numbers_go_by_the_order_of_the_hand_ins() {
     let numbers = |calls: &[Call]| fault_of_numbers(fresh_bytes(), calls, answered);
     must_pass(one_in(4), numbers);
     must_pass(Profile::SMALL_REUSED.days(seeds(60)), numbers);
+}
+
+/// 02, U13: the day's own line-up gets a yes, other orders what the literal replay says.
+#[test]
+fn orders_after_every_step() {
+    let orders = |calls: &[Call]| fault_of_orders(fresh_bytes(), calls, answered);
+    must_pass(Profile::SMALL.days(seeds(100)), orders);
+    must_pass(Profile::SMALL_MARKED.days(seeds(60)), orders);
+    must_pass(Profile::SMALL_SINGLE_MAIN.days(seeds(30)), orders);
+    must_pass(chains_of_joins(seeds(3)), orders);
+    must_pass(late_days(), orders);
 }
 
 /// 02, U9, by the library alone: names, codes and lists of marks, and what comes of them.

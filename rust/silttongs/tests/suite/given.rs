@@ -59,6 +59,9 @@ pub(crate) fn library(bytes: &mut [u8], call: &Call) -> Given {
         Call::Preview { joiner, joinee, bib } => table
             .preview(joiner, joinee, bib)
             .map(|preview| Answer { gain: preview.gain, ..found(preview.standing) }),
+        Call::Verify { ref order } => {
+            table.verify(order).map(|yes| Answer::accepted(u32::from(yes)))
+        }
     };
     Given { answer: answer.unwrap_or_else(refused), sheet }
 }
@@ -121,7 +124,7 @@ pub(crate) fn as_given(call: &Call, answer: Answer) -> Given {
 
 /// Whether a call has to leave the table as it is, accepted too.
 pub(crate) fn only_reads(call: &Call) -> bool {
-    matches!(call, Call::List { .. } | Call::Fill { .. } | Call::Preview { .. })
+    ["list", "fill", "preview", "verify"].contains(&call.name())
 }
 
 /// What is other than expected, in words.

@@ -11,6 +11,7 @@ mod light;
 mod marks;
 mod meeting;
 mod numbers;
+mod orders;
 mod previews;
 mod random;
 mod single_main;

@@ -1,6 +1,6 @@
 //! Buffers that no day made, and calls for them, at random.
 
-use calls::{Call, Line, BIBS, CLIENTS, REVISIONS};
+use calls::{order_file, Call, Line, BIBS, CLIENTS, REVISIONS};
 use days::{random_day, Profile, Rng};
 use silttongs::{BUNDLE, BYTES, SHEET};
 
@@ -12,6 +12,7 @@ pub(crate) const STATE: usize = 39_040;
 pub(crate) const NAMES: usize = 39_828;
 pub(crate) const SINGLE: usize = 40_084;
 pub(crate) const MARKED: u8 = 3;
+const UPDATES: usize = 39_824;
 
 /// The names in the cells of marks, each once.
 pub(crate) fn names(t: &[u8]) -> Vec<Vec<u8>> {
@@ -21,6 +22,11 @@ pub(crate) fn names(t: &[u8]) -> Vec<Vec<u8>> {
     names.sort();
     names.dedup();
     names
+}
+
+/// The updates taken, as the cell has it.
+pub(crate) fn taken(t: &[u8]) -> u16 {
+    t.get(UPDATES..UPDATES + 2).map_or(0, |word| u16::from_le_bytes([word[0], word[1]]))
 }
 
 pub(crate) fn random_bytes(rng: &mut Rng) -> Vec<u8> {
@@ -93,12 +99,12 @@ fn any_name(rng: &mut Rng, names: &[Vec<u8>]) -> Vec<u8> {
 }
 
 /// Mostly numbers in range.
-pub(crate) fn any_call(rng: &mut Rng, names: &[Vec<u8>]) -> Call {
+pub(crate) fn any_call(rng: &mut Rng, names: &[Vec<u8>], taken: u16) -> Call {
     let mut below = |n: usize| if rng.percent(3) { rng.below(256) } else { rng.below(n) };
     let [client, revision, other] = [CLIENTS, REVISIONS, REVISIONS].map(|n| below(n.into()) as u8);
     let kind = (1 + below(4)) as u8;
     let bib = rng.below(usize::from(BIBS) + 10) as u16;
-    match rng.below(18) {
+    match rng.below(20) {
         0 => Call::Query { client, revision, bib },
         1 => Call::Yield { client },
         2 => Call::Fork { revision },
@@ -111,6 +117,7 @@ pub(crate) fn any_call(rng: &mut Rng, names: &[Vec<u8>]) -> Call {
         9 | 10 => Call::Sync { revision },
         11 | 12 => Call::Mark { revision, name: any_name(rng, names) },
         13 | 14 => Call::Drop { name: any_name(rng, names) },
+        15 | 16 => Call::Verify { order: any_order(rng, taken) },
         _ => Call::Update { client, revision, kind, bib, v: rng.bits() as u32 },
     }
 }
@@ -130,4 +137,27 @@ fn any_records(rng: &mut Rng) -> Vec<u8> {
         records.truncate(rng.below(records.len() + 1));
     }
     records
+}
+
+/// An order of so many updates, as they were entered; in some cases with two of them changed, with one
+/// twice or too many, or with another header.
+fn any_order(rng: &mut Rng, taken: u16) -> Vec<u8> {
+    let mut numbers: Vec<u16> = (0..taken).collect();
+    let count = numbers.len();
+    if rng.percent(30) && count > 0 {
+        let (a, b) = (rng.below(count), rng.below(count));
+        match rng.below(3) {
+            0 => numbers[a] = numbers[b],
+            _ => numbers.swap(a, b),
+        }
+    }
+    if rng.percent(10) {
+        numbers.push(rng.bits() as u16);
+    }
+    let mut file = order_file(&numbers);
+    if rng.percent(10) {
+        let at = rng.below(8);
+        file[at] = rng.bits() as u8;
+    }
+    file
 }

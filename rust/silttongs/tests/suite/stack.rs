@@ -2,11 +2,11 @@
 
 use std::thread;
 
-use calls::UPDATES;
+use calls::{order_file, UPDATES};
 use silttongs::{Day, Entry, Kind, Refusal, Standing, Table, BUNDLE, BYTES, SHEET};
 
 /// The longest own list, and so the deepest recursion, on box 1: a query walks it, and a fork, a mark, a
-/// list and a preview too.
+/// list, a preview and a verify too.
 #[test]
 fn the_deepest_calls_fit_in_96_kib() {
     let run = || {
@@ -24,6 +24,8 @@ fn the_deepest_calls_fit_in_96_kib() {
         table.yield_(0)?;
         table.list(1, &mut vec![0; SHEET])?;
         table.fill(1)?;
+        let numbers: Vec<u16> = (0..UPDATES as u16).collect();
+        assert_eq!(table.verify(&order_file(&numbers)), Ok(true));
         assert_eq!(table.preview(0, 1, 7)?.standing, standing);
         table.fork(1)?;
         table.mark(1, "JURY")?;

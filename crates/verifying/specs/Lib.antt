@@ -1,0 +1,1 @@
+-- Its contracts are definitions of the crates below.
