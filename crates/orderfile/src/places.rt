@@ -13,8 +13,16 @@ fn number_at(b: &[u8], i: usize) -> usize
     b[2 * i] as usize + 256 * (b[2 * i + 1] as usize)
 }
 
-// Each number's place, from 1 on, into `places`, where 0 stands for none. It ends at the first number that is too high or stands there twice.
-fn put_all(b: &[u8], taken: usize, places: &mut [u16]) -> bool
+// How many numbers b has.
+pub fn count(b: &[u8]) -> usize
+    ensures { λ n. ⌜ n ≡ length (numbersOf (now (b .entry))) ⌝ }
+{
+    b.len() / 2
+}
+
+// Whether b, which has as many numbers as updates were taken, has each once and no other; then `places` has the place of each, from 1 on. Where it
+// has none, 0 stays. It ends at the first number that is too high or stands there twice.
+pub fn place_all(b: &[u8], taken: usize, places: &mut [u16]) -> bool
     requires { ⌜ (length (numbersOf (now b)) ≡ taken) × (taken < 65536) × (taken ≤ length (now places)) × ((u : ℕ) → placeAt (now places) u ≡ 0) ⌝ }
     ensures { λ r. ⌜ PlacesOf taken (numbersOf (now (b .entry))) (now (places .exit)) r ⌝ }
 {
@@ -31,15 +39,4 @@ fn put_all(b: &[u8], taken: usize, places: &mut [u16]) -> bool
         places[n] = i as u16;
     }
     true
-}
-
-// Whether b has every number below `taken` once and no other; then `places` has the place of each.
-pub fn place_all(b: &[u8], taken: usize, places: &mut [u16]) -> bool
-    requires { ⌜ (taken < 65536) × (taken ≤ length (now places)) × ((u : ℕ) → placeAt (now places) u ≡ 0) ⌝ }
-    ensures { λ r. ⌜ PlacesOf taken (numbersOf (now (b .entry))) (now (places .exit)) r ⌝ }
-{
-    if b.len() / 2 != taken {
-        return false;
-    }
-    put_all(b, taken, places)
 }

@@ -18,6 +18,7 @@ use checks::joined::JoinedCheck;
 use checks::joined::check_joined;
 use orderfile::file::ListCheck;
 use orderfile::file::check_list;
+use orderfile::places::count;
 use orderfile::places::place_all;
 use orderfile::rising::rise;
 use sizes::numbers::Revision;
@@ -84,17 +85,28 @@ fn all_stand(t: &[u8], places: &[u16]) -> bool
     true
 }
 
-// The numbers of a file, on a table: every update once and no other, and every revision that is out in order.
-fn fits(t: &[u8], numbers: &[u8]) -> bool
-    requires { ⌜ (length (now t) ≡ tableBytes) × (inRange (low (now t)) ≡ true) ⌝ }
+// As many numbers as updates were taken: each once and no other, and every revision that is out in order.
+fn fits_as_many(t: &[u8], numbers: &[u8], taken: usize) -> bool
+    requires { ⌜ (length (now t) ≡ tableBytes) × (inRange (low (now t)) ≡ true) × (length (numbersOf (now numbers)) ≡ taken) × (taken ≡ cellsOf (now t) .updates) ⌝ }
     ensures { λ r. ⌜ r ≡ fitsTable (cellsOf (now (t .entry))) (numbersOf (now (numbers .entry))) ⌝ }
 {
-    let taken = counts::taken(t);
     let mut places = no_places();
     if !place_all(numbers, taken, &mut places) {
         return false;
     }
     all_stand(t, &places)
+}
+
+// The numbers of a file, on a table. Another count ends it before anything is made.
+fn fits(t: &[u8], numbers: &[u8]) -> bool
+    requires { ⌜ (length (now t) ≡ tableBytes) × (inRange (low (now t)) ≡ true) ⌝ }
+    ensures { λ r. ⌜ r ≡ fitsTable (cellsOf (now (t .entry))) (numbersOf (now (numbers .entry))) ⌝ }
+{
+    let taken = counts::taken(t);
+    if count(numbers) != taken {
+        return false;
+    }
+    fits_as_many(t, numbers, taken)
 }
 
 // The call on bytes that are a table.

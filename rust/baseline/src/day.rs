@@ -8,7 +8,7 @@ use crate::calls::{
 };
 use crate::calls::{Fill, Preview, LISTED};
 use crate::numbers::LOG;
-use crate::orders::verify;
+use crate::orders::{line_up, verify};
 use crate::parts::BYTES;
 use crate::update::Standing;
 
@@ -28,6 +28,14 @@ impl Day {
     /// The bytes of the table.
     pub fn bytes(&self) -> &[u8] {
         &self.0
+    }
+
+    /// The day's own line-up: the numbers of all its updates.
+    pub fn line_up(&self) -> Vec<u16> {
+        match line_up(&mut self.0.clone()) {
+            Ok(numbers) => numbers,
+            Err(code) => unreachable!("a day has a table, and not code {code}"),
+        }
     }
 
     /// Makes one call. A refused one changes nothing.

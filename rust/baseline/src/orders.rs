@@ -1,4 +1,4 @@
-//! The call verify: whether an order of updates from another maker fits.
+//! The call verify: whether an order of updates from another maker fits. And the order that always does.
 
 use calls::Code;
 
@@ -18,6 +18,15 @@ pub fn verify(t: &mut [u8], order: &[u8]) -> Result<u32, Code> {
     let numbers = checked_numbers(order)?;
 
     Ok(u32::from(t.fits(numbers)))
+}
+
+/// The own lists of all revisions that are out, the last place of the layout first. What a list begins
+/// with stands in those behind it.
+pub(crate) fn line_up(t: &mut [u8]) -> Result<Vec<u16>, Code> {
+    let t = checked(t)?;
+    let mut room = [0; LOG];
+    let out = t.layout()[..usize::from(t.out())].iter().rev();
+    Ok(out.flat_map(|&r| t.own(Revision(r), &mut room).to_vec()).collect())
 }
 
 /// Code 21, or the numbers. The sum is made in 64 bits.

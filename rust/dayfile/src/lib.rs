@@ -2,7 +2,8 @@
 //!
 //! A day file is a header and 12-byte records. This library reads and writes it, turns it into a
 //! text of one step a line and back, shows what a day answers, by the baseline, and draws its
-//! diagram.
+//! diagram. It writes the order of a day's updates as a file, and says what is wrong with one from
+//! elsewhere: 02, U13.
 //!
 //! ```
 //! let records = dayfile::read_text("update 0/0 Time bib 7 61000\nquery 0/0 bib 7\n")?;
@@ -15,6 +16,7 @@
 
 mod drawn;
 mod file;
+mod ordered;
 mod printed;
 mod record;
 mod shown;
@@ -22,6 +24,7 @@ mod text;
 
 pub use drawn::drawn_day;
 pub use file::{read_file, write_file, BadFile, LONGEST, MOST_STEPS};
+pub use ordered::{misfit, ordered_day, Misfit};
 pub use printed::{answers, printed_day};
 pub use record::{Record, StepByte};
 pub use shown::shown_day;

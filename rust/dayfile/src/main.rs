@@ -7,8 +7,8 @@ use std::io::{self, Read, Write};
 use std::process::ExitCode;
 
 use dayfile::{
-    drawn_day, printed_day, read_file, read_text, shown_day, write_file, write_text, Record,
-    LONGEST,
+    drawn_day, misfit, ordered_day, printed_day, read_file, read_text, shown_day, write_file,
+    write_text, Record, LONGEST,
 };
 
 const HELP: &str = "\
@@ -19,10 +19,17 @@ usage: dayfile pack   [TEXT [FILE]]   text to day file
        dayfile show   [FILE]          each step with its code, value and refusal
        dayfile print  [FILE]          the printed day: index, code, value
        dayfile draw   [FILE [SVG]]    the day's diagram as a picture
+       dayfile order  [FILE [ORDER]]  the order of the day's updates, as a file
+       dayfile verify FILE ORDER      whether such a file fits the day: yes or no
        dayfile --help                 this text
 
 A missing name or `-` means standard input or standard output. `show`, `print`
 and `draw` have `struck` for the value of a query that finds its bib struck.
+
+An order has a count and an offset, 4 bytes each, and from the offset on update
+numbers of 2 bytes, least significant byte first. It fits if it has every update
+taken once, no other number, and the updates of every box that is out in the
+order in which that box lists them. Beside a no stands the first reason found.
 
 A text has one step a line. A # begins a comment; blank lines are left out.
 
@@ -39,8 +46,11 @@ the record, in range or not, so that refusals can be written too. A packed file
 has its records at offset 8, and 0 in the fields that a step doesn't use.
 Unpacking leaves out those fields and the bytes between header and records.
 
-exit status: 0 done, 1 bad text, bad file or no such file, 2 wrong usage
+exit status: 0 done, 1 bad text, bad file or no such file, or the order does not
+fit or is a bad list (code 21), 2 wrong usage
 ";
+
+const BAD_LIST: &str = "length or offset under 8, or offset + 2 times the count isn't the length";
 
 fn main() -> ExitCode {
     let arguments: Vec<String> = std::env::args().skip(1).collect();
@@ -60,6 +70,10 @@ fn main() -> ExitCode {
         ["draw"] => draw("-", "-"),
         ["draw", file] => draw(file, "-"),
         ["draw", file, picture] => draw(file, picture),
+        ["order"] => order("-", "-"),
+        ["order", file] => order(file, "-"),
+        ["order", file, order_file] => order(file, order_file),
+        ["verify", file, order_file] => verify(file, order_file),
         _ => {
             eprintln!("dayfile: wrong usage; see dayfile --help");
             return ExitCode::from(2);
@@ -92,6 +106,23 @@ fn show(file: &str) -> Result<(), String> {
 
 fn draw(file: &str, picture: &str) -> Result<(), String> {
     write_bytes(picture, drawn_day(&records(file)?).as_bytes())
+}
+
+fn order(file: &str, order: &str) -> Result<(), String> {
+    write_bytes(order, &ordered_day(&records(file)?))
+}
+
+/// A no is printed as such, and its reason is an error besides.
+fn verify(file: &str, order: &str) -> Result<(), String> {
+    if (file, order) == ("-", "-") {
+        return Err("the day and its order are two files".to_string());
+    }
+    let records = records(file)?;
+    match misfit(&records, &read_bytes(order, usize::MAX)?) {
+        Ok(None) => write_bytes("-", b"yes\n"),
+        Ok(Some(misfit)) => write_bytes("-", b"no\n").and(Err(named(order, misfit))),
+        Err(code) => Err(named(order, format!("{code}: {BAD_LIST}"))),
+    }
 }
 
 /// A bad file is printed as such, and is an error besides.

@@ -11,11 +11,21 @@ use crate::record::Record;
 /// The answer of each step, from a fresh table. A strange step gives 13, and the day goes on.
 pub fn answers(records: &[Record]) -> Vec<Answer> {
     let mut day = Day::fresh();
-    let answer = |record: &Record| match record.call() {
+    records.iter().map(|record| answer(&mut day, record)).collect()
+}
+
+/// The day after its steps.
+pub(crate) fn day_after(records: &[Record]) -> Day {
+    let mut day = Day::fresh();
+    records.iter().for_each(|record| _ = answer(&mut day, record));
+    day
+}
+
+fn answer(day: &mut Day, record: &Record) -> Answer {
+    match record.call() {
         Some(call) => day.call(&call),
         None => Answer::refused(Code::UnknownStep),
-    };
-    records.iter().map(answer).collect()
+    }
 }
 
 /// The value as it is printed: `struck` for that of a query that finds its bib struck.

@@ -1,6 +1,7 @@
 //! Day files, their text, the tool, and the proved program `day` on them.
 
 mod files;
+mod orders;
 mod program;
 mod run;
 mod samples;

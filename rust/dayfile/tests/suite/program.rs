@@ -6,10 +6,10 @@ use std::process::Command;
 
 use calls::{Call, UPDATES};
 use dayfile::{read_file, read_text, write_file, Record, LONGEST, MOST_STEPS};
-use days::{chains_of_joins, days_of, late_days, seeds, Profile, Rng, Sample};
+use days::{chains_of_joins, days_of, late_days, seeds, Profile, Rng};
 
 use super::run;
-use super::samples::{file, printed_by_literal, random_record, random_records};
+use super::samples::{day_file, file, printed_by_literal, random_records, record, with_gap};
 
 /// What the program prints of a file on standard input.
 fn printed(bytes: &[u8]) -> String {
@@ -34,68 +34,11 @@ fn must_print(bytes: &[u8], what: &str) -> usize {
     printed.lines().filter(|line| line.ends_with(" 0 struck")).count()
 }
 
-/// A record of a step, with any bytes in the fields that the step doesn't use.
-fn record(call: &Call, rng: &mut Rng) -> Option<Record> {
-    let any = Record::from_bytes(std::array::from_fn(|_| rng.bits() as u8));
-    Some(match *call {
-        Call::Update { client, revision, kind, bib, v } => {
-            Record { step: 1, client, revision, kind, bib, v, ..any }
-        }
-        Call::Query { client, revision, bib } => Record { step: 2, client, revision, bib, ..any },
-        Call::Yield { client } => Record { step: 3, client, ..any },
-        Call::Fork { revision } => Record { step: 4, revision, ..any },
-        Call::Join { joiner, joinee } => {
-            Record { step: 5, revision: joiner, second: joinee, ..any }
-        }
-        Call::List { .. } | Call::Fill { .. } => return None,
-        Call::Bundle { .. } | Call::Preview { .. } | Call::Verify { .. } => return None,
-        Call::Fresh { .. } | Call::Sync { .. } | Call::Mark { .. } | Call::Drop { .. } => {
-            return None
-        }
-    })
-}
-
-/// A sync as a join and a fork, and a mark as a fork, so that the calls after it find the box that it
-/// started.
-fn unfolded(call: &Call) -> Vec<Call> {
-    match *call {
-        Call::Sync { revision } => {
-            vec![Call::Join { joiner: 0, joinee: revision }, Call::Fork { revision: 0 }]
-        }
-        Call::Mark { revision, .. } => vec![Call::Fork { revision }],
-        _ => vec![call.clone()],
-    }
-}
-
-/// The file of some records, with any bytes between header and records.
-fn with_gap(records: &[Record], gap: usize, rng: &mut Rng) -> Vec<u8> {
-    let mut bytes = file(records.len() as u32, 8 + gap as u32, 8);
-    bytes.extend((0..gap).map(|_| rng.bits() as u8));
-    bytes.extend(records.iter().flat_map(|record| record.to_bytes()));
-    bytes
-}
-
 /// A file of so many random records at most, and of a gap.
 fn random_file(rng: &mut Rng, records: usize, gap: usize) -> Vec<u8> {
     let records = random_records(rng, records);
     let gap = rng.below(gap);
     with_gap(&records, gap, rng)
-}
-
-/// A day, as far as it fits a file, with strange steps in it.
-fn day_file(day: &Sample) -> Vec<u8> {
-    let mut rng = Rng::new(day.seed);
-    let mut records = Vec::new();
-    for call in day.calls.iter().flat_map(unfolded) {
-        if rng.percent(3) {
-            let any = 6 + rng.below(250) as u8;
-            records.push(Record { step: rng.pick(&[0, 6, 255, any]), ..random_record(&mut rng) });
-        }
-        records.extend(record(&call, &mut rng));
-    }
-    records.truncate(LONGEST / Record::SIZE - 20);
-    let gap = rng.pick(&[0, 0, 1, 11, 12, 200]);
-    with_gap(&records, gap, &mut rng)
 }
 
 #[test]

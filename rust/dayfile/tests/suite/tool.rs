@@ -5,7 +5,7 @@ use std::process::Command;
 use super::run;
 
 const TEXT: &str = include_str!("../../../../examples/crossing.txt");
-const FILE: &[u8] = include_bytes!("../../../../examples/crossing.day");
+pub(crate) const FILE: &[u8] = include_bytes!("../../../../examples/crossing.day");
 
 /// The tool with these arguments.
 fn dayfile(arguments: &[&str]) -> Command {
@@ -15,12 +15,12 @@ fn dayfile(arguments: &[&str]) -> Command {
 }
 
 /// What it wrote to standard output, having ended well.
-fn output(arguments: &[&str], input: &[u8]) -> Vec<u8> {
+pub(crate) fn output(arguments: &[&str], input: &[u8]) -> Vec<u8> {
     run::output(&mut dayfile(arguments), input)
 }
 
 /// Its exit status and what it wrote to standard output and standard error, as text.
-fn failure(arguments: &[&str], input: &[u8]) -> (Option<i32>, String, String) {
+pub(crate) fn failure(arguments: &[&str], input: &[u8]) -> (Option<i32>, String, String) {
     let output = run::run(&mut dayfile(arguments), input);
     let text = |bytes| String::from_utf8(bytes).unwrap();
     (output.status.code(), text(output.stdout), text(output.stderr))
@@ -155,7 +155,9 @@ fn draws_numbers_that_are_used_again() {
 #[test]
 fn help_goes_to_standard_output() {
     let help = String::from_utf8(output(&["--help"], b"")).unwrap();
-    for word in ["pack", "unpack", "show", "print", "update TABLET/BOX KIND bib BIB V"] {
+    for word in
+        ["pack", "unpack", "show", "print", "order", "verify", "update TABLET/BOX KIND bib BIB V"]
+    {
         assert!(help.contains(word), "{word}");
     }
 }
@@ -193,7 +195,9 @@ fn missing_files_and_wrong_usage() {
     let (status, _, message) = failure(&["show", "no such file"], b"");
     assert_eq!(status, Some(1));
     assert!(message.starts_with("dayfile: no such file: "), "{message}");
-    for arguments in [&[][..], &["list"], &["show", "a", "b"], &["pack", "a", "b", "c"]] {
+    let wrong_usage =
+        [&[][..], &["list"], &["show", "a", "b"], &["pack", "a", "b", "c"], &["verify", "a"]];
+    for arguments in wrong_usage {
         let wrong = "dayfile: wrong usage; see dayfile --help\n".to_string();
         assert_eq!(failure(arguments, b""), (Some(2), String::new(), wrong));
     }

@@ -1,59 +1,27 @@
--- `verifying::verify::fits` meets its contract: the places, then every number. Assumes nothing.
-use Prim.Native.Nat.{ℕ}
-use mathlib.Core.Path.{_∙_, ap}
-use lib.ListN.{length, length-replicate}
-use native.Mathlib.Omega.{arith}
-use borrow.Author.Tests.{not-true, not-false}
+-- `verifying::verify::fits` meets its contract: with another count it fits nothing. Assumes nothing.
+use mathlib.Core.Path.{_∙_, sym}
 use borrow.Author.Needs.{needs}
-use Rattle.cells.specs.Sizes.{revisions, updates}
+use Rattle.cells.specs.Sizes.{revisions}
 use Rattle.cells.specs.Order.{order}
-use Rattle.cells.proofs.Range.{ranges}
 use Rattle.orderfile.specs.File.{numbersOf}
-use Rattle.orderfile.specs.Test.{fits}
-use Rattle.orderfile.specs.Checks.{placeAt}
-use Rattle.orderfile.proofs.Placed.{no-place}
-use Rattle.orderfile.proofs.Found.{not-complete, complete-and}
-use Rattle.table.specs.Halves.{low, cellsOf}
+use Rattle.orderfile.proofs.Found.{another-count}
+use Rattle.table.specs.Halves.{cellsOf}
 use Rattle.table.specs.Calls.{isOut}
 use Rattle.verifying.proofs.verify.fits.Statement.{statement}
 use Rattle.verifying.proofs.verify.fits.Tie as tie
 
-place-all-requires : tie.Need-place-all-requires
-place-all-requires c κs =
-    let start = c .before .before .before .before .before in
-    let taken = c .before .before .taken .ensures in
-    let most = ranges (low (start .args .t .now)) (start .pre .1) .taken in
-    let room = ap length (c .before .no-places .ensures) ∙ length-replicate {A = ℕ} updates 0 in
-    (taken .1, omega arith, λ u. ap (λ l. placeAt l u) (c .before .no-places .ensures) ∙ no-place updates u)
-
 returns : tie.Need-returns
 returns c =
-    let at-places = c .before .before in
-    let at-taken = at-places .before .before .before in
+    let at-taken = c .before .before in
     let s = at-taken .before .before .before .args in
     let k = cellsOf (s .t .now) in
-    let none = not-complete _ revisions (isOut k) (order k) (numbersOf (s .numbers .now)) _ _ (at-places .place-all .ensures) (not-true _ (c .if1 .taken)) in
-    none ∙ ap (λ n. fits n revisions (isOut k) (order k) (numbersOf (s .numbers .now))) (at-taken .taken .ensures .0)
+    another-count _ revisions (isOut k) (order k) (numbersOf (s .numbers .now)) (λ e. c .if1 .taken (c .before .count .ensures ∙ e ∙ sym (at-taken .taken .ensures .0)))
 
-returns-2 : tie.Need-returns-2
-returns-2 c =
-    let at-if = c .before .before in
-    let at-places = at-if .before .before in
-    let at-taken = at-places .before .before .before in
-    let s = at-taken .before .before .before .args in
-    let k = cellsOf (s .t .now) in
-    let both = complete-and _ revisions (isOut k) (order k) (numbersOf (s .numbers .now)) _ _ (at-places .place-all .ensures) (not-false _ (at-if .if1 .left)) _ (c .all-stand .ensures) in
-    both ∙ ap (λ n. fits n revisions (isOut k) (order k) (numbersOf (s .numbers .now))) (at-taken .taken .ensures .0)
+fits-as-many-requires : tie.Need-fits-as-many-requires
+fits-as-many-requires c κs =
+    let at-taken = c .before .before in
+    let start = at-taken .before .before .before in
+    (start .pre .0, start .pre .1, sym (c .before .count .ensures) ∙ c .if1 .left, at-taken .taken .ensures .0)
 
 pub fits-spec : {M : Type 1} → statement M
-fits-spec =
-    tie.close
-    (tie.spec
-    (λ c κs. search needs)
-    (λ c κs. search needs)
-    (λ c. search needs)
-    place-all-requires
-    returns
-    (λ c. search needs)
-    (λ c κs. search needs)
-    returns-2)
+fits-spec = tie.close (tie.spec (λ c κs. search needs) (λ c κs. search needs) returns fits-as-many-requires (λ c. search needs))
