@@ -4,8 +4,19 @@
  *
  * A table is a buffer of SILTTONGS_BYTES bytes that the caller lends for each call; nothing else
  * is kept. `table` points to `length` bytes that no one else reads or writes during the call, and
- * is not null; so do `sheet`, `records` and `name`, to bytes apart from the table's. Every content and
- * every number is answered: what is proved of the calls has no precondition besides.
+ * is not null; so do `board`, `sheet`, `records`, `name` and `order`, to bytes apart from the table's
+ * and from each other's. Every content and every number is answered: what is proved of the calls has
+ * no precondition besides.
+ *
+ * A board is a second buffer, of SILTTONGS_BOARD bytes, that shows how every bib stands at box 0, by
+ * closed transactions only, so that it is read without a query. For each bib from 0 on it has five
+ * bytes: 1 if the bib is struck and else 0, then its value, the least significant byte first, 0 if it
+ * is struck. silttongs_fresh clears it. silttongs_yield, silttongs_bundle, silttongs_join and
+ * silttongs_sync apply what they bring to box 0 to the entries of its bibs, and no other byte of it is
+ * changed; no other call takes it. So a board that silttongs_fresh cleared and that is lent to every
+ * call that takes one is right at every moment. A board that was not lent to one of them is out of date
+ * from then on, and no call tells. Every content is answered: where an update is brought, the entry
+ * found is struck if its first byte is 1, and has its value if it is any other.
  *
  * Each call hands back its answer in one number: silttongs_code is 0 if the call was taken, else
  * says why it was refused; silttongs_value is the value named below, 0 in a refusal. A query's and a
@@ -30,6 +41,10 @@ extern "C" {
 
 /* The length of a table. */
 #define SILTTONGS_BYTES 65536
+
+/* The length of a board, and of a bib's entry on it. */
+#define SILTTONGS_BOARD 5000
+#define SILTTONGS_BOARD_ENTRY 5
 
 /* The length of an entry of a listing, and of a sheet that every listing fits. A record of a bundle is
  * as long as an entry. */
@@ -62,6 +77,7 @@ enum {
     SILTTONGS_MARKED_BOX = 16,    /* the box is marked */
     SILTTONGS_BAD_NAME = 17,      /* for a mark: not four letters A to Z, or in use */
     SILTTONGS_NO_SUCH_MARK = 18,  /* for a drop: no mark that is out has the name */
+    SILTTONGS_WRONG_BOARD = 19,   /* a board of another length than 5,000 bytes */
     SILTTONGS_BAD_LIST = 21       /* for a verify: length or offset under 8, or they do not fit the count */
 };
 
@@ -96,13 +112,25 @@ static inline uint16_t silttongs_gain(uint64_t answer) { return (uint16_t)(answe
 static inline uint16_t silttongs_own(uint64_t answer) { return (uint16_t)answer; }
 static inline uint16_t silttongs_total(uint64_t answer) { return (uint16_t)(answer >> 16); }
 
-/* Starts a new day, whatever the bytes were: box 0 alone, every bib 0 and not struck. Code 1, for
- * the length only. Value: 0.
+/* How a bib from 0 to 999 stands on a board: its state, and its value, 0 if it is struck. */
+static inline uint32_t silttongs_board_value(const uint8_t *board, uint16_t bib) {
+    const uint8_t *entry = board + SILTTONGS_BOARD_ENTRY * (size_t)bib;
+    if (entry[0] == 1) return 0;
+    return entry[1] | (uint32_t)entry[2] << 8 | (uint32_t)entry[3] << 16 | (uint32_t)entry[4] << 24;
+}
+static inline uint8_t silttongs_board_state(const uint8_t *board, uint16_t bib) {
+    if (board[SILTTONGS_BOARD_ENTRY * (size_t)bib] == 1) return SILTTONGS_STRUCK;
+    return silttongs_board_value(board, bib) == 0 ? SILTTONGS_NEITHER : SILTTONGS_TIMED;
+}
+
+/* Starts a new day, whatever the bytes were: box 0 alone, every bib 0 and not struck. The board is
+ * cleared, whatever it was. Codes 1, for the length only, and 19. Value: 0.
  *
  * single_main is 0 for an ordinary day. Any other byte makes it a single-main day: boxes come from
  * box 0 and go back to it alone, and SILTTONGS_OFF_THE_LINE refuses all else. The choice is kept in
  * the table until the next fresh that is taken. */
-uint64_t silttongs_fresh(uint8_t *table, size_t length, uint8_t single_main);
+uint64_t silttongs_fresh(uint8_t *table, size_t length, uint8_t *board, size_t board_length,
+                         uint8_t single_main);
 
 /* Enters an update of a bib on a box, in the tablet's transaction there, which it opens if need
  * be. Codes 1 to 4, 16, 5 to 9, in this order. Value: how many updates the day took before it, its
@@ -116,29 +144,34 @@ uint64_t silttongs_update(uint8_t *table, size_t length, uint8_t tablet, uint8_t
  * Value: its value in thousandths of a second; 0 if it is struck or has no time. */
 uint64_t silttongs_query(uint8_t *table, size_t length, uint8_t tablet, uint8_t box, uint16_t bib);
 
-/* Closes the tablet's transaction, if it has one. Codes 1, 2. Value: 0. */
-uint64_t silttongs_yield(uint8_t *table, size_t length, uint8_t tablet);
+/* Closes the tablet's transaction, if it has one. If that is on box 0, its updates are brought to the
+ * board. Codes 1, 19, 2, in this order. Value: 0. */
+uint64_t silttongs_yield(uint8_t *table, size_t length, uint8_t *board, size_t board_length,
+                         uint8_t tablet);
 
 /* Sends a new box off from a box, marked or not. Codes 1, 3, 4, 15, 7, 10, in this order; 15 for
  * another box than 0 on a single-main day. Value: the new box's number, the next that was never used;
  * once all were, the number handed in or dropped longest ago. */
 uint64_t silttongs_fork(uint8_t *table, size_t length, uint8_t box);
 
-/* Hands a box in: the joiner takes over the joinee's updates, behind its own. Codes 1, 3, 4, 15, 16, 7,
- * 11, in this order; 15 for another joiner than box 0 on a single-main day, 16 if either box is marked.
- * Value: how many updates the joiner gained.
+/* Hands a box in: the joiner takes over the joinee's updates, behind its own. If the joiner is box 0,
+ * they are brought to the board. Codes 1, 19, 3, 4, 15, 16, 7, 11, in this order; 15 for another joiner
+ * than box 0 on a single-main day, 16 if either box is marked. Value: how many updates the joiner
+ * gained.
  *
  * However many those are, the table differs from its former bytes at no more than 256 places. */
-uint64_t silttongs_join(uint8_t *table, size_t length, uint8_t joiner, uint8_t joinee);
+uint64_t silttongs_join(uint8_t *table, size_t length, uint8_t *board, size_t board_length,
+                        uint8_t joiner, uint8_t joinee);
 
 /* Hands a box in to box 0 and sends a new one off from there, on any day: as silttongs_join into box 0
- * and then silttongs_fork of box 0, but both or neither. Codes 1, 3, 4, 16, 7, 11, as for that join.
+ * and then silttongs_fork of box 0, but both or neither. Codes 1, 19, 3, 4, 16, 7, 11, as for that join.
  * Value: the new box's number.
  *
  * The old number is handed in before the new one is taken. So while numbers are left that were never
  * used it takes the next of them, and with 64 boxes out it answers the number that it was given: go on
  * with the value, not with `box`. The table differs from its former bytes at no more than 512 places. */
-uint64_t silttongs_sync(uint8_t *table, size_t length, uint8_t box);
+uint64_t silttongs_sync(uint8_t *table, size_t length, uint8_t *board, size_t board_length,
+                        uint8_t box);
 
 /* Marks a box, marked or not: a new box is sent off from it as by silttongs_fork, and bears the name
  * of four letters A to Z that is lent. It can be listed, filled, forked and marked, but not written,
@@ -177,12 +210,14 @@ uint64_t silttongs_list(const uint8_t *table, size_t length, uint8_t box, uint8_
 uint64_t silttongs_fill(const uint8_t *table, size_t length, uint8_t box);
 
 /* Enters 1 to 64 updates on a box and closes the tablet's transaction there, which they open if need
- * be: as silttongs_update one by one and then silttongs_yield, but all or none. Codes 1, then 14, then
- * that of the earliest update that would be refused, 2 to 9 or 16. Value: the first update's number.
+ * be: as silttongs_update one by one and then silttongs_yield, but all or none. On box 0 the whole
+ * transaction is brought to the board, with what was entered singly before. Codes 1, 14, 19, then that
+ * of the earliest update that would be refused, 2 to 9 or 16. Value: the first update's number.
  *
  * A record has 12 bytes, laid out as an entry of a listing; its tablet and number are not looked at. */
-uint64_t silttongs_bundle(uint8_t *table, size_t length, uint8_t tablet, uint8_t box,
-                          const uint8_t *records, size_t records_length);
+uint64_t silttongs_bundle(uint8_t *table, size_t length, uint8_t *board, size_t board_length,
+                          uint8_t tablet, uint8_t box, const uint8_t *records,
+                          size_t records_length);
 
 /* Tells what a join would bring: the state and value of a bib at the joiner after it, and
  * silttongs_gain, how many updates the joiner would gain. Codes 1, 3, 4, 15, 16, 7, 11 as for the join,

@@ -12,7 +12,8 @@
 #include "silttongs.h"
 
 static uint8_t table[SILTTONGS_BYTES];
-static const size_t n = sizeof table;
+static uint8_t board[SILTTONGS_BOARD];
+static const size_t n = sizeof table, m = sizeof board;
 
 /* Prints a step and its answer, and gives the value. */
 static uint8_t show(const char *step, uint64_t answer) {
@@ -24,39 +25,39 @@ static uint8_t show(const char *step, uint64_t answer) {
 /* One entry of a tablet, in a transaction of its own. */
 static void enter(const char *step, uint8_t tablet, uint8_t box, uint8_t kind, uint32_t v) {
     show(step, silttongs_update(table, n, tablet, box, kind, 7, v));
-    silttongs_yield(table, n, tablet);
+    silttongs_yield(table, n, board, m, tablet);
 }
 
 /* How bib 7 stands on a box. */
 static void look(const char *step, uint8_t tablet, uint8_t box) {
     show(step, silttongs_query(table, n, tablet, box, 7));
-    silttongs_yield(table, n, tablet);
+    silttongs_yield(table, n, board, m, tablet);
 }
 
 int main(void) {
-    show("fresh, single-main", silttongs_fresh(table, n, 1));
+    show("fresh, single-main", silttongs_fresh(table, n, board, m, 1));
     uint8_t start = show("fork box 0", silttongs_fork(table, n, 0));
     uint8_t finish = show("fork box 0", silttongs_fork(table, n, 0));
 
     /* Boxes come from box 0 and go back to it alone. */
     show("fork box 1", silttongs_fork(table, n, start));
-    show("join 2 with 1", silttongs_join(table, n, finish, start));
+    show("join 2 with 1", silttongs_join(table, n, board, m, finish, start));
 
     /* A box that is synced has all that box 0 got before, and then its own. It goes on under the
      * number that the sync answers. */
     enter("finish: Time 61000", 1, finish, SILTTONGS_TIME, 61000);
     enter("start: Penalty 5000", 0, start, SILTTONGS_PENALTY, 5000);
     look("start: bib 7", 0, start);
-    finish = show("sync the finish", silttongs_sync(table, n, finish));
-    start = show("sync the start", silttongs_sync(table, n, start));
+    finish = show("sync the finish", silttongs_sync(table, n, board, m, finish));
+    start = show("sync the start", silttongs_sync(table, n, board, m, start));
     look("start: bib 7", 0, start);
     look("finish: bib 7", 1, finish);
 
     /* A box in use is not synced, and stays as it is. */
     show("update, not yielded", silttongs_update(table, n, 1, finish, SILTTONGS_PENALTY, 7, 1000));
-    show("sync the finish", silttongs_sync(table, n, finish));
-    show("yield", silttongs_yield(table, n, 1));
-    finish = show("sync the finish", silttongs_sync(table, n, finish));
+    show("sync the finish", silttongs_sync(table, n, board, m, finish));
+    show("yield", silttongs_yield(table, n, board, m, 1));
+    finish = show("sync the finish", silttongs_sync(table, n, board, m, finish));
     look("finish: bib 7", 1, finish);
 
     /* A box that starts later sees all that was synced before. */
@@ -67,6 +68,6 @@ int main(void) {
     while (silttongs_code(silttongs_fork(table, n, 0)) == SILTTONGS_TAKEN) {
     }
     show("fork box 0, 64 out", silttongs_fork(table, n, 0));
-    show("sync the finish", silttongs_sync(table, n, finish));
+    show("sync the finish", silttongs_sync(table, n, board, m, finish));
     return 0;
 }

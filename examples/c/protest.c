@@ -13,8 +13,9 @@
 #include "silttongs.h"
 
 static uint8_t table[SILTTONGS_BYTES];
+static uint8_t board[SILTTONGS_BOARD];
 static uint8_t sheet[SILTTONGS_SHEET];
-static const size_t n = sizeof table;
+static const size_t n = sizeof table, m = sizeof board;
 
 /* Prints a step and its answer, and gives the value. */
 static uint8_t show(const char *step, uint64_t answer) {
@@ -26,7 +27,7 @@ static uint8_t show(const char *step, uint64_t answer) {
 /* One entry of a tablet of bib 7, in a transaction of its own. */
 static void enter(const char *step, uint8_t tablet, uint8_t box, uint8_t kind, uint32_t v) {
     show(step, silttongs_update(table, n, tablet, box, kind, 7, v));
-    silttongs_yield(table, n, tablet);
+    silttongs_yield(table, n, board, m, tablet);
 }
 
 /* A name is lent without the byte behind its letters. */
@@ -52,7 +53,7 @@ static void list(const char *step, uint8_t box) {
 }
 
 int main(void) {
-    show("fresh", silttongs_fresh(table, n, 0));
+    show("fresh", silttongs_fresh(table, n, board, m, 0));
     enter("finish: Time 61000", 0, 0, SILTTONGS_TIME, 61000);
     uint8_t jury = show("mark box 0, JURY", mark(0, "JURY"));
     enter("jury: Penalty 5000", 1, 0, SILTTONGS_PENALTY, 5000);
@@ -60,7 +61,7 @@ int main(void) {
     /* A marked box is listed and forked, and nothing else: it stays as it is. */
     enter("update of the mark", 1, jury, SILTTONGS_STRIKE, 0);
     show("query of the mark", silttongs_query(table, n, 1, jury, 7));
-    show("join 0 with the mark", silttongs_join(table, n, 0, jury));
+    show("join 0 with the mark", silttongs_join(table, n, board, m, 0, jury));
     list("list of the mark", jury);
 
     /* A name is four letters A to Z, and borne once. */
@@ -76,9 +77,9 @@ int main(void) {
 
     /* Box 0 never takes it over, so its own list is the result. A box that comes later from the same
      * mark does take it over. */
-    show("join 0 with what came back", silttongs_join(table, n, 0, back));
+    show("join 0 with what came back", silttongs_join(table, n, board, m, 0, back));
     uint8_t later = show("fork the mark", silttongs_fork(table, n, jury));
-    show("join with what came back", silttongs_join(table, n, later, back));
+    show("join with what came back", silttongs_join(table, n, board, m, later, back));
     list("list of the later box", later);
 
     /* A dropped mark gives 4, as a box that was handed in; its name is free again. */
@@ -87,7 +88,7 @@ int main(void) {
     show("mark the later box, JURY", mark(later, "JURY"));
 
     /* A single-main day has no marks. */
-    show("fresh, single-main", silttongs_fresh(table, n, 1));
+    show("fresh, single-main", silttongs_fresh(table, n, board, m, 1));
     show("mark box 0, JURY", mark(0, "JURY"));
     return 0;
 }

@@ -1,4 +1,4 @@
--- A bundle from what the checks of its first update find, and the whole call.
+-- A bundle from what the checks of its first update find.
 use Prim.Native.Nat.{ℕ, suc, _<_}
 use mathlib.Core.Bool.{Bool, true, false, cond, not}
 use mathlib.Core.Path.{_≡_, refl, sym, _∙_, ap, subst}
@@ -10,17 +10,15 @@ use Rattle.updates.specs.declared.kind.Kind.{Kind}
 use Rattle.updates.specs.declared.kind.KindCheck.{KindCheck}
 use Rattle.updates.specs.declared.kind.KindCheck.the-variants as kinds
 use Rattle.bundles.specs.declared.entry.Entry.{Entry}
-use Rattle.bundles.specs.Records.{entriesFrom, entriesIn, entryAt}
-use Rattle.bundles.specs.Packed.{bundleCheck}
-use Rattle.bundles.specs.declared.check.BundleCheck.the-variants.{Wrong}
-use Rattle.bundles.proofs.First.{Counted, some-of, uncounted}
+use Rattle.bundles.specs.Records.{entriesFrom, entryAt}
+use Rattle.bundles.proofs.First.{some-of}
 use Rattle.cells.specs.Decode.{cells}
 use Rattle.cells.specs.Checks.{isClient, givenOut, joined, isMark, openElsewhere, busyByOther, stale, logFull}
 use Rattle.sizes.specs.declared.numbers.Client.{Client}
 use Rattle.sizes.specs.declared.numbers.Revision.{Revision}
 use Rattle.table.specs.Halves.{low, cellsOf, isTable}
 use Rattle.table.specs.Answers.{afterTaken, refused}
-use Rattle.table.specs.Calls.{bundleOut, sentOut, settled, updateOut}
+use Rattle.table.specs.Calls.{sentOut, settled, updateOut}
 use Rattle.table.specs.Found.{onKind}
 use Rattle.table.proofs.Calls.{client-is, given-is}
 use Rattle.bundling.specs.Bundles.{Going}
@@ -98,16 +96,3 @@ module _ (t : List ℕ) (h : isTable t ≡ true) (c n : ℕ) (b : List ℕ) (m :
 
   pub bundle-sent : (x : Client) (y : Revision) (kind : Kind) → f ≡ update.Allowed x y kind → (es : List Entry) → settled t (sentOut t (x .0) (y .0) es) ≡ settled t (sentOut t c n es)
   bundle-sent x y kind g es = let s = subst (Settles t c n) g settles in ap (λ i. settled t (sentOut t i (y .0) es)) (s .1) ∙ ap (λ i. settled t (sentOut t c i es)) (s .2)
-
--- the whole call
-pub no-bundle : (t : List ℕ) → isTable t ≡ false → (c n : ℕ) (b : List ℕ) → refused t 1 ≡ bundleOut t c n b
-unfolding bundleOut
-no-bundle t h c n b = rw h
-
-pub wrong-bundle : (t : List ℕ) → isTable t ≡ true → (c n : ℕ) (b : List ℕ) → bundleCheck b ≡ Wrong → refused t 14 ≡ bundleOut t c n b
-unfolding bundleOut
-wrong-bundle t h c n b e = rw (h, uncounted b e)
-
-pub right-bundle : (t : List ℕ) → isTable t ≡ true → (c n : ℕ) (b : List ℕ) (m : ℕ) → Counted b m → settled t (sentOut t c n (entriesFrom b 0 m)) ≡ bundleOut t c n b
-unfolding bundleOut entriesIn
-right-bundle t h c n b m C = rw (h, C .right) (ap (λ k. settled t (sentOut t c n (entriesFrom b 0 k))) (C .count))

@@ -1,4 +1,5 @@
-// The call bundle (02, U4): updates of one client on one revision, then its yield. All that can refuse is known before the first write.
+// A bundle (02, U4) on bytes that are a table: updates of one client on one revision, then its yield. All that can refuse is known before the first write.
+// The call, with its board, stands above (crate announcing).
 ghost use mathlib.Core.Bool.{true};
 ghost use mathlib.Core.Path.{_≡_};
 ghost use Prim.Native.Nat.{_*_, _<_, _≤_};
@@ -10,11 +11,9 @@ ghost use Rattle.updating.specs.Checks.{updateCheck};
 ghost use Rattle.table.specs.Halves.{cellsOf, isTable, low};
 ghost use Rattle.table.specs.Out.{tableBytes};
 ghost use Rattle.table.specs.Answers.{left};
-ghost use Rattle.table.specs.Calls.{bundleOut, sentOut, settled};
+ghost use Rattle.table.specs.Calls.{sentOut, settled};
 ghost use Rattle.bundling.specs.Bundles.{Going, entered, enteredAll, entryCheck, fitCheck, fitCode, roomCheck, sentCheck};
 ghost use Rattle.bundling.specs.declared.bundle.FitCheck.the-variants as fit;
-use bundles::check::BundleCheck;
-use bundles::check::check_bundle;
 use bundles::entry::Entry;
 use bundles::record::entry_at;
 use checks::log::LogCheck;
@@ -25,8 +24,6 @@ use table::answer::Answer;
 use table::bib::BibCheck;
 use table::bib::check_bib;
 use table::counts;
-use table::sound;
-use table::sound::TableCheck;
 use updates::kind::KindCheck;
 use updates::kind::check_kind;
 use updating::update::UpdateCheck;
@@ -156,8 +153,8 @@ fn check_first(t: &[u8], client: u8, revision: u8, b: &[u8]) -> UpdateCheck
     check_update(t, client, revision, e.kind, e.bib)
 }
 
-// The call on bytes that are a table, and a bundle of n records. The first update has all its checks; the others go on from it.
-fn bundle_sound(t: &mut [u8], client: u8, revision: u8, b: &[u8], n: usize) -> Answer
+// The call on bytes that are a table, a bundle of n records, and a board of the right length. The first update has all its checks; the others go on from it.
+pub fn bundle_sound(t: &mut [u8], client: u8, revision: u8, b: &[u8], n: usize) -> Answer
     requires { ⌜ (isTable (now t) ≡ true) × (length (now t) ≡ tableBytes) × (inRange (low (now t)) ≡ true) × (12 * n ≤ length (now b)) × (0 < n) × (n ≤ 64) ⌝ }
     ensures { λ a. ⌜ left a (now (t .exit)) ≡ settled (now (t .entry)) (sentOut (now (t .entry)) client revision (entriesFrom (now (b .entry)) 0 n)) ⌝ }
 {
@@ -169,16 +166,4 @@ fn bundle_sound(t: &mut [u8], client: u8, revision: u8, b: &[u8], n: usize) -> A
         };
     };
     send(t, c, r, b, n)
-}
-
-pub fn bundle(t: &mut [u8], client: u8, revision: u8, records: &[u8]) -> Answer
-    ensures { λ a. ⌜ left a (now (t .exit)) ≡ bundleOut (now (t .entry)) client revision (now (records .entry)) ⌝ }
-{
-    let TableCheck::Sound = sound::check_table(t) else {
-        return Answer { code: 1, value: 0 };
-    };
-    let BundleCheck::Count(n) = check_bundle(records) else {
-        return Answer { code: 14, value: 0 };
-    };
-    bundle_sound(t, client, revision, records, n)
 }

@@ -1,2 +1,2 @@
 // Several updates of a client sent together, with the end of its transaction.
-pub mod bundle; // bundle.rt: the call bundle
+pub mod bundle; // bundle.rt: a bundle on a table

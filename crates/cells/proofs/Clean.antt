@@ -64,6 +64,7 @@ module _ (c : ℕ) (k k′ : Cells) (S : SameBut c k k′) (p : ℕ) (np : p ≡
     given = rw (S .given);
     name = new-name;
     single = S .single;
+    settled = S .settled;
   }
 
   clean-mark : (n : Name) → ShowsSame (markCells k p c n) (markCells k′ p c n)
@@ -85,6 +86,7 @@ module _ (c : ℕ) (k k′ : Cells) (S : SameBut c k k′) (p : ℕ) (np : p ≡
         given = f .given;
         name = λ r m. changed-alike (k .name) (k′ .name) c n n refl (S .name) r;
         single = f .single;
+        settled = f .settled;
       }
 
 pub starts-clean : StartsClean

@@ -7,8 +7,8 @@ use Rattle.lists.specs.Names.{Name, fourLetters}
 use Rattle.lists.specs.Sums.{anyBelow}
 use Rattle.lists.specs.Arranged.{insertBefore, remove, behind}
 use Rattle.cells.specs.Parts.{offset, size, rowsPart, lowPart, highPart, seenPart, caughtPart, statePart, usedPart, lastPart, firstPart, countPart}
-use Rattle.cells.specs.Parts.{basePart, layoutPart, queuePart, openedPart, countersPart, namesPart, singlePart, closedPart, startedPart, keptPart, signaturePart}
-use Rattle.cells.specs.Cells.{Cells, chain, freed, outs, flagged, nextNumber}
+use Rattle.cells.specs.Parts.{basePart, layoutPart, queuePart, openedPart, countersPart, namesPart, singlePart, settledPart, startedPart, keptPart, signaturePart}
+use Rattle.cells.specs.Cells.{Cells, brought, chain, freed, outs, flagged, nextNumber, settledOwn}
 use Rattle.cells.specs.Order.{order, picks}
 use Rattle.cells.specs.Checks.{isClient, givenOut, joined, offLine, openElsewhere, busy, busyByOther, stale, logFull, noneLeft, joinable}
 use Rattle.cells.specs.Checks.{isMark, bearerBelow, bearer, noSuchMark, badName}
@@ -97,6 +97,7 @@ made updates out given = record {
   given = given;
   name = λ r. [];
   single = false;
+  settled = 0;
 }
 
 -- 01: "Update 4,096 is taken, the next gives 9"; 02, U7: "Code 10 is given exactly if 64 boxes are out", whatever was given
@@ -168,6 +169,21 @@ drop-frees : outs marked ∷ outs dropped ∷ freed dropped ∷ [] ≡ (1 ∷ 0 
 unfolding dropped marked insertBefore remove oneFewer
 drop-frees = refl
 
+-- 02, U10: clients 0 and 3 were on revision 0: nothing of it is settled until a transaction there is closed, and then all; a close on
+-- another revision settles nothing; a join into another neither, and one into it settles its list and the joinee's, in their order
+settles :
+    settledOwn before ∷ settledOwn (closeCells before 1) ∷ settledOwn (closeCells before 3) ∷ settledOwn (joinCells before 1 2) ∷ settledOwn after ∷ []
+    ≡ [] ∷ [] ∷ (0 ∷ 3 ∷ []) ∷ [] ∷ (0 ∷ 3 ∷ 1 ∷ 4 ∷ 2 ∷ []) ∷ []
+unfolding before after chain counted
+settles = refl
+
+-- a close brings the whole transaction; what was settled before is not brought again
+brings :
+    brought before (closeCells before 3) ∷ brought (closeCells before 3) (joinCells (closeCells before 3) 0 3) ∷ brought after (updateCells after 3 0) ∷ []
+    ≡ (0 ∷ 3 ∷ []) ∷ (5 ∷ []) ∷ [] ∷ []
+unfolding before after chain counted
+brings = refl
+
 -- each entry once, in its order
 picked : picks 1 (λ u. true) (5 ∷ 6 ∷ []) ≡ 5 ∷ 6 ∷ []
 picked = refl
@@ -176,7 +192,7 @@ picked = refl
 offsets :
     offset rowsPart ∷ offset lowPart ∷ offset highPart ∷ offset seenPart ∷ offset caughtPart ∷ offset statePart ∷ offset usedPart ∷ offset lastPart
     ∷ offset firstPart ∷ offset countPart ∷ offset basePart ∷ offset layoutPart ∷ offset queuePart ∷ offset openedPart ∷ offset countersPart
-    ∷ offset namesPart ∷ offset singlePart ∷ offset closedPart ∷ offset startedPart ∷ offset keptPart ∷ offset signaturePart ∷ []
+    ∷ offset namesPart ∷ offset singlePart ∷ offset settledPart ∷ offset startedPart ∷ offset keptPart ∷ offset signaturePart ∷ []
     ≡ 0 ∷ 32256 ∷ 36352 ∷ 38400 ∷ 38912 ∷ 39040 ∷ 39104 ∷ 39168 ∷ 39296 ∷ 39424 ∷ 39552 ∷ 39680 ∷ 39744 ∷ 39808 ∷ 39824 ∷ 39828 ∷ 40084 ∷ 40085 ∷ 40087 ∷ 40089 ∷ 40952 ∷ []
 unfolding offset size
 offsets = refl

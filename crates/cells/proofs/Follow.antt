@@ -10,13 +10,13 @@ use borrow.Author.Tests.{eq-eqb, eqb-true, lt-ltb}
 use Rattle.lists.specs.Lists.{changed}
 use Rattle.lists.proofs.Cases.{cases}
 use Rattle.cells.specs.Sizes.{revisions, clients, updates, closed, stateJoined}
-use Rattle.cells.specs.Parts.{Parts, Sized, size, lowPart, highPart, seenPart, caughtPart, statePart, lastPart, firstPart, countPart, openedPart, countersPart}
-use Rattle.cells.specs.Words.{byte}
+use Rattle.cells.specs.Parts.{Parts, Sized, size, lowPart, highPart, seenPart, caughtPart, statePart, lastPart, firstPart, countPart, openedPart, countersPart, settledPart}
+use Rattle.cells.specs.Words.{byte, putWord, word}
 use Rattle.cells.specs.Flags.{flagIn, putRow}
 use Rattle.cells.specs.Cells.{Cells}
 use Rattle.cells.specs.Decode.{decode}
 use Rattle.lists.specs.Pool.{joinPool}
-use Rattle.cells.specs.CellSteps.{counted, oneFewer, onlyCaught, queryCells, updateCells, closeCells, joinCaught, mergeCells, dropCells, joinCells}
+use Rattle.cells.specs.CellSteps.{counted, oneFewer, onlyCaught, queryCells, updateCells, closeCells, closeSettled, joinCaught, joinCount, joinSettled, mergeCells, dropCells, joinCells}
 use Rattle.cells.specs.Steps.{queryParts, updateParts, closeParts, mergeParts, dropParts, joinParts}
 use Rattle.cells.proofs.Tables.{getD-changed}
 use Rattle.cells.proofs.Words.{word-put, byte-put-other, word-set-other, link-put}
@@ -59,7 +59,12 @@ module _ (p : Parts) (h : Sized p) (c r : ℕ) (cl : c < clients) (rl : r < revi
     given = decode p .given;
     name = decode p .name;
     single = decode p .single;
+    settled = decode p .settled;
   }
+
+  settled-put : (v : ℕ) → word (putWord (p settledPart) 0 v) 0 ≡ v
+  unfolding size
+  settled-put v = let s = h .of settledPart in word-put (p settledPart) 0 v 0 (omega arith)
 
   pub close-follows : decode (closeParts p c) ≡ closeCells (decode p) c
   close-follows = λ i. record {
@@ -81,6 +86,7 @@ module _ (p : Parts) (h : Sized p) (c r : ℕ) (cl : c < clients) (rl : r < revi
     given = decode p .given;
     name = decode p .name;
     single = decode p .single;
+    settled = settled-put (closeSettled (decode p) c) i;
   }
 
   module _ (ul : decode p .updates < updates) (ll : decode p .last r < updates) where
@@ -115,6 +121,7 @@ module _ (p : Parts) (h : Sized p) (c r : ℕ) (cl : c < clients) (rl : r < revi
           given = byte-put-other (p countersPart) 0 (suc u) 3 (omega arith) (omega arith) i;
           name = decode p .name;
           single = decode p .single;
+          settled = decode p .settled;
         }
 
 -- a column of flags changed, inside the rows
@@ -161,6 +168,7 @@ module _ (p : Parts) (h : Sized p) (r : ℕ) (rl : r < revisions) where
         given = getD-set-other (p countersPart) 2 3 out 0 (omega arith) i;
         name = decode p .name;
         single = decode p .single;
+        settled = decode p .settled;
       }
 
 module _ (p : Parts) (h : Sized p) (a b : ℕ) (al : a < revisions) (bl : b < revisions) (fl : decode p .first b < updates) (ll : decode p .last a < updates) where
@@ -200,12 +208,13 @@ module _ (p : Parts) (h : Sized p) (a b : ℕ) (al : a < revisions) (bl : b < re
   unfolding size
   merge-follows =
       let m = h .of countPart in
+      let n = h .of settledPart in
       λ i. record {
         state = decode p .state;
         used = decode p .used;
         last = fun-ext merge-last i;
         first = fun-ext merge-first i;
-        count = fun-ext (λ x. word-put (p countPart) a (counted (k .count a + k .count b)) x (omega arith)) i;
+        count = fun-ext (λ x. word-put (p countPart) a (joinCount k a b) x (omega arith)) i;
         base = decode p .base;
         row = decode p .row;
         link = fun-ext merge-link i;
@@ -219,6 +228,7 @@ module _ (p : Parts) (h : Sized p) (a b : ℕ) (al : a < revisions) (bl : b < re
         given = decode p .given;
         name = decode p .name;
         single = decode p .single;
+        settled = word-put (p settledPart) 0 (joinSettled k a b) 0 (omega arith) i;
       }
 
   pub join-follows : decode (joinParts p a b) ≡ joinCells k a b

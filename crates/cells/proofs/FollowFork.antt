@@ -98,6 +98,7 @@ module _ (p : Parts) (h : Sized p) (q c : ℕ) (ql : q < revisions) (cl : c < re
         given = getD-set-same two 3 (forkGiven k) 0 (rw length-set (omega arith)) i;
         name = k .name;
         single = k .single;
+        settled = k .settled;
       }
 
   -- 02, U9: a fork with a name
@@ -127,4 +128,5 @@ module _ (p : Parts) (h : Sized p) (q c : ℕ) (ql : q < revisions) (cl : c < re
         given = f .given;
         name = fun-ext (λ x. name-put (p namesPart) c n x (omega arith) l) i;
         single = f .single;
+        settled = f .settled;
       }

@@ -83,4 +83,5 @@ fresh-follows single = λ i. record {
   given = 1;
   name = fun-ext (zero-name (size namesPart)) i;
   single = choice single i;
+  settled = 0;
 }

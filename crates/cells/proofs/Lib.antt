@@ -20,3 +20,4 @@ pub mod Stays
 pub mod Decoded
 pub mod Clean
 pub mod Left
+pub mod Settled

@@ -15,7 +15,7 @@ use Rattle.lists.proofs.Replaced.{next-row}
 use Rattle.lists.proofs.Sums.{sum-both, sum-ends, sum-one}
 use Rattle.cells.specs.Sizes.{lowerBytes, revisions, clients, main, stateOut, stateJoined}
 use Rattle.cells.specs.Parts.{Parts, Sized, size, parts, inRow, glue, split, _⟨_≔_⟩}
-use Rattle.cells.specs.Parts.{rowsPart, lowPart, highPart, seenPart, caughtPart, statePart, usedPart, lastPart, firstPart, countPart, basePart, layoutPart, queuePart, countersPart}
+use Rattle.cells.specs.Parts.{rowsPart, lowPart, highPart, seenPart, caughtPart, statePart, usedPart, lastPart, firstPart, countPart, basePart, layoutPart, queuePart, countersPart, settledPart}
 use Rattle.cells.specs.Words.{Bytes, putWord, putHalf}
 use Rattle.cells.specs.Flags.{putRow, rowBytes}
 use Rattle.cells.specs.Decode.{decode}
@@ -29,7 +29,7 @@ use Rattle.cells.proofs.LightFlags.{fork-caught-light, fork-seen-light,
 
 -- at how many places the parts of a step differ from the former ones, at most. A byte that two steps write counts twice
 abbrev pub mergePlaces : ℕ
-mergePlaces = 32
+mergePlaces = 34
 
 abbrev pub dropPlaces : ℕ
 dropPlaces = 67
@@ -129,7 +129,8 @@ module _ {p : Parts} (h : Sized p) (f : FlagBytes p) where
   merge-light a b l =
       let q = mergeParts p a b in
       let count = word-light (splice-light p a b) countPart a _ in
-      let seen = light-with count seenPart (q seenPart) 8 (put-row (p seenPart) revisions a _ (h .of seenPart) l) in
+      let settled = word-light count settledPart 0 _ in
+      let seen = light-with settled seenPart (q seenPart) 8 (put-row (p seenPart) revisions a _ (h .of seenPart) l) in
       light-with seen caughtPart (q caughtPart) clients (join-caught-light clients (p caughtPart) (h .of caughtPart) (f .caught) a b)
 
   join-light : (a b : ℕ) → a < revisions → Light p (joinParts p a b) joinPlaces

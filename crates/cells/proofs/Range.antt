@@ -12,7 +12,7 @@ use Rattle.lists.proofs.Cases.{and-true, cases}
 use Rattle.cells.specs.Sizes.{revisions, clients, updates}
 use Rattle.cells.specs.Tables.{every}
 use Rattle.cells.specs.Parts.{Parts, parts, split, _⟨_≔_⟩, statePart, usedPart, lastPart, firstPart, countPart, basePart, layoutPart, queuePart, openedPart, countersPart}
-use Rattle.cells.specs.Parts.{singlePart, closedPart, signaturePart}
+use Rattle.cells.specs.Parts.{singlePart, settledPart, signaturePart}
 use Rattle.cells.specs.Words.{byte, word}
 use Rattle.cells.specs.Cells.{Cells, nextNumber}
 use Rattle.cells.specs.Decode.{decode, cells}
@@ -32,6 +32,7 @@ pub record Ranges (k : Cells) : Type 0 where
   pub most-out : k .out ≤ revisions
   pub some-given : 0 < k .given
   pub most-given : k .given ≤ revisions
+  pub settled : k .settled ≤ updates
 
 module _ (n limit : ℕ) (t : List ℕ) where
   byte-below : bytesBelow n limit t ≡ true → (i : ℕ) → i < n → byte t i < limit
@@ -91,7 +92,7 @@ parts-ranged p e =
     let h = and-true (queueIn (p queuePart)) (bytesBelow clients 65 (p openedPart)) (g .1) in
     let i = and-true (countersIn (p countersPart)) _ (both .1) in
     let j = and-true (bytesBelow 1 2 (p singlePart)) _ (i .1) in
-    let k = and-true (wordsBelow 1 4097 (p closedPart)) (signed (p signaturePart)) (j .1) in
+    let k = and-true (wordsBelow 1 4097 (p settledPart)) (signed (p signaturePart)) (j .1) in
     record {
       of = λ n. cases (ltb n parts)
           (λ q. every-at (λ m. partIn m (p m)) parts n (rw (a .0, b .0, c .0, d .0, f .0, f .1, g .0, h .0, h .1, i .0, j .0, k .0, k .1)) (ltb-true n parts q))
@@ -114,6 +115,7 @@ ranged-ranges p h =
       most-out = let z = c .2 in omega arith;
       some-given = c .3;
       most-given = let z = c .4 in omega arith;
+      settled = let z = word-below 1 4097 (p settledPart) (h .of settledPart) 0 (omega arith) in omega arith;
     }
 
 pub ranges : (d : List ℕ) → inRange d ≡ true → Ranges (cells d)
@@ -130,4 +132,4 @@ next-ranged k h =
 -- the other way: parts in their ranges pass the check
 pub ranged-in : (p : Parts) → Ranged p → partsIn p ≡ true
 unfolding partIn
-ranged-in p h = rw (h .of statePart, h .of usedPart, h .of lastPart, h .of firstPart, h .of countPart, h .of basePart, h .of layoutPart, h .of queuePart, h .of openedPart, h .of countersPart, h .of singlePart, h .of closedPart) (h .of signaturePart)
+ranged-in p h = rw (h .of statePart, h .of usedPart, h .of lastPart, h .of firstPart, h .of countPart, h .of basePart, h .of layoutPart, h .of queuePart, h .of openedPart, h .of countersPart, h .of singlePart, h .of settledPart) (h .of signaturePart)

@@ -12,13 +12,13 @@ use Rattle.lists.specs.Arranged.{insertBefore, remove}
 use Rattle.lists.specs.Names.{Name}
 use Rattle.cells.specs.Sizes.{revisions, clients, main, closed, stateOut, stateJoined, stateMarked}
 use Rattle.cells.specs.Parts.{Parts, Sized, size, _⟨_≔_⟩, rowsPart, lowPart, highPart, seenPart, caughtPart, statePart, usedPart, lastPart, firstPart}
-use Rattle.cells.specs.Parts.{countPart, basePart, layoutPart, queuePart, openedPart, countersPart, namesPart, singlePart, signaturePart}
+use Rattle.cells.specs.Parts.{countPart, basePart, layoutPart, queuePart, openedPart, countersPart, namesPart, singlePart, settledPart, signaturePart}
 use Rattle.cells.specs.Words.{putWord, putHalf, putName}
 use Rattle.cells.specs.Flags.{pack, putRow}
 use Rattle.cells.specs.Decode.{decode}
 use Rattle.cells.specs.Range.{signature}
 use Rattle.lists.specs.Pool.{forkPool, joinPool}
-use Rattle.cells.specs.CellSteps.{oneFewer, forkRow, forkCaught, forkGiven, forkQueue, spliced, joinCaught}
+use Rattle.cells.specs.CellSteps.{oneFewer, closeSettled, forkRow, forkCaught, forkGiven, forkQueue, spliced, joinCaught, joinCount, joinSettled}
 use Rattle.cells.specs.Steps.{freshParts, queryParts, linkParts, appendParts, updateParts, closeParts, putRowOf}
 use Rattle.cells.specs.Steps.{inheritParts, forkParts, markParts, spliceParts, mergeParts, dropParts, joinParts}
 use Rattle.cells.proofs.Parts.{sized-with}
@@ -81,7 +81,7 @@ pub update-sized : {p : Parts} → Sized p → (c r : ℕ) → c < clients → S
 update-sized h c r l = query-sized (append-sized h r) c r l
 
 pub close-sized : {p : Parts} → Sized p → (c : ℕ) → Sized (closeParts p c)
-close-sized h c = byte-sized h openedPart c closed
+close-sized {p} h c = word-sized (byte-sized h openedPart c closed) settledPart 0 (closeSettled (decode p) c)
 
 pub inherit-sized : {p : Parts} → Sized p → (q c : ℕ) → c < revisions → Sized (inheritParts p q c)
 inherit-sized {p} h q c l =
@@ -122,7 +122,7 @@ splice-sized {p} h a b =
 pub merge-sized : {p : Parts} → Sized p → (a b : ℕ) → a < revisions → Sized (mergeParts p a b)
 merge-sized {p} h a b l =
     let k = decode p in
-    let s = sized-with (splice-sized h a b) countPart _ (putWord-length (p countPart) a _ ∙ h .of countPart) in
+    let s = word-sized (word-sized (splice-sized h a b) countPart a (joinCount k a b)) settledPart 0 (joinSettled k a b) in
     caught-sized (seenRow-sized s a (joinPool (k .seen) a b a) l) (joinCaught (k .caught) a b)
 
 pub drop-sized : {p : Parts} → Sized p → (r : ℕ) → Sized (dropParts p r)

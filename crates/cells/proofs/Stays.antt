@@ -1,5 +1,5 @@
 -- A step leaves every cell in its range, of any bytes in range: also of those that no day made.
-use Prim.Native.Nat.{ℕ, suc, _+_, _-_, _*_, _/_, _%_, _<_}
+use Prim.Native.Nat.{ℕ, suc, _+_, _-_, _*_, _/_, _%_, _<_, _≤_}
 use mathlib.Core.Bool.{Bool, true, cond, not, _&&_, false}
 use mathlib.Core.Path.{_≡_, refl, sym, _∙_, ap}
 use mathlib.Core.Logic.{_⊎_, inl, inr}
@@ -18,7 +18,7 @@ use Rattle.lists.proofs.Places.{getD-in, insert-back, place, remove-back, rest-
 use Rattle.cells.specs.Sizes.{lowerBytes, revisions, clients, updates, main, closed, stateOut, stateJoined, stateMarked}
 use Rattle.cells.specs.Tables.{every}
 use Rattle.cells.specs.Parts.{Parts, Sized, glue, size, split, rowsPart, lowPart, highPart, seenPart, caughtPart, statePart, usedPart, lastPart, firstPart}
-use Rattle.cells.specs.Parts.{countPart, basePart, layoutPart, queuePart, openedPart, countersPart, namesPart}
+use Rattle.cells.specs.Parts.{countPart, basePart, layoutPart, queuePart, openedPart, countersPart, namesPart, settledPart}
 use Rattle.cells.specs.Words.{byte, word, putWord, putHalf, putName}
 use Rattle.cells.specs.Flags.{pack, putRow}
 use Rattle.cells.specs.Cells.{Cells}
@@ -26,7 +26,7 @@ use Rattle.cells.specs.Checks.{joinable}
 use Rattle.cells.specs.Decode.{decode, cells}
 use Rattle.cells.specs.Range.{countersIn, inRange, partsIn, signature, wordsBelow}
 use Rattle.lists.specs.Pool.{forkPool, joinPool}
-use Rattle.cells.specs.CellSteps.{counted, oneFewer, forkCaught, forkGiven, forkQueue, forkRow, joinCaught, spliced}
+use Rattle.cells.specs.CellSteps.{counted, oneFewer, closeSettled, forkCaught, forkGiven, forkQueue, forkRow, joinCaught, joinCount, joinSettled, spliced}
 use Rattle.cells.specs.Steps.{freshParts, queryParts, appendParts, updateParts, closeParts, putRowOf}
 use Rattle.cells.specs.Steps.{inheritParts, forkParts, markParts, spliceParts, mergeParts, dropParts, joinParts}
 use Rattle.cells.specs.Steps.{freshBytes, queryBytes, updateBytes, closeBytes, forkBytes, markBytes, joinBytes, dropBytes}
@@ -103,12 +103,18 @@ module _ {p : Parts} (s : Sized p) (h : Ranged p) where
   byte-ranged : (i n : ℕ) (f : ℕ → Bool) → size i ≡ n → ((t : List ℕ) → partIn i t ≡ every (λ j. f (byte t j)) n) → (j v : ℕ) → f v ≡ true → partIn i (set (p i) j v) ≡ true
   byte-ranged i n f z is j v passes = is (set (p i) j v) ∙ byte-set f n (p i) j v (s .of i ∙ z) passes (sym (is (p i)) ∙ h .of i)
 
-  word-ranged : (i limit : ℕ) → size i ≡ 128 → ((t : List ℕ) → partIn i t ≡ wordsBelow revisions limit t) → (r v : ℕ) → r < revisions → v < limit → partIn i (putWord (p i) r v) ≡ true
-  word-ranged i limit z is r v rl low = let l = s .of i in is (putWord (p i) r v) ∙ word-set limit revisions (p i) r v (omega arith) low (sym (is (p i)) ∙ h .of i)
+  word-ranged : (i n limit : ℕ) → size i ≡ 2 * n → ((t : List ℕ) → partIn i t ≡ wordsBelow n limit t) → (r v : ℕ) → r < n → v < limit → partIn i (putWord (p i) r v) ≡ true
+  word-ranged i n limit z is r v rl low = let l = s .of i in is (putWord (p i) r v) ∙ word-set limit n (p i) r v (omega arith) low (sym (is (p i)) ∙ h .of i)
+
+  settled-ranged : (v : ℕ) → v ≤ updates → partIn settledPart (putWord (p settledPart) 0 v) ≡ true
+  unfolding partIn size
+  settled-ranged v few = word-ranged settledPart 1 4097 refl (λ t. refl) 0 v (omega arith) (omega arith)
 
   pub close-ranged : (c : ℕ) → Ranged (closeParts p c)
   unfolding partIn size
-  close-ranged c = ranged-with h openedPart _ (byte-ranged openedPart clients (λ b. ltb b 65) refl (λ t. refl) c closed refl)
+  close-ranged c =
+      let a = ranged-with h openedPart _ (byte-ranged openedPart clients (λ b. ltb b 65) refl (λ t. refl) c closed refl) in
+      ranged-with a settledPart _ (settled-ranged (closeSettled k c) (cond-all (λ n. n ≤ updates) (eqb (k .opened c) main) (k .count main) (k .settled) (R .count main (omega arith)) (R .settled)))
 
   pub query-ranged : (c r : ℕ) → r < revisions → Ranged (queryParts p c r)
   unfolding partIn size
@@ -123,9 +129,9 @@ module _ {p : Parts} (s : Sized p) (h : Ranged p) where
       let first = cond-all (λ n. n < updates) (eqb (k .count r) 0) u (k .first r) ul (R .first r rl) in
       let few = counted-few (suc (k .count r)) in
       let a = ranged-with (ranged-with h lowPart (set (p lowPart) u (k .last r % 256)) refl) highPart (putHalf (p highPart) u (k .last r / 256)) refl in
-      let b = ranged-with a lastPart _ (word-ranged lastPart 4096 refl (λ t. refl) r u rl ul) in
-      let c = ranged-with b firstPart _ (word-ranged firstPart 4096 refl (λ t. refl) r _ rl first) in
-      let d = ranged-with c countPart _ (word-ranged countPart 4097 refl (λ t. refl) r (counted (suc (k .count r))) rl (omega arith)) in
+      let b = ranged-with a lastPart _ (word-ranged lastPart revisions 4096 refl (λ t. refl) r u rl ul) in
+      let c = ranged-with b firstPart _ (word-ranged firstPart revisions 4096 refl (λ t. refl) r _ rl first) in
+      let d = ranged-with c countPart _ (word-ranged countPart revisions 4097 refl (λ t. refl) r (counted (suc (k .count r))) rl (omega arith)) in
       ranged-with d countersPart _ (taken-set (p countersPart) (s .of countersPart) (h .of countersPart) (suc u) (omega arith))
 
   pub inherit-ranged : (q c : ℕ) → q < revisions → c < revisions → Ranged (inheritParts p q c)
@@ -136,8 +142,8 @@ module _ {p : Parts} (s : Sized p) (h : Ranged p) where
       let base = cond-all (λ n. n < 4097) (eqb q main) (k .count main) (k .base q) (omega arith) (omega arith) in
       let a = ranged-with h rowsPart (cond (eqb q main) (p rowsPart) (putRowOf (p rowsPart) c (forkRow k q))) refl in
       let b = ranged-with a usedPart _ (byte-ranged usedPart revisions (λ b. ltb b 2) refl (λ t. refl) c (cond (eqb q main) 0 1) (cond-all (λ n. ltb n 2 ≡ true) (eqb q main) 0 1 refl refl)) in
-      let d = ranged-with b basePart _ (word-ranged basePart 4097 refl (λ t. refl) c _ cl base) in
-      ranged-with d countPart _ (word-ranged countPart 4097 refl (λ t. refl) c 0 cl (omega arith))
+      let d = ranged-with b basePart _ (word-ranged basePart revisions 4097 refl (λ t. refl) c _ cl base) in
+      ranged-with d countPart _ (word-ranged countPart revisions 4097 refl (λ t. refl) c 0 cl (omega arith))
 
   fork-layout : (q c : ℕ) → c < revisions → partIn layoutPart (take revisions (insertBefore q c (p layoutPart))) ≡ true
   unfolding partIn size
@@ -184,8 +190,8 @@ module _ {p : Parts} (s : Sized p) (h : Ranged p) where
       let first = cond-all (λ n. n < updates) (eqb (k .count a) 0) (k .first b) (k .first a) (R .first b bl) (R .first a al) in
       let low = ranged-with h lowPart (spliced k b (p lowPart) (set (p lowPart) (k .first b) (k .last a % 256))) refl in
       let high = ranged-with low highPart (spliced k b (p highPart) (putHalf (p highPart) (k .first b) (k .last a / 256))) refl in
-      let last = ranged-with high lastPart _ (either-ranged lastPart _ (word-ranged lastPart 4096 refl (λ t. refl) a (k .last b) al (R .last b bl))) in
-      ranged-with last firstPart _ (either-ranged firstPart _ (word-ranged firstPart 4096 refl (λ t. refl) a _ al first))
+      let last = ranged-with high lastPart _ (either-ranged lastPart _ (word-ranged lastPart revisions 4096 refl (λ t. refl) a (k .last b) al (R .last b bl))) in
+      ranged-with last firstPart _ (either-ranged firstPart _ (word-ranged firstPart revisions 4096 refl (λ t. refl) a _ al first))
     where
       either-ranged : (i : ℕ) (t : List ℕ) → partIn i t ≡ true → partIn i (spliced k b (p i) t) ≡ true
       either-ranged i t e = cond-all (λ l. partIn i l ≡ true) (eqb (k .count b) 0) (p i) t (h .of i) e
@@ -194,8 +200,9 @@ module _ {p : Parts} (s : Sized p) (h : Ranged p) where
   unfolding partIn size
   merge-ranged a b al bl =
       let few = counted-few (k .count a + k .count b) in
-      let c = ranged-with (splice-ranged a b al bl) countPart _ (word-ranged countPart 4097 refl (λ t. refl) a (counted (k .count a + k .count b)) al (omega arith)) in
-      ranged-with (ranged-with c seenPart (putRow 8 (p seenPart) a (joinPool (k .seen) a b a)) refl) caughtPart (pack clients (joinCaught (k .caught) a b)) refl
+      let c = ranged-with (splice-ranged a b al bl) countPart _ (word-ranged countPart revisions 4097 refl (λ t. refl) a (joinCount k a b) al (omega arith)) in
+      let d = ranged-with c settledPart _ (settled-ranged (joinSettled k a b) (cond-all (λ n. n ≤ updates) (eqb a main) (joinCount k a b) (k .settled) few (R .settled))) in
+      ranged-with (ranged-with d seenPart (putRow 8 (p seenPart) a (joinPool (k .seen) a b a)) refl) caughtPart (pack clients (joinCaught (k .caught) a b)) refl
 
   drop-layout : (r : ℕ) → partIn layoutPart (take revisions (remove r (p layoutPart) ++ (0 ∷ []))) ≡ true
   unfolding partIn size

@@ -33,6 +33,7 @@ freshCells single = record {
   given = 1;
   name = λ r. 0 ∷ 0 ∷ 0 ∷ 0 ∷ [];
   single = single;
+  settled = 0;
 }
 
 -- after its event a client has caught up with that revision alone
@@ -60,6 +61,7 @@ queryCells k c r = record {
   given = k .given;
   name = k .name;
   single = k .single;
+  settled = k .settled;
 }
 
 -- a count stops at its range. On a day none would pass it: the log is full first
@@ -91,7 +93,12 @@ updateCells k c r = record {
   given = k .given;
   name = k .name;
   single = k .single;
+  settled = k .settled;
 }
+
+-- where c's transaction is on the main revision, a close leaves none open there: a revision is busy with one at most
+abbrev pub closeSettled : Cells → ℕ → ℕ
+closeSettled k c = cond (eqb (k .opened c) main) (k .count main) (k .settled)
 
 -- "Yield: the open transaction, if any, is closed."
 abbrev pub closeCells : Cells → ℕ → Cells
@@ -114,6 +121,7 @@ closeCells k c = record {
   given = k .given;
   name = k .name;
   single = k .single;
+  settled = closeSettled k c;
 }
 
 -- who has caught up with p has caught up with c
@@ -152,6 +160,7 @@ forkCells k p c = record {
   given = forkGiven k;
   name = k .name;
   single = k .single;
+  settled = k .settled;
 }
 
 -- 02, U9: "A mark forks an idle box .. and gives the new box a name"
@@ -177,6 +186,7 @@ markCells k p c n =
       given = f .given;
       name = changed (k .name) c n;
       single = f .single;
+      settled = f .settled;
     }
 
 -- where b has updates of its own they go to the end of a's list
@@ -186,6 +196,13 @@ spliced k b kept new = cond (eqb (k .count b) 0) kept new
 abbrev pub joinCaught : (ℕ → ℕ → Bool) → ℕ → ℕ → ℕ → ℕ → Bool
 joinCaught caught a b x = changed (caught x) a (caught x a || caught x b)
 
+abbrev pub joinCount : Cells → ℕ → ℕ → ℕ
+joinCount k a b = counted (k .count a + k .count b)
+
+-- a revision that joins, or is joined, is not busy
+abbrev pub joinSettled : Cells → ℕ → ℕ → ℕ
+joinSettled k a b = cond (eqb a main) (joinCount k a b) (k .settled)
+
 -- a gets b's own list, what b has seen, and who has caught up with b
 abbrev pub mergeCells : Cells → ℕ → ℕ → Cells
 mergeCells k a b = record {
@@ -193,7 +210,7 @@ mergeCells k a b = record {
   used = k .used;
   last = spliced k b (k .last) (changed (k .last) a (k .last b));
   first = spliced k b (k .first) (changed (k .first) a (cond (eqb (k .count a) 0) (k .first b) (k .first a)));
-  count = changed (k .count) a (counted (k .count a + k .count b));
+  count = changed (k .count) a (joinCount k a b);
   base = k .base;
   row = k .row;
   link = spliced k b (k .link) (changed (k .link) (k .first b) (k .last a));
@@ -207,6 +224,7 @@ mergeCells k a b = record {
   given = k .given;
   name = k .name;
   single = k .single;
+  settled = joinSettled k a b;
 }
 
 -- r's number goes to the end of the queue
@@ -234,6 +252,7 @@ dropCells k r = record {
   given = k .given;
   name = k .name;
   single = k .single;
+  settled = k .settled;
 }
 
 -- a joins b, which is handed in

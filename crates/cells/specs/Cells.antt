@@ -2,12 +2,14 @@
 -- The cells as functions of a revision, a client or an update: docs/CELLS.md, "What the cells mean".
 use Prim.Native.Nat.{ℕ, zero, suc, _-_}
 use mathlib.Core.Bool.{Bool, cond, _&&_}
+use mathlib.Core.Path.{_≡_}
+use mathlib.Core.Logic.{_⊎_}
 use mathlib.Core.List.{List, [], _∷_, _++_}
 use lib.Dec.{ltb}
-use lib.ListN.{take}
+use lib.ListN.{take, drop}
 use Rattle.lists.specs.Lists.{firstOf}
 use Rattle.lists.specs.Names.{Name}
-use Rattle.cells.specs.Sizes.{revisions}
+use Rattle.cells.specs.Sizes.{revisions, main}
 
 pub record Cells : Type 0 where
   -- 0 never given out, 1 out, 2 joined or dropped, 3 marked, and out
@@ -42,6 +44,8 @@ pub record Cells : Type 0 where
   pub name : ℕ → Name
   -- 02, U8: the choice given to fresh, a single-main day
   pub single : Bool
+  -- 02, U10: how many of the main revision's own updates, from the first, are of closed transactions
+  pub settled : ℕ
 
 -- n updates that end at `at`, along the links; the first one's link is not looked at
 unfoldable pub chain : (ℕ → ℕ) → ℕ → ℕ → List ℕ
@@ -51,6 +55,21 @@ chain link at (suc n) = chain link (link at) n ++ (at ∷ [])
 -- the revision's own updates: taken on it or joined into it
 abbrev pub own : Cells → ℕ → List ℕ
 own k r = chain (k .link) (k .last r) (k .count r)
+
+-- 02, U10: "It shows box 0 by closed transactions only": the main revision's own updates that are of closed transactions
+abbrev pub settledOwn : Cells → List ℕ
+settledOwn k = take (k .settled) (own k main)
+
+-- of these all but the first n, and so what a step brings there: what is settled after it, without as many as were before it
+abbrev pub settledSince : ℕ → Cells → List ℕ
+settledSince n k = drop n (settledOwn k)
+
+abbrev pub brought : Cells → Cells → List ℕ
+brought k k′ = settledSince (k .settled) k′
+
+-- a step settles all of the main revision's own updates, or none besides the n that were
+abbrev pub Settles : ℕ → Cells → Type 0
+Settles n k = (k .settled ≡ n) ⊎ (k .settled ≡ k .count main)
 
 -- the revisions that are out, right to left
 abbrev pub outs : Cells → List ℕ

@@ -61,10 +61,10 @@ namesPart = 15
 abbrev pub singlePart : ℕ
 singlePart = 16
 
--- 0 until a request uses them: closed, started
-abbrev pub closedPart : ℕ
-closedPart = 17
+abbrev pub settledPart : ℕ
+settledPart = 17
 
+-- 0 until a request uses it
 abbrev pub startedPart : ℕ
 startedPart = 18
 

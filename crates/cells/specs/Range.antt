@@ -7,7 +7,7 @@ use lib.Dec.{eqb, ltb}
 use Rattle.cells.specs.Sizes.{revisions, clients}
 use Rattle.cells.specs.Tables.{every}
 use Rattle.cells.specs.Parts.{Parts, split, statePart, usedPart, lastPart, firstPart, countPart, basePart, layoutPart}
-use Rattle.cells.specs.Parts.{queuePart, openedPart, countersPart, singlePart, closedPart, signaturePart}
+use Rattle.cells.specs.Parts.{queuePart, openedPart, countersPart, singlePart, settledPart, signaturePart}
 use Rattle.cells.specs.Words.{byte, word}
 
 -- n bytes, or words, each below a limit
@@ -44,9 +44,9 @@ queueIn t = every (λ i. ltb 0 (byte t i) && ltb (byte t i) 64) revisions
 abbrev pub placesIn : Parts → Bool
 placesIn p = bytesBelow revisions 64 (p layoutPart) && (queueIn (p queuePart) && bytesBelow clients 65 (p openedPart))
 
--- cells that are one for the whole table: counters, single 0 to 1, closed 0 to 4,096, and the signature
+-- cells that are one for the whole table: counters, single 0 to 1, settled 0 to 4,096, and the signature
 abbrev pub singlesIn : Parts → Bool
-singlesIn p = countersIn (p countersPart) && (bytesBelow 1 2 (p singlePart) && (wordsBelow 1 4097 (p closedPart) && signed (p signaturePart)))
+singlesIn p = countersIn (p countersPart) && (bytesBelow 1 2 (p singlePart) && (wordsBelow 1 4097 (p settledPart) && signed (p signaturePart)))
 
 abbrev pub partsIn : Parts → Bool
 partsIn p = recordsIn p && (placesIn p && singlesIn p)

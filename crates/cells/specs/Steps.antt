@@ -9,13 +9,13 @@ use Rattle.lists.specs.Arranged.{insertBefore, remove}
 use Rattle.lists.specs.Names.{Name}
 use Rattle.cells.specs.Sizes.{revisions, clients, main, closed, stateOut, stateJoined, stateMarked}
 use Rattle.cells.specs.Parts.{Parts, split, glue, size, _⟨_≔_⟩, rowsPart, lowPart, highPart, seenPart, caughtPart, statePart, usedPart, lastPart, firstPart}
-use Rattle.cells.specs.Parts.{countPart, basePart, layoutPart, queuePart, openedPart, countersPart, namesPart, singlePart, signaturePart}
+use Rattle.cells.specs.Parts.{countPart, basePart, layoutPart, queuePart, openedPart, countersPart, namesPart, singlePart, settledPart, signaturePart}
 use Rattle.cells.specs.Words.{putWord, putHalf, putName}
 use Rattle.cells.specs.Flags.{pack, putRow}
 use Rattle.cells.specs.Decode.{decode}
 use Rattle.cells.specs.Range.{signature}
 use Rattle.lists.specs.Pool.{forkPool, joinPool}
-use Rattle.cells.specs.CellSteps.{counted, oneFewer, forkCaught, forkRow, forkGiven, forkQueue, spliced, joinCaught, dropQueue}
+use Rattle.cells.specs.CellSteps.{counted, oneFewer, closeSettled, forkCaught, forkRow, forkGiven, forkQueue, spliced, joinCaught, joinCount, joinSettled, dropQueue}
 
 -- all bytes 0 but these
 abbrev pub freshParts : Bool → Parts
@@ -57,7 +57,10 @@ abbrev pub updateParts : Parts → ℕ → ℕ → Parts
 updateParts p c r = queryParts (appendParts p r) c r
 
 abbrev pub closeParts : Parts → ℕ → Parts
-closeParts p c = p ⟨ openedPart ≔ set (p openedPart) c closed ⟩
+closeParts p c =
+    p
+    ⟨ openedPart ≔ set (p openedPart) c closed ⟩
+    ⟨ settledPart ≔ putWord (p settledPart) 0 (closeSettled (decode p) c) ⟩
 
 -- the row of revision r, which is 1 or more
 abbrev pub putRowOf : List ℕ → ℕ → (ℕ → Bool) → List ℕ
@@ -108,7 +111,8 @@ abbrev pub mergeParts : Parts → ℕ → ℕ → Parts
 mergeParts p a b =
     let k = decode p in
     spliceParts p a b
-    ⟨ countPart ≔ putWord (p countPart) a (counted (k .count a + k .count b)) ⟩
+    ⟨ countPart ≔ putWord (p countPart) a (joinCount k a b) ⟩
+    ⟨ settledPart ≔ putWord (p settledPart) 0 (joinSettled k a b) ⟩
     ⟨ seenPart ≔ putRow 8 (p seenPart) a (joinPool (k .seen) a b a) ⟩
     ⟨ caughtPart ≔ pack clients (joinCaught (k .caught) a b) ⟩
 

@@ -9,13 +9,13 @@ ghost use Rattle.cells.specs.Parts.{countersPart, queuePart, signaturePart, spl
 ghost use Rattle.cells.specs.Range.{bytesBelow, countersIn, inRange, placesIn, queueIn, recordsIn, signed, singlesIn, wordsBelow};
 ghost use Rattle.checks.specs.Answers.{rangeCheck};
 use fields::parts::BASE;
-use fields::parts::CLOSED_UPDATES;
 use fields::parts::COUNT;
 use fields::parts::FIRST;
 use fields::parts::LAST;
 use fields::parts::LAYOUT;
 use fields::parts::OPENED;
 use fields::parts::QUEUE;
+use fields::parts::SETTLED;
 use fields::parts::SIGNATURE;
 use fields::parts::SINGLE;
 use fields::parts::STATE;
@@ -131,15 +131,15 @@ fn places_in(d: &[u8]) -> bool
     layout & (queue & opened)
 }
 
-// The cells that are one for the whole table: counters, single, closed updates and signature.
+// The cells that are one for the whole table: counters, single, settled and signature.
 fn singles_in(d: &[u8]) -> bool
     requires { ⌜ length (now d) ≡ lowerBytes ⌝ }
     ensures { λ r. ⌜ r ≡ singlesIn (split (now (d .entry))) ⌝ }
 {
     let counters = counters_in(d);
     let single = bytes_below(d, SINGLE, 1, Table::SINGLE_LIMIT as u8);
-    let closed = words_below(d, CLOSED_UPDATES, 1, Table::UPDATES_LIMIT as u16);
-    counters & (single & (closed & is_signed(d)))
+    let settled = words_below(d, SETTLED, 1, Table::UPDATES_LIMIT as u16);
+    counters & (single & (settled & is_signed(d)))
 }
 
 fn in_range(d: &[u8]) -> bool

@@ -1,22 +1,25 @@
--- Demand 3 of the table: the agreement, and the line-up of the plain day. The starred edges at a table.
+-- Demand 3 of the table: the agreement, the line-up of the plain day, and boards that stay right. The starred edges at a table.
 use Prim.Native.Nat.{ℕ}
 use mathlib.Core.Bool.{Bool, true, false}
 use mathlib.Core.Path.{_≡_, refl, sym, _∙_, ap, subst}
 use mathlib.Core.List.{List, [], _∷_}
 use lib.ListN.{length, length-replicate, replicate}
+use Rattle.boards.specs.Board.{boardBytes}
 use Rattle.desk.specs.Calls.{Call, Update, Query, Yield, Fork, Join, Sync, Mark, Drop, Bundle, Looks, Show, Fill, Preview, Verify, answerOn, callOn, callsOn}
 use Rattle.plain.specs.Record.{PlainDay, freshDay}
-use Rattle.plain.specs.Answers.{called, answers, answersFrom}
+use Rattle.plain.specs.Answers.{called, answers, answersFrom, dayAfter}
 use Rattle.plain.specs.Edges as Edges
 use Rattle.plain.specs.Edges.{Edge, computed}
-use Rattle.plain.proofs.Edges.{edges-hold, codes-hold, reused-hold, marks-hold, on-line-hold, orders-hold}
+use Rattle.plain.proofs.Edges.{edges-hold, codes-hold, reused-hold, marks-hold, on-line-hold, orders-hold, boards-hold}
 use Rattle.plain.proofs.LineUp.{lined-up}
 use Rattle.plain.proofs.Steps.{never-one}
 use Rattle.table.specs.Out.{tableBytes}
-use Rattle.consistency.specs.Table.{calls, replies}
+use Rattle.table.specs.Calls.{freshOut}
+use Rattle.consistency.specs.Table.{calls, replies, tableAfter}
 use Rattle.consistency.specs.Demand.{NeverOne, DemandThree}
 use Rattle.consistency.specs.Edges.{computedOn, EdgesHold}
-use Rattle.consistency.proofs.Table.Follows.{table-follows}
+use Rattle.consistency.proofs.Table.Follows.{fresh-stands, stands-after, table-follows}
+use Rattle.consistency.proofs.Boards.{keeps-board}
 
 never-from : (qs : List (Call (List ℕ))) (p : PlainDay) → NeverOne (replies qs (answersFrom p (calls qs)))
 unfolding NeverOne replies answersFrom
@@ -24,7 +27,7 @@ never-from [] p = tt
 never-from (q ∷ qs) p = (never-one p (callOn length q), never-from qs (called p (callOn length q) .next))
 
 pub demand-three : DemandThree
-unfolding answers
+unfolding answers dayAfter
 demand-three t h single qs =
     let f = table-follows t h single in
     record {
@@ -33,22 +36,23 @@ demand-three t h single qs =
       agreement = f .2 qs;
       sound = subst NeverOne (sym (f .2 qs)) (never-from qs (freshDay single));
       line-up = lined-up single (calls qs);
+      boards = λ before rest q place board. keeps-board (dayAfter single (calls before)) (tableAfter (freshOut t single boardBytes .lent) before) (stands-after before (freshDay single) (freshOut t single boardBytes .lent) (fresh-stands t h single)) board q;
     }
 
--- a call asked with a sheet of zeros is the call
+-- a call asked with a sheet or a board of zeros is the call
 abbrev zeros : ℕ → List ℕ
 zeros room = replicate room 0
 
 same-call : (c : Call ℕ) → callOn length (callOn zeros c) ≡ c
 same-call (Update c n k bib v) = refl
 same-call (Query c n bib) = refl
-same-call (Yield c) = refl
+same-call (Yield c room) = ap (Yield c) (length-replicate {A = ℕ} room 0)
 same-call (Fork n) = refl
-same-call (Join n m) = refl
-same-call (Sync m) = refl
+same-call (Join n m room) = ap (Join n m) (length-replicate {A = ℕ} room 0)
+same-call (Sync m room) = ap (Sync m) (length-replicate {A = ℕ} room 0)
 same-call (Mark n name) = refl
 same-call (Drop name) = refl
-same-call (Bundle c n batch) = refl
+same-call (Bundle c n batch room) = ap (Bundle c n batch) (length-replicate {A = ℕ} room 0)
 same-call (Looks (Show n room)) = ap (λ l. Looks (Show n l)) (length-replicate {A = ℕ} room 0)
 same-call (Looks (Fill n)) = refl
 same-call (Looks (Preview n m bib)) = refl
@@ -80,4 +84,5 @@ edges-at-table t h = (
   same-computed t h false Edges.marks ∙ marks-hold,
   same-computed t h true Edges.onLine ∙ on-line-hold,
   same-computed t h false Edges.orders ∙ orders-hold,
+  same-computed t h false Edges.boards ∙ boards-hold,
 )

@@ -7,6 +7,7 @@ use lib.ListN.{length}
 use Rattle.diagram.specs.Sizes.{revisionLimit}
 use Rattle.lists.proofs.Sums.{sum-ends, sum-same}
 use Rattle.cells.specs.Sizes.{revisions}
+use Rattle.boards.specs.Board.{boardBytes}
 use Rattle.desk.specs.Calls.{Call, Looks, Fill, callOn}
 use Rattle.plain.specs.Record.{PlainDay, freshDay}
 use Rattle.plain.specs.Answers.{called, dayAfter, answers, answersFrom}
@@ -30,24 +31,24 @@ same-codes (q ∷ qs) p = ap (λ codes. called p (callOn length q) .answer .code
 
 module _ (t : List ℕ) (h : length t ≡ tableBytes) (single : Bool) (qs : List (Call (List ℕ))) where
   left : List ℕ
-  left = tableAfter (freshOut t single .lent) qs
+  left = tableAfter (freshOut t single boardBytes .lent) qs
 
   p : PlainDay
   p = dayAfter single (calls qs)
 
   S : Stands p left
   unfolding left p dayAfter
-  S = stands-after qs (freshDay single) (freshOut t single .lent) (fresh-stands t h single)
+  S = stands-after qs (freshDay single) (freshOut t single boardBytes .lent) (fresh-stands t h single)
 
   few : p .day .numbering .given ≤ revisions
   unfolding p revisionLimit
   few = named single (calls qs) .few
 
-  history : acceptedUpdates qs (repliesOn (freshOut t single .lent) qs) ≡ acceptedIn (calls qs) (codesOf (answers single (calls qs)))
+  history : acceptedUpdates qs (repliesOn (freshOut t single boardBytes .lent) qs) ≡ acceptedIn (calls qs) (codesOf (answers single (calls qs)))
   unfolding answers
   history = ap (acceptedUpdates qs) (table-follows t h single .2 qs) ∙ ap (acceptedIn (calls qs)) (same-codes qs (freshDay single))
 
-  summed : fillSum left ≡ acceptedUpdates qs (repliesOn (freshOut t single .lent) qs)
+  summed : fillSum left ≡ acceptedUpdates qs (repliesOn (freshOut t single boardBytes .lent) qs)
   unfolding p
   summed =
       sum-same revisions _ (λ n. called p (Looks (Fill n)) .answer .value) (λ n l. ap (λ r. r .value) (fill-same p left S n .reply))
@@ -55,7 +56,7 @@ module _ (t : List ℕ) (h : length t ≡ tableBytes) (single : Bool) (qs : List
       ∙ Plain.fills-add-up single (calls qs) .sum
       ∙ sym history
 
-  told : (n : ℕ) → fillOut left n .code ≡ 0 → fillOut left n .total ≡ acceptedUpdates qs (repliesOn (freshOut t single .lent) qs)
+  told : (n : ℕ) → fillOut left n .code ≡ 0 → fillOut left n .total ≡ acceptedUpdates qs (repliesOn (freshOut t single boardBytes .lent) qs)
   unfolding p
   told n e = let f = fill-same p left S n .reply in ap (λ r. r .total) f ∙ Plain.fills-add-up single (calls qs) .total n (sym (ap (λ r. r .code) f) ∙ e) ∙ sym history
 

@@ -12,6 +12,7 @@ use Rattle.orderfile.proofs.Numbers.{written-bytes}
 use Rattle.cells.specs.Sizes.{revisions, updates}
 use Rattle.cells.specs.Order.{order}
 use Rattle.cells.proofs.Range.{ranges}
+use Rattle.boards.specs.Board.{boardBytes}
 use Rattle.desk.specs.Calls.{Call, Looks, Verify, answerOn}
 use Rattle.desk.proofs.Checks.{took}
 use Rattle.diagram.specs.Arbitration.{Explains}
@@ -43,14 +44,14 @@ verdicts-fit t file e =
 
 module _ (t : List ℕ) (h : length t ≡ tableBytes) (single : Bool) (qs : List (Call (List ℕ))) where
   abbrev left : List ℕ
-  left = tableAfter (freshOut t single .lent) qs
+  left = tableAfter (freshOut t single boardBytes .lent) qs
 
   abbrev p : PlainDay
   p = dayAfter single (calls qs)
 
   S : Stands p left
   unfolding dayAfter
-  S = stands-after qs (freshDay single) (freshOut t single .lent) (fresh-stands t h single)
+  S = stands-after qs (freshDay single) (freshOut t single boardBytes .lent) (fresh-stands t h single)
 
   -- 4,096 at most
   few : p .day .updates ≤ updates

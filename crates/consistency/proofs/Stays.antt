@@ -12,6 +12,7 @@ use Rattle.lists.proofs.Cases.{and-true, cases}
 use Rattle.lists.specs.Names.{Name}
 use Rattle.bundles.specs.declared.entry.Entry.{Entry}
 use Rattle.updates.specs.Kinds.{kindOf}
+use Rattle.boards.specs.Board.{boardBytes}
 use Rattle.desk.specs.Calls.{Call, Update, Query, Yield, Fork, Join, Sync, Mark, Drop, Bundle, Looks, Show, Fill, Preview, Verify, Batch, Records, Entries, entriesOf}
 use Rattle.desk.specs.Checks.{checks, settle}
 use Rattle.desk.proofs.Checks.{Ends, Passed, _also_, ends, no, no-table-first, yes}
@@ -100,8 +101,8 @@ module _ (t : List ℕ) (h : isTable t ≡ true) where
       let found = bearer-number (cellsOf t) name e18 in
       table-of (dropBytes (low t) (bearer (cellsOf t) name)) (high t) (drop-stays (low t) L (bearer (cellsOf t) name) (found .0) (found .1)) upper
 
-  join-end : (n m : ℕ) → Passed (checks (asked t) (Join n m)) → isTable (joinBytes (low t) n m ++ high t) ≡ true
-  join-end n m P = let J = joins t n m P in table-of (joinBytes (low t) n m) (high t) (join-stays (low t) L n m (J .joiner) (J .joinee) (J .some)) upper
+  join-end : (n m room : ℕ) → Passed (checks (asked t) (Join n m room)) → isTable (joinBytes (low t) n m ++ high t) ≡ true
+  join-end n m room P = let J = joins t n m room P in table-of (joinBytes (low t) n m) (high t) (join-stays (low t) L n m (J .joiner) (J .joinee) (J .some)) upper
 
   yield-end : (c : ℕ) → isTable (closeBytes (low t) c ++ high t) ≡ true
   yield-end c = table-of (closeBytes (low t) c) (high t) (close-stays (low t) L c) upper
@@ -111,9 +112,9 @@ update-leaves : (t : List ℕ) (c n k bib v : ℕ) → LeavesTable t (Update c n
 unfolding updateOut
 update-leaves t c n k bib v = record { stays = λ h. out-stays t h (Update c n k bib v) _ (update-end t h c n k bib v); one = out-one t t (Update c n k bib v) _ (λ h P e. omega arith) }
 
-yield-leaves : (t : List ℕ) (c : ℕ) → LeavesTable t (Yield c)
+yield-leaves : (t : List ℕ) (c room : ℕ) → (isTable t ≡ true → isTable (yieldOut t c room .lent) ≡ true) × ((yieldOut t c room .code ≡ 1) ↔ (isTable t ≡ false))
 unfolding yieldOut
-yield-leaves t c = record { stays = λ h. out-stays t h (Yield c) _ (λ P. yield-end t h c); one = out-one t t (Yield c) _ (λ h P e. omega arith) }
+yield-leaves t c room = (λ h. out-stays t h (Yield c room) _ (λ P. yield-end t h c), out-one t t (Yield c room) _ (λ h P e. omega arith))
 
 abbrev Kept : Out → Type 0
 Kept o = (isTable (o .lent) ≡ true) × (o .code ≡ 1 → ⊥)
@@ -123,7 +124,7 @@ kept t h q K = (K .stays h, λ e. true≢false (sym h ∙ K .one .0 e))
 
 sent-kept : (es : List Entry) (t : List ℕ) → isTable t ≡ true → (c n : ℕ) → Kept (sentOut t c n es)
 unfolding sentOut
-sent-kept [] t h c n = kept t h (Yield c) (yield-leaves t c)
+sent-kept [] t h c n = let K = yield-leaves t c boardBytes in (K .0 h, λ e. true≢false (sym h ∙ K .1 .0 e))
 sent-kept (e ∷ es) t h c n = goes-on (updateOut t c n (e .kind) (e .bib) (e .v)) (kept t h _ (update-leaves t c n (e .kind) (e .bib) (e .v))) (λ i. sent-kept es _ i c n)
   where
     goes-on : (o : Out) → Kept o → (isTable (o .lent) ≡ true → Kept (sentOut (o .lent) c n es)) → Kept (afterTaken o (λ d. sentOut d c n es))
@@ -135,19 +136,19 @@ settled-kept t h c n es = by (sentOut t c n es) (sent-kept es t h c n)
     by : (o : Out) → Kept o → Kept (settled t o)
     by o K = cases (eqb (o .code) 0) (λ q. rw q (K .0, λ e. omega arith)) (λ q. rw q (h, K .1))
 
-batch-stays : (t : List ℕ) → isTable t ≡ true → (c n : ℕ) (batch : Batch) → isTable (batchOut t c n batch .lent) ≡ true
-batch-stays t h c n batch = out-stays t h (Bundle c n batch) _ (λ P. settled-kept t h c n (entriesOf batch) .0)
+batch-stays : (t : List ℕ) → isTable t ≡ true → (c n : ℕ) (batch : Batch) (room : ℕ) → isTable (batchOut t c n batch room .lent) ≡ true
+batch-stays t h c n batch room = out-stays t h (Bundle c n batch room) _ (λ P. settled-kept t h c n (entriesOf batch) .0)
 
-batch-one : (t : List ℕ) (c n : ℕ) (batch : Batch) → (batchOut t c n batch .code ≡ 1) ↔ (isTable t ≡ false)
-batch-one t c n batch = out-one t t (Bundle c n batch) _ (λ h P. settled-kept t h c n (entriesOf batch) .1)
+batch-one : (t : List ℕ) (c n : ℕ) (batch : Batch) (room : ℕ) → (batchOut t c n batch room .code ≡ 1) ↔ (isTable t ≡ false)
+batch-one t c n batch room = out-one t t (Bundle c n batch room) _ (λ h P. settled-kept t h c n (entriesOf batch) .1)
 
 -- a sync's join leaves a table to its fork
 fork-leaves : (t : List ℕ) (n : ℕ) → LeavesTable t (Fork n)
 unfolding forkOut
 fork-leaves t n = record { stays = λ h. out-stays t h (Fork n) _ (fork-end t h n); one = out-one t t (Fork n) _ (λ h P e. omega arith) }
 
-sync-kept : (t : List ℕ) → isTable t ≡ true → (m : ℕ) → Passed (checks (asked t) (Sync m)) → Kept (asOne t (forkOut (joinEnd t 0 m .lent) 0))
-sync-kept t h m P = by _ (kept _ (join-end t h 0 m P) (Fork 0) (fork-leaves _ 0))
+sync-kept : (t : List ℕ) → isTable t ≡ true → (m room : ℕ) → Passed (checks (asked t) (Sync m room)) → Kept (asOne t (forkOut (joinEnd t 0 m .lent) 0))
+sync-kept t h m room P = by _ (kept _ (join-end t h 0 m room P) (Fork 0) (fork-leaves _ 0))
   where
     by : (o : Out) → Kept o → Kept (asOne t o)
     by o K = cases (eqb (o .code) 0) (λ q. rw q K) (λ q. rw q (h, K .1))
@@ -156,14 +157,18 @@ pub stays-table : StaysTable
 unfolding queryOut joinOut syncOut markOut dropOut listOut fillOut bundleOut entriesOut previewOut verifyOut
 stays-table t (Update c n k bib v) = update-leaves t c n k bib v
 stays-table t (Query c n bib) = record { stays = λ h. out-stays t h (Query c n bib) _ (query-end t h c n bib); one = out-one t t (Query c n bib) _ (λ h P e. omega arith) }
-stays-table t (Yield c) = yield-leaves t c
+stays-table t (Yield c board) = let K = yield-leaves t c (length board) in record { stays = K .0; one = K .1 }
 stays-table t (Fork n) = fork-leaves t n
-stays-table t (Join n m) = record { stays = λ h. out-stays t h (Join n m) _ (join-end t h n m); one = out-one t t (Join n m) _ (λ h P e. omega arith) }
-stays-table t (Sync m) = record { stays = λ h. out-stays t h (Sync m) _ (λ P. sync-kept t h m P .0); one = out-one t t (Sync m) _ (λ h P. sync-kept t h m P .1) }
+stays-table t (Join n m board) =
+    let room = length board in
+    record { stays = λ h. out-stays t h (Join n m room) _ (join-end t h n m room); one = out-one t t (Join n m room) _ (λ h P e. omega arith) }
+stays-table t (Sync m board) =
+    let room = length board in
+    record { stays = λ h. out-stays t h (Sync m room) _ (λ P. sync-kept t h m room P .0); one = out-one t t (Sync m room) _ (λ h P. sync-kept t h m room P .1) }
 stays-table t (Mark n name) = record { stays = λ h. out-stays t h (Mark n name) _ (mark-end t h n name); one = out-one t t (Mark n name) _ (λ h P e. omega arith) }
 stays-table t (Drop name) = record { stays = λ h. out-stays t h (Drop name) _ (drop-end t h name); one = out-one t t (Drop name) _ (λ h P e. omega arith) }
-stays-table t (Bundle c n (Records bytes)) = record { stays = λ h. batch-stays t h c n (Records bytes); one = batch-one t c n (Records bytes) }
-stays-table t (Bundle c n (Entries es)) = record { stays = λ h. batch-stays t h c n (Entries es); one = batch-one t c n (Entries es) }
+stays-table t (Bundle c n (Records bytes) board) = record { stays = λ h. batch-stays t h c n (Records bytes) (length board); one = batch-one t c n (Records bytes) (length board) }
+stays-table t (Bundle c n (Entries es) board) = record { stays = λ h. batch-stays t h c n (Entries es) (length board); one = batch-one t c n (Entries es) (length board) }
 stays-table t (Looks (Show n s)) = record { stays = λ h. h; one = out-one t s (Looks (Show n (length s))) _ (λ h P e. omega arith) }
 stays-table t (Looks (Fill n)) = record { stays = λ h. h; one = one-exactly (λ (f : Level). f .code) noFill (λ k. refl) t (Looks (Fill n)) _ (λ h P e. omega arith) }
 stays-table t (Looks (Preview n m bib)) = record { stays = λ h. h; one = one-exactly (λ (f : Prospect). f .code) noProspect (λ k. refl) t (Looks (Preview n m bib)) _ (λ h P e. omega arith) }

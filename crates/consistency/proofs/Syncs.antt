@@ -9,6 +9,7 @@ use lib.Dec.{eqb}
 use lib.ListN.{length}
 use borrow.Author.Tests.{eqb-false}
 use Rattle.lists.proofs.Cases.{cases}
+use Rattle.boards.specs.Board.{boardBytes, isWrongBoard}
 use Rattle.desk.specs.Calls.{Call, Join, Looks, Preview, Sync}
 use Rattle.desk.specs.Checks.{_if_}
 use Rattle.desk.proofs.Checks.{code-exactly, goes-on, took}
@@ -33,9 +34,9 @@ one-is t o z = cases (eqb (o .code) 0) (λ q. rw q) (λ q. absurd (eqb-false _ 0
 
 pub syncs-are-both : SyncsAreBoth
 unfolding syncOut joinOut
-syncs-are-both t m e =
-    let w = took (λ (o : Out). o .code) (refused t) (λ k. refl) (asked t) (Sync m) (asOne t (forkOut (joinEnd t 0 m .lent) 0)) e in
-    let j : joinOut t 0 m ≡ joinEnd t 0 m = goes-on (refused t) (joinEnd t 0 m) _ (w .passed) in
+syncs-are-both t m room e =
+    let w = took (λ (o : Out). o .code) (refused t) (λ k. refl) (asked t) (Sync m room) (asOne t (forkOut (joinEnd t 0 m .lent) 0)) e in
+    let j : joinOut t 0 m room ≡ joinEnd t 0 m = goes-on (refused t) (joinEnd t 0 m) _ (w .passed) in
     (ap (λ (o : Out). o .code) j, w .is ∙ one-is t (forkOut (joinEnd t 0 m .lent) 0) (rw (w .is) at e) ∙ ap (λ (o : Out). forkOut (o .lent) 0) (sym j))
 
 -- box 0 is on the line
@@ -55,29 +56,29 @@ one-code t o = cases (eqb (o .code) 0) (λ q. rw q) (λ q. rw q)
 
 pub never-off-line : NeverOffLine
 unfolding syncOut
-never-off-line t m e =
+never-off-line t m room e =
     let q = asked t in
     let d = joinEnd t 0 m .lent in
-    let first = 1 if q .noTable ∷ 3 if (q .never 0 || q .never m) ∷ 4 if (q .joined 0 || q .joined m) ∷ [] in
+    let first = 1 if q .noTable ∷ 19 if isWrongBoard room ∷ 3 if (q .never 0 || q .never m) ∷ 4 if (q .joined 0 || q .joined m) ∷ [] in
     let last = 16 if (q .marked 0 || q .marked m) ∷ 7 if (q .busy 0 || q .busy m) ∷ 11 if q .unjoinable 0 m ∷ [] in
     main-line t (code-exactly (λ (o : Out). o .code) (refused t) (λ k. refl) (asOne t (forkOut d 0)) (15 if q .offLine 0) (λ z. fork-line d (sym (one-code t (forkOut d 0)) ∙ z)) first last refl refl .0 e .1)
 
 module _ (t : List ℕ) (h : length t ≡ tableBytes) (single : Bool) (qs : List (Call (List ℕ))) where
   abbrev left : List ℕ
-  left = tableAfter (freshOut t single .lent) qs
+  left = tableAfter (freshOut t single boardBytes .lent) qs
 
   abbrev p : PlainDay
   p = dayAfter single (calls qs)
 
   S : Stands p left
   unfolding dayAfter
-  S = stands-after qs (freshDay single) (freshOut t single .lent) (fresh-stands t h single)
+  S = stands-after qs (freshDay single) (freshOut t single boardBytes .lent) (fresh-stands t h single)
 
-  join-code : (n m : ℕ) → joinOut left n m .code ≡ called p (Join n m) .answer .code
-  join-code n m = ap (λ r. r .code) (join-same p left S n m .reply)
+  join-code : (n m room : ℕ) → joinOut left n m room .code ≡ called p (Join n m room) .answer .code
+  join-code n m room = ap (λ r. r .code) (join-same p left S n m room .reply)
 
-  sync-code : (m : ℕ) → syncOut left m .code ≡ called p (Sync m) .answer .code
-  sync-code m = ap (λ r. r .code) (sync-same p left S m .reply)
+  sync-code : (m room : ℕ) → syncOut left m room .code ≡ called p (Sync m room) .answer .code
+  sync-code m room = ap (λ r. r .code) (sync-same p left S m room .reply)
 
   preview-code : (n m bib : ℕ) → previewOut left n m bib .code ≡ called p (Looks (Preview n m bib)) .answer .code
   preview-code n m bib = ap (λ r. r .code) (preview-same p left S n m bib .reply)
@@ -90,8 +91,8 @@ pub syncs-on-days : SyncsOnDays
 syncs-on-days t h single qs =
     let cs = calls qs in
     record {
-      never-ten = λ m e. never-ten single cs m (sym (sync-code t h single qs m) ∙ e);
-      join-eleven = λ s n m e. on-single-main (cs ++ (Join n m ∷ [])) .join-eleven cs [] n m refl (with-choice t h single qs s (Join n m) (sym (join-code t h single qs n m) ∙ e));
-      sync-eleven = λ s m e. on-single-main (cs ++ (Sync m ∷ [])) .sync-eleven cs [] m refl (with-choice t h single qs s (Sync m) (sym (sync-code t h single qs m) ∙ e));
+      never-ten = λ m room e. never-ten single cs m room (sym (sync-code t h single qs m room) ∙ e);
+      join-eleven = λ s n m room e. on-single-main (cs ++ (Join n m room ∷ [])) .join-eleven cs [] n m room refl (with-choice t h single qs s (Join n m room) (sym (join-code t h single qs n m room) ∙ e));
+      sync-eleven = λ s m room e. on-single-main (cs ++ (Sync m room ∷ [])) .sync-eleven cs [] m room refl (with-choice t h single qs s (Sync m room) (sym (sync-code t h single qs m room) ∙ e));
       preview-eleven = λ s n m bib e. on-single-main (cs ++ (Looks (Preview n m bib) ∷ [])) .preview-eleven cs [] n m bib refl (with-choice t h single qs s (Looks (Preview n m bib)) (sym (preview-code t h single qs n m bib) ∙ e));
     }

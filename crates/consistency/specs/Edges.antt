@@ -5,18 +5,19 @@ use mathlib.Core.Path.{_≡_}
 use mathlib.Core.List.{List, [], _∷_}
 use lib.ListN.{length, replicate}
 use Rattle.desk.specs.Calls.{callsOn}
-use Rattle.plain.specs.Edges.{Edge, Said, edges, codes, reused, marks, onLine, orders, expected, said}
+use Rattle.plain.specs.Edges.{Edge, Said, edges, codes, reused, marks, onLine, orders, boards, expected, said}
+use Rattle.boards.specs.Board.{boardBytes}
 use Rattle.table.specs.Out.{tableBytes}
 use Rattle.table.specs.Calls.{freshOut}
 use Rattle.consistency.specs.Table.{repliesOn}
 
--- the starred edges at a table; a list is given a sheet of zeros
+-- the starred edges at a table; a list is given a sheet of zeros, and so is a call that takes a board
 abbrev pub computedOn : List ℕ → Bool → List Edge → List (List Said)
 computedOn t single [] = []
-computedOn t single (e ∷ es) = said (repliesOn (freshOut t single .lent) (callsOn (λ room. replicate room 0) (e .calls))) ∷ computedOn t single es
+computedOn t single (e ∷ es) = said (repliesOn (freshOut t single boardBytes .lent) (callsOn (λ room. replicate room 0) (e .calls))) ∷ computedOn t single es
 
 abbrev pub EdgesHold : Type 0
 EdgesHold =
     (t : List ℕ) → length t ≡ tableBytes
     → (computedOn t false edges ≡ expected edges) × (computedOn t false codes ≡ expected codes) × (computedOn t false reused ≡ expected reused) × (computedOn t false marks ≡ expected marks)
-    × (computedOn t true onLine ≡ expected onLine) × (computedOn t false orders ≡ expected orders)
+    × (computedOn t true onLine ≡ expected onLine) × (computedOn t false orders ≡ expected orders) × (computedOn t false boards ≡ expected boards)

@@ -9,6 +9,7 @@ use Rattle.lists.specs.Sums.{sumBelow}
 use Rattle.cells.specs.Sizes.{revisions}
 use Rattle.desk.specs.Calls.{Call, Answer}
 use Rattle.plain.specs.Fills.{acceptedIn, codesOf}
+use Rattle.boards.specs.Board.{boardBytes}
 use Rattle.table.specs.Out.{tableBytes}
 use Rattle.table.specs.Calls.{freshOut, fillOut}
 use Rattle.consistency.specs.Table.{calls, repliesOn, tableAfter}
@@ -22,10 +23,10 @@ abbrev pub acceptedUpdates : List (Call (List ℕ)) → List (Answer (List ℕ))
 acceptedUpdates qs rs = acceptedIn (calls qs) (codesOf rs)
 
 pub record FillsAddUp (t : List ℕ) (single : Bool) (qs : List (Call (List ℕ))) : Type 0 where
-  pub sum : fillSum (tableAfter (freshOut t single .lent) qs) ≡ acceptedUpdates qs (repliesOn (freshOut t single .lent) qs)
+  pub sum : fillSum (tableAfter (freshOut t single boardBytes .lent) qs) ≡ acceptedUpdates qs (repliesOn (freshOut t single boardBytes .lent) qs)
   -- "the number taken by the whole table" is the same number, whichever box is asked
-  pub total : (n : ℕ) → fillOut (tableAfter (freshOut t single .lent) qs) n .code ≡ 0
-      → fillOut (tableAfter (freshOut t single .lent) qs) n .total ≡ acceptedUpdates qs (repliesOn (freshOut t single .lent) qs)
+  pub total : (n : ℕ) → fillOut (tableAfter (freshOut t single boardBytes .lent) qs) n .code ≡ 0
+      → fillOut (tableAfter (freshOut t single boardBytes .lent) qs) n .total ≡ acceptedUpdates qs (repliesOn (freshOut t single boardBytes .lent) qs)
 
 abbrev pub FillsAddUpOnDays : Type 0
 FillsAddUpOnDays = (t : List ℕ) → length t ≡ tableBytes → (single : Bool) (qs : List (Call (List ℕ))) → FillsAddUp t single qs

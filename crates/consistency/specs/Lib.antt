@@ -9,3 +9,4 @@ pub mod Fills
 pub mod Previews
 pub mod Syncs
 pub mod Orders
+pub mod Boards

@@ -15,6 +15,7 @@ use Rattle.diagram.specs.Arbitration.{Explains}
 use Rattle.plain.specs.Taken.{endOf}
 use Rattle.plain.specs.Orders.{updatesIn}
 use Rattle.table.specs.Halves.{cellsOf}
+use Rattle.boards.specs.Board.{boardBytes}
 use Rattle.table.specs.Out.{tableBytes}
 use Rattle.table.specs.Calls.{freshOut, isOut, verifyOut}
 use Rattle.consistency.specs.Table.{calls, tableAfter}
@@ -39,4 +40,4 @@ pub record OwnGetsYes (t file : List ℕ) : Type 0 where
 abbrev pub OwnOrdersOnDays : Type 0
 OwnOrdersOnDays =
     (t : List ℕ) → length t ≡ tableBytes → (single : Bool) (qs : List (Call (List ℕ))) (own : List ℕ) → Explains (endOf single (calls qs)) own
-    → OwnGetsYes (tableAfter (freshOut t single .lent) qs) (fileOf (updatesIn (endOf single (calls qs)) own))
+    → OwnGetsYes (tableAfter (freshOut t single boardBytes .lent) qs) (fileOf (updatesIn (endOf single (calls qs)) own))

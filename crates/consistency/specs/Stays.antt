@@ -7,6 +7,7 @@ use mathlib.Core.List.{List}
 use lib.ListN.{length}
 use Rattle.desk.specs.Calls.{Call}
 use Rattle.table.specs.Halves.{isTable}
+use Rattle.boards.specs.Board.{boardBytes}
 use Rattle.table.specs.Out.{tableBytes}
 use Rattle.table.specs.Calls.{freshOut}
 use Rattle.consistency.specs.Table.{served}
@@ -21,4 +22,4 @@ StaysTable = (t : List ℕ) (q : Call (List ℕ)) → LeavesTable t q
 
 -- fresh makes one of any bytes, if they have the length
 abbrev pub FreshMakesTable : Type 0
-FreshMakesTable = (t : List ℕ) → length t ≡ tableBytes → (single : Bool) → isTable (freshOut t single .lent) ≡ true
+FreshMakesTable = (t : List ℕ) → length t ≡ tableBytes → (single : Bool) → isTable (freshOut t single boardBytes .lent) ≡ true

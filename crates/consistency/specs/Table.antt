@@ -7,16 +7,17 @@ use Rattle.desk.specs.Calls.{Call, Update, Query, Yield, Fork, Join, Sync, Mark
 use Rattle.sheets.specs.Lines.{line}
 use Rattle.plain.specs.Record.{Line}
 use Rattle.table.specs.Out.{Out}
-use Rattle.table.specs.Calls.{updateOut, queryOut, yieldOut, forkOut, joinOut, syncOut, markOut, dropOut, listOut, fillOut, bundleOut, entriesOut, previewOut, verifyOut}
+use Rattle.table.specs.Calls.{boardOut, updateOut, queryOut, yieldOut, forkOut, joinOut, syncOut, markOut, dropOut, listOut, fillOut, bundleOut, entriesOut, previewOut, verifyOut}
 
--- at a table a sheet is bytes; on paper "only the length" is told
+-- at a table a sheet or a board is bytes; on paper "only the length" is told
 abbrev pub calls : List (Call (List ℕ)) → List (Call ℕ)
 calls qs = callsOn length qs
 
--- what a caller has of a call: its answer, with the bytes of the sheet, if one was lent; and the table
+-- what a caller has of a call: its answer, with the bytes of the sheet, if one was lent; the table; and the board, if one was lent
 pub record Served : Type 0 where
   pub reply : Answer (List ℕ)
   pub table : List ℕ
+  pub board : List ℕ
 
 -- of a call that has bytes lent to be written
 abbrev pub outReply : Out → List ℕ → Answer (List ℕ)
@@ -30,20 +31,24 @@ looked t (Preview n m bib) = let f = previewOut t n m bib in record { code = f .
 looked t (Verify file) = let a = verifyOut t file in record { code = a .code; state = Neither; value = a .value; total = 0; gain = 0; sheet = [] }
 
 abbrev pub onTable : Out → Served
-onTable u = record { reply = outReply u []; table = u .lent }
+onTable u = record { reply = outReply u []; table = u .lent; board = [] }
+
+-- 02, U10: of a call that a board is lent to, besides
+abbrev pub onBoard : List ℕ → List ℕ → Out → Served
+onBoard t board u = record { reply = outReply u []; table = u .lent; board = boardOut t (u .lent) board }
 
 abbrev pub served : List ℕ → Call (List ℕ) → Served
 served t (Update c n k bib v) = onTable (updateOut t c n k bib v)
 served t (Query c n bib) = onTable (queryOut t c n bib)
-served t (Yield c) = onTable (yieldOut t c)
+served t (Yield c board) = onBoard t board (yieldOut t c (length board))
 served t (Fork n) = onTable (forkOut t n)
-served t (Join n m) = onTable (joinOut t n m)
-served t (Sync m) = onTable (syncOut t m)
+served t (Join n m board) = onBoard t board (joinOut t n m (length board))
+served t (Sync m board) = onBoard t board (syncOut t m (length board))
 served t (Mark n name) = onTable (markOut t n name)
 served t (Drop name) = onTable (dropOut t name)
-served t (Bundle c n (Records bytes)) = onTable (bundleOut t c n bytes)
-served t (Bundle c n (Entries es)) = onTable (entriesOut t c n es)
-served t (Looks l) = record { reply = looked t l; table = t }
+served t (Bundle c n (Records bytes) board) = onBoard t board (bundleOut t c n bytes (length board))
+served t (Bundle c n (Entries es) board) = onBoard t board (entriesOut t c n es (length board))
+served t (Looks l) = record { reply = looked t l; table = t; board = [] }
 
 -- the replies of a table to a list of calls, each getting it as the last one left it
 unfoldable pub repliesOn : List ℕ → List (Call (List ℕ)) → List (Answer (List ℕ))
@@ -64,17 +69,30 @@ inBytes (l ∷ ls) = line (l .entry) (l .number) ++ inBytes ls
 abbrev pub sheetOf : Call (List ℕ) → List ℕ
 sheetOf (Update c n k bib v) = []
 sheetOf (Query c n bib) = []
-sheetOf (Yield c) = []
+sheetOf (Yield c board) = []
 sheetOf (Fork n) = []
-sheetOf (Join n m) = []
-sheetOf (Sync m) = []
+sheetOf (Join n m board) = []
+sheetOf (Sync m board) = []
 sheetOf (Mark n name) = []
 sheetOf (Drop name) = []
-sheetOf (Bundle c n batch) = []
+sheetOf (Bundle c n batch board) = []
 sheetOf (Looks (Show n sheet)) = sheet
 sheetOf (Looks (Fill n)) = []
 sheetOf (Looks (Preview n m bib)) = []
 sheetOf (Looks (Verify file)) = []
+
+-- the board that a call is lent, if any
+abbrev pub boardLent : Call (List ℕ) → List ℕ
+boardLent (Update c n k bib v) = []
+boardLent (Query c n bib) = []
+boardLent (Yield c board) = board
+boardLent (Fork n) = []
+boardLent (Join n m board) = board
+boardLent (Sync m board) = board
+boardLent (Mark n name) = []
+boardLent (Drop name) = []
+boardLent (Bundle c n batch board) = board
+boardLent (Looks l) = []
 
 -- an answer on paper as a caller gets it: the lines come first, and "Bytes from 12 n on stay."
 abbrev pub sheetWith : List Line → List ℕ → List ℕ

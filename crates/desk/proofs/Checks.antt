@@ -92,13 +92,13 @@ data Row (q : Tests) (listed : List ℕ) : List Check → Type 0 where
 rows : (q : Tests) (c : Call ℕ) → Row q (codesFor c) (checks q c)
 rows q (Update c n k bib v) = begins _ [] refl refl
 rows q (Query c n bib) = begins _ [] refl refl
-rows q (Yield c) = begins _ [] refl refl
+rows q (Yield c room) = begins _ [] refl refl
 rows q (Fork n) = begins _ [] refl refl
-rows q (Join n m) = begins _ [] refl refl
-rows q (Sync m) = begins _ [] refl refl
+rows q (Join n m room) = begins _ [] refl refl
+rows q (Sync m room) = begins _ [] refl refl
 rows q (Mark n name) = begins _ [] refl refl
 rows q (Drop name) = begins _ [] refl refl
-rows q (Bundle c n batch) = begins _ (2 ∷ 3 ∷ 4 ∷ 16 ∷ 5 ∷ 6 ∷ 7 ∷ 8 ∷ 9 ∷ []) refl refl
+rows q (Bundle c n batch room) = begins _ (2 ∷ 3 ∷ 4 ∷ 16 ∷ 5 ∷ 6 ∷ 7 ∷ 8 ∷ 9 ∷ []) refl refl
 rows q (Looks (Show n room)) = begins _ [] refl refl
 rows q (Looks (Fill n)) = begins _ [] refl refl
 rows q (Looks (Preview n m bib)) = begins _ [] refl refl

@@ -1,5 +1,5 @@
--- The calls and what they answer with: 01, "Codes of the desk" and "Listing a box"; 02, U1, U2, U4, U6, U8, U9 and U13. On paper a sheet is told by its
--- length, at a table it is bytes.
+-- The calls and what they answer with: 01, "Codes of the desk" and "Listing a box"; 02, U1, U2, U4, U6, U8, U9, U10 and U13. On paper a sheet or a board
+-- is told by its length, at a table it is bytes.
 use Prim.Native.Nat.{ℕ}
 use mathlib.Core.Bool.{Bool, _||_}
 use mathlib.Core.List.{List, [], _∷_}
@@ -39,28 +39,29 @@ pub data Look (Sheet : Type 0) : Type 0 where
 pub data Call (Sheet : Type 0) : Type 0 where
   Update : (client revision kind bib v : ℕ) → Call Sheet
   Query : (client revision bib : ℕ) → Call Sheet
-  Yield : (client : ℕ) → Call Sheet
+  -- 02, U10: "Fresh, yield, bundle, join and sync take it, no other call", the board
+  Yield : (client : ℕ) (board : Sheet) → Call Sheet
   Fork : (revision : ℕ) → Call Sheet
-  Join : (joiner joinee : ℕ) → Call Sheet
+  Join : (joiner joinee : ℕ) (board : Sheet) → Call Sheet
   -- 02, U8: "names a box", the joinee
-  Sync : (joinee : ℕ) → Call Sheet
+  Sync : (joinee : ℕ) (board : Sheet) → Call Sheet
   -- 02, U9: a mark "forks an idle box .. and gives the new box a name"; "Dropping a mark, by its name"
   Mark : (revision : ℕ) (name : Name) → Call Sheet
   Drop : (name : Name) → Call Sheet
-  Bundle : (client revision : ℕ) (batch : Batch) → Call Sheet
+  Bundle : (client revision : ℕ) (batch : Batch) (board : Sheet) → Call Sheet
   Looks : Look Sheet → Call Sheet
 
--- the same call with another sheet: "(of a sheet only the length)"
+-- the same call with another sheet or board: "(of a sheet only the length)"
 abbrev pub callOn : {S R : Type 0} → (S → R) → Call S → Call R
 callOn f (Update c n k bib v) = Update c n k bib v
 callOn f (Query c n bib) = Query c n bib
-callOn f (Yield c) = Yield c
+callOn f (Yield c board) = Yield c (f board)
 callOn f (Fork n) = Fork n
-callOn f (Join n m) = Join n m
-callOn f (Sync m) = Sync m
+callOn f (Join n m board) = Join n m (f board)
+callOn f (Sync m board) = Sync m (f board)
 callOn f (Mark n name) = Mark n name
 callOn f (Drop name) = Drop name
-callOn f (Bundle c n batch) = Bundle c n batch
+callOn f (Bundle c n batch board) = Bundle c n batch (f board)
 callOn f (Looks (Show n sheet)) = Looks (Show n (f sheet))
 callOn f (Looks (Fill n)) = Looks (Fill n)
 callOn f (Looks (Preview n m bib)) = Looks (Preview n m bib)

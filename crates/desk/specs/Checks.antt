@@ -6,6 +6,7 @@ use mathlib.Core.List.{List, [], _∷_, _++_}
 use Rattle.lists.specs.Names.{Name}
 use Rattle.updates.specs.Kinds.{badBib, badKind}
 use Rattle.orderfile.specs.File.{isBadList}
+use Rattle.boards.specs.Board.{isWrongBoard}
 use Rattle.desk.specs.Calls.{Call, Update, Query, Yield, Fork, Join, Sync, Mark, Drop, Bundle, Looks, Show, Fill, Preview, Verify, isWrongBatch}
 
 -- a code, and whether it applies
@@ -53,34 +54,36 @@ pub record Tests : Type 0 where
   -- 18, 02, U9: "no such mark, for a drop"
   pub noMark : (name : Name) → Bool
 
--- "Join: 1, 3, 4, 7, 11", of either box; 02, U8: 15 "checked after 4", of the joiner; U9: 16 "checked right after 15", of either, "in either role"
+-- "Join: 1, 3, 4, 7, 11", those after 1, of either box; 02, U8: 15 "checked after 4", of the joiner; U9: 16 "checked right after 15", of either, "in
+-- either role"
 abbrev pub joinChecks : Tests → ℕ → ℕ → List Check
 joinChecks q n m =
-    1 if q .noTable ∷ 3 if (q .never n || q .never m) ∷ 4 if (q .joined n || q .joined m) ∷ 15 if q .offLine n ∷ 16 if (q .marked n || q .marked m) ∷ 7 if (q .busy n || q .busy m)
+    3 if (q .never n || q .never m) ∷ 4 if (q .joined n || q .joined m) ∷ 15 if q .offLine n ∷ 16 if (q .marked n || q .marked m) ∷ 7 if (q .busy n || q .busy m)
     ∷ 11 if q .unjoinable n m ∷ []
 
--- "Update: 1 to 9. Query: 1 to 8 (of 5, the bib only). Yield: 1, 2. Fork: 1, 3, 4, 7, 10. .. List: 1, 3, 4, 7, 12." 02, U9: of a marked box 16, after 4
+-- "Update: 1 to 9. Query: 1 to 8 (of 5, the bib only). Yield: 1, 2. Fork: 1, 3, 4, 7, 10. .. List: 1, 3, 4, 7, 12." 02, U9: of a marked box 16, after 4; U10: 19 "checked
+-- right after 1, for a bundle after 14"
 abbrev pub checks : Tests → Call ℕ → List Check
 checks q (Update c n k bib v) =
     1 if q .noTable ∷ 2 if q .strange c ∷ 3 if q .never n ∷ 4 if q .joined n ∷ 16 if q .marked n ∷ 5 if (badBib bib || badKind k) ∷ 6 if q .elsewhere c n ∷ 7 if q .byOther c n
     ∷ 8 if q .stale c n ∷ 9 if q .full ∷ []
 checks q (Query c n bib) =
     1 if q .noTable ∷ 2 if q .strange c ∷ 3 if q .never n ∷ 4 if q .joined n ∷ 16 if q .marked n ∷ 5 if badBib bib ∷ 6 if q .elsewhere c n ∷ 7 if q .byOther c n ∷ 8 if q .stale c n ∷ []
-checks q (Yield c) = 1 if q .noTable ∷ 2 if q .strange c ∷ []
+checks q (Yield c room) = 1 if q .noTable ∷ 19 if isWrongBoard room ∷ 2 if q .strange c ∷ []
 checks q (Fork n) = 1 if q .noTable ∷ 3 if q .never n ∷ 4 if q .joined n ∷ 15 if q .offLine n ∷ 7 if q .busy n ∷ 10 if q .allOut ∷ []
-checks q (Join n m) = joinChecks q n m
+checks q (Join n m room) = 1 if q .noTable ∷ 19 if isWrongBoard room ∷ joinChecks q n m
 -- 02, U8: "has join's refusals for joiner 0"; box 0 is on the line, so that 15 never applies
-checks q (Sync m) = joinChecks q 0 m
+checks q (Sync m room) = 1 if q .noTable ∷ 19 if isWrongBoard room ∷ joinChecks q 0 m
 -- 02, U9: "Mark has fork's refusals .. 17 and 18 are checked last"; "a drop can also give 1"
 checks q (Mark n name) = 1 if q .noTable ∷ 3 if q .never n ∷ 4 if q .joined n ∷ 15 if q .markless ∷ 7 if q .busy n ∷ 10 if q .allOut ∷ 17 if q .badName name ∷ []
 checks q (Drop name) = 1 if q .noTable ∷ 18 if q .noMark name ∷ []
 -- 02, U4: 14 "checked right after 1"; then those of its updates and of the yield, one by one
-checks q (Bundle c n batch) = 1 if q .noTable ∷ 14 if isWrongBatch batch ∷ []
+checks q (Bundle c n batch room) = 1 if q .noTable ∷ 14 if isWrongBatch batch ∷ 19 if isWrongBoard room ∷ []
 checks q (Looks (Show n room)) = 1 if q .noTable ∷ 3 if q .never n ∷ 4 if q .joined n ∷ 7 if q .busy n ∷ 12 if q .short n room ∷ []
 -- 02, U1: "Checks: 1, 3, 4"
 checks q (Looks (Fill n)) = 1 if q .noTable ∷ 3 if q .never n ∷ 4 if q .joined n ∷ []
 -- 02, U6: "Refusals are those of the join, then 5 for the bib"
-checks q (Looks (Preview n m bib)) = joinChecks q n m ++ (5 if badBib bib ∷ [])
+checks q (Looks (Preview n m bib)) = 1 if q .noTable ∷ joinChecks q n m ++ (5 if badBib bib ∷ [])
 -- 02, U13: 21 "checked after 1"
 checks q (Looks (Verify file)) = 1 if q .noTable ∷ 21 if isBadList file ∷ []
 
@@ -93,13 +96,13 @@ settle (k ∷ ks) refusal end = cond (k .applies) (refusal (k .code)) (settle ks
 abbrev pub codesFor : {S : Type 0} → Call S → List ℕ
 codesFor (Update c n k bib v) = 1 ∷ 2 ∷ 3 ∷ 4 ∷ 16 ∷ 5 ∷ 6 ∷ 7 ∷ 8 ∷ 9 ∷ []
 codesFor (Query c n bib) = 1 ∷ 2 ∷ 3 ∷ 4 ∷ 16 ∷ 5 ∷ 6 ∷ 7 ∷ 8 ∷ []
-codesFor (Yield c) = 1 ∷ 2 ∷ []
+codesFor (Yield c board) = 1 ∷ 19 ∷ 2 ∷ []
 codesFor (Fork n) = 1 ∷ 3 ∷ 4 ∷ 15 ∷ 7 ∷ 10 ∷ []
-codesFor (Join n m) = 1 ∷ 3 ∷ 4 ∷ 15 ∷ 16 ∷ 7 ∷ 11 ∷ []
-codesFor (Sync m) = 1 ∷ 3 ∷ 4 ∷ 15 ∷ 16 ∷ 7 ∷ 11 ∷ []
+codesFor (Join n m board) = 1 ∷ 19 ∷ 3 ∷ 4 ∷ 15 ∷ 16 ∷ 7 ∷ 11 ∷ []
+codesFor (Sync m board) = 1 ∷ 19 ∷ 3 ∷ 4 ∷ 15 ∷ 16 ∷ 7 ∷ 11 ∷ []
 codesFor (Mark n name) = 1 ∷ 3 ∷ 4 ∷ 15 ∷ 7 ∷ 10 ∷ 17 ∷ []
 codesFor (Drop name) = 1 ∷ 18 ∷ []
-codesFor (Bundle c n batch) = 1 ∷ 14 ∷ 2 ∷ 3 ∷ 4 ∷ 16 ∷ 5 ∷ 6 ∷ 7 ∷ 8 ∷ 9 ∷ []
+codesFor (Bundle c n batch board) = 1 ∷ 14 ∷ 19 ∷ 2 ∷ 3 ∷ 4 ∷ 16 ∷ 5 ∷ 6 ∷ 7 ∷ 8 ∷ 9 ∷ []
 codesFor (Looks (Show n sheet)) = 1 ∷ 3 ∷ 4 ∷ 7 ∷ 12 ∷ []
 codesFor (Looks (Fill n)) = 1 ∷ 3 ∷ 4 ∷ []
 codesFor (Looks (Preview n m bib)) = 1 ∷ 3 ∷ 4 ∷ 15 ∷ 16 ∷ 7 ∷ 11 ∷ 5 ∷ []

@@ -19,3 +19,4 @@ pub mod Latest
 pub mod Lawful
 pub mod Decided
 pub mod Marked
+pub mod Closed

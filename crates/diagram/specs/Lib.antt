@@ -16,6 +16,7 @@ pub mod Pool
 pub mod Counts
 pub mod Summed
 pub mod Arbitration
+pub mod Closed
 pub mod Witness
 pub mod Single
 pub mod Lawful

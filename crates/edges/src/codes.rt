@@ -8,23 +8,23 @@ use crate::calls::update;
 use crate::calls::yields;
 use crate::say;
 
-pub fn one(short: &mut [u8], t: &mut [u8]) {
+pub fn one(short: &mut [u8], t: &mut [u8], board: &mut [u8]) {
     say::title(b"1 no table: 4,096 bytes; cells out of range");
-    fresh(short);
-    yields(short, 0);
-    yields(t, 0);
-    fresh(t);
+    fresh(short, board);
+    yields(short, board, 0);
+    yields(t, board, 0);
+    fresh(t, board);
 }
 
-pub fn two_to_four(t: &mut [u8]) {
+pub fn two_to_four(t: &mut [u8], board: &mut [u8]) {
     say::title(b"2 strange tablet");
-    yields(t, 16);
+    yields(t, board, 16);
     say::title(b"3 never sent");
     fork(t, 1);
-    join(t, 0, 64);
+    join(t, board, 0, 64);
     say::title(b"4 handed in");
     fork(t, 0);
-    join(t, 0, 1);
+    join(t, board, 0, 1);
     query(t, 0, 1, 7);
 }
 
@@ -35,7 +35,7 @@ pub fn five(t: &mut [u8]) {
     update(t, 0, 0, 5, 7, 1);
 }
 
-pub fn six_and_seven(t: &mut [u8], sheet: &mut [u8]) {
+pub fn six_and_seven(t: &mut [u8], board: &mut [u8], sheet: &mut [u8]) {
     say::title(b"6 other box open");
     fork(t, 0);
     update(t, 0, 0, 1, 7, 1);
@@ -44,16 +44,16 @@ pub fn six_and_seven(t: &mut [u8], sheet: &mut [u8]) {
     update(t, 1, 0, 1, 7, 1);
     fork(t, 0);
     list(t, 0, sheet);
-    join(t, 2, 0);
+    join(t, board, 2, 0);
 }
 
-pub fn eight_to_twelve(t: &mut [u8], sheet: &mut [u8]) {
+pub fn eight_to_twelve(t: &mut [u8], board: &mut [u8], sheet: &mut [u8]) {
     say::title(b"8 not caught up");
-    yields(t, 0);
+    yields(t, board, 0);
     query(t, 0, 2, 7);
     say::title(b"11 not joinable: box 0; itself");
-    join(t, 2, 0);
-    join(t, 2, 2);
+    join(t, board, 2, 0);
+    join(t, board, 2, 2);
     say::title(b"12 sheet short");
     list(t, 0, sheet);
 }

@@ -28,27 +28,27 @@ fn fill(t: &mut [u8], r: u8, many: u32) -> u32 {
 }
 
 // The log is of all revisions together: 2,000 and 2,096.
-pub fn fill_up(t: &mut [u8]) {
+pub fn fill_up(t: &mut [u8], board: &mut [u8]) {
     say::title(b"log full");
-    fresh(t);
+    fresh(t, board);
     fork(t, 0);
     say::count(b"taken on 0:", fill(t, 0, 2000));
     say::count(b"taken on 1:", fill(t, 1, 2096));
 }
 
-pub fn beyond(t: &mut [u8]) {
+pub fn beyond(t: &mut [u8], board: &mut [u8]) {
     say::title(b"the next");
     update(t, 0, 0, 1, 7, 5);
     update(t, 1, 1, 1, 7, 5);
     query(t, 1, 1, 95);
-    yields(t, 0);
-    yields(t, 1);
+    yields(t, board, 0);
+    yields(t, board, 1);
 }
 
-pub fn joined(t: &mut [u8], sheet: &mut [u8]) {
+pub fn joined(t: &mut [u8], board: &mut [u8], sheet: &mut [u8]) {
     say::title(b"lists and a join with a full log");
     list(t, 1, sheet);
-    join(t, 0, 1);
+    join(t, board, 0, 1);
     list(t, 0, sheet);
     query(t, 2, 0, 999);
 }

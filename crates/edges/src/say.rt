@@ -40,9 +40,9 @@ pub fn reading(name: &[u8], a: Reading) {
     told(name, a.code, a.value);
 }
 
-// The bytes of a sheet.
-pub fn bytes(p: &[u8]) {
-    io::write_all(STDOUT_FILENO, b"sheet");
+// A name, and the bytes of a sheet or of a board.
+pub fn bytes(name: &[u8], p: &[u8]) {
+    io::write_all(STDOUT_FILENO, name);
     let mut i: usize = 0;
     while i < p.len() {
         number(wide(p[i]));

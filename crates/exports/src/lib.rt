@@ -4,8 +4,9 @@ ghost use mathlib.Core.Bool.{not};
 ghost use mathlib.Core.Path.{_≡_};
 ghost use lib.Dec.{eqb};
 ghost use Prim.Native.Nat.{_≤_};
+ghost use lib.ListN.{length};
 ghost use Rattle.lists.specs.Differences.{differences};
-ghost use Rattle.table.specs.Calls.{bundleOut, dropOut, fillOut, forkOut, freshOut, joinOut, listOut, markOut, previewOut, queryOut, syncOut, updateOut, verifyOut, yieldOut};
+ghost use Rattle.table.specs.Calls.{boardOut, bundleOut, dropOut, fillOut, forkOut, freshBoard, freshOut, joinOut, listOut, markOut, previewOut, queryOut, syncOut, updateOut, verifyOut, yieldOut};
 ghost use Rattle.exports.specs.Packed.{exported, exportedAnswer, exportedLevel, exportedProspect, returned, packed, packedGain, packedState, stateNumber};
 use updates::standing::State;
 
@@ -42,10 +43,10 @@ fn pack_gain(code: u8, state: State, value: u32, gain: u16) -> u64
 }
 
 #[no_mangle]
-pub extern "C" fn silttongs_fresh(t: &mut [u8], single: u8) -> u64
-    ensures { λ r. ⌜ returned r (now (t .exit)) ≡ exported (freshOut (now (t .entry)) (not (eqb single 0))) ⌝ }
+pub extern "C" fn silttongs_fresh(t: &mut [u8], board: &mut [u8], single: u8) -> u64
+    ensures { λ r. ⌜ (returned r (now (t .exit)) ≡ exported (freshOut (now (t .entry)) (not (eqb single 0)) (length (now (board .entry))))) × (now (board .exit) ≡ freshBoard (now (t .entry)) (not (eqb single 0)) (now (board .entry))) ⌝ }
 {
-    let a = forking::fresh::fresh(t, single != 0);
+    let a = announcing::fresh::fresh(t, board, single != 0);
     pack(a.code, a.value)
 }
 
@@ -65,10 +66,16 @@ pub extern "C" fn silttongs_update(
 }
 
 #[no_mangle]
-pub extern "C" fn silttongs_bundle(t: &mut [u8], client: u8, revision: u8, records: &[u8]) -> u64
-    ensures { λ r. ⌜ returned r (now (t .exit)) ≡ exported (bundleOut (now (t .entry)) client revision (now (records .entry))) ⌝ }
+pub extern "C" fn silttongs_bundle(
+    t: &mut [u8],
+    board: &mut [u8],
+    client: u8,
+    revision: u8,
+    records: &[u8],
+) -> u64
+    ensures { λ r. ⌜ (returned r (now (t .exit)) ≡ exported (bundleOut (now (t .entry)) client revision (now (records .entry)) (length (now (board .entry))))) × (now (board .exit) ≡ boardOut (now (t .entry)) (now (t .exit)) (now (board .entry))) ⌝ }
 {
-    let a = bundling::bundle::bundle(t, client, revision, records);
+    let a = announcing::bundle::bundle(t, board, client, revision, records);
     pack(a.code, a.value)
 }
 
@@ -82,10 +89,10 @@ pub extern "C" fn silttongs_query(t: &mut [u8], client: u8, revision: u8, bib: u
 }
 
 #[no_mangle]
-pub extern "C" fn silttongs_yield(t: &mut [u8], client: u8) -> u64
-    ensures { λ r. ⌜ returned r (now (t .exit)) ≡ exported (yieldOut (now (t .entry)) client) ⌝ }
+pub extern "C" fn silttongs_yield(t: &mut [u8], board: &mut [u8], client: u8) -> u64
+    ensures { λ r. ⌜ (returned r (now (t .exit)) ≡ exported (yieldOut (now (t .entry)) client (length (now (board .entry))))) × (now (board .exit) ≡ boardOut (now (t .entry)) (now (t .exit)) (now (board .entry))) ⌝ }
 {
-    let a = updating::yields::yields(t, client);
+    let a = announcing::yields::yields(t, board, client);
     pack(a.code, a.value)
 }
 
@@ -98,18 +105,18 @@ pub extern "C" fn silttongs_fork(t: &mut [u8], revision: u8) -> u64
 }
 
 #[no_mangle]
-pub extern "C" fn silttongs_join(t: &mut [u8], joiner: u8, joinee: u8) -> u64
-    ensures { λ r. ⌜ (returned r (now (t .exit)) ≡ exported (joinOut (now (t .entry)) joiner joinee)) × (differences (now (t .entry)) (now (t .exit)) ≤ 256) ⌝ }
+pub extern "C" fn silttongs_join(t: &mut [u8], board: &mut [u8], joiner: u8, joinee: u8) -> u64
+    ensures { λ r. ⌜ (returned r (now (t .exit)) ≡ exported (joinOut (now (t .entry)) joiner joinee (length (now (board .entry))))) × (now (board .exit) ≡ boardOut (now (t .entry)) (now (t .exit)) (now (board .entry))) × (differences (now (t .entry)) (now (t .exit)) ≤ 256) ⌝ }
 {
-    let a = forking::join::join(t, joiner, joinee);
+    let a = announcing::join::join(t, board, joiner, joinee);
     pack(a.code, a.value)
 }
 
 #[no_mangle]
-pub extern "C" fn silttongs_sync(t: &mut [u8], joinee: u8) -> u64
-    ensures { λ r. ⌜ (returned r (now (t .exit)) ≡ exported (syncOut (now (t .entry)) joinee)) × (differences (now (t .entry)) (now (t .exit)) ≤ 512) ⌝ }
+pub extern "C" fn silttongs_sync(t: &mut [u8], board: &mut [u8], joinee: u8) -> u64
+    ensures { λ r. ⌜ (returned r (now (t .exit)) ≡ exported (syncOut (now (t .entry)) joinee (length (now (board .entry))))) × (now (board .exit) ≡ boardOut (now (t .entry)) (now (t .exit)) (now (board .entry))) × (differences (now (t .entry)) (now (t .exit)) ≤ 512) ⌝ }
 {
-    let a = forking::sync::sync(t, joinee);
+    let a = announcing::sync::sync(t, board, joinee);
     pack(a.code, a.value)
 }
 

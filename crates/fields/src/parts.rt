@@ -33,9 +33,9 @@ pub const NAMES: usize = 39828;
 
 pub const SINGLE: usize = 40084;
 
-// Closed and started are 0 until a request uses them.
-pub const CLOSED_UPDATES: usize = 40085;
+pub const SETTLED: usize = 40085;
 
+// 0 until a request uses it.
 pub const STARTED: usize = 40087;
 
 pub const KEPT: usize = 40089;

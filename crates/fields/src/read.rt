@@ -13,7 +13,6 @@ use crate::numbers::half_at;
 use crate::numbers::word_at;
 use crate::parts::BASE;
 use crate::parts::CAUGHT;
-use crate::parts::CLOSED_UPDATES;
 use crate::parts::COUNT;
 use crate::parts::COUNTERS;
 use crate::parts::FIRST;
@@ -25,7 +24,9 @@ use crate::parts::NAMES;
 use crate::parts::OPENED;
 use crate::parts::QUEUE;
 use crate::parts::SEEN;
+use crate::parts::SETTLED;
 use crate::parts::SINGLE;
+use crate::parts::STARTED;
 use crate::parts::STATE;
 use crate::parts::USED;
 use sizes::numbers::Client;
@@ -187,5 +188,13 @@ pub fn single(d: &[u8]) -> bool
     requires { ⌜ length (now d) ≡ lowerBytes ⌝ }
     ensures { λ on. ⌜ on ≡ cells (now (d .entry)) .single ⌝ }
 {
-    byte_at(&d[SINGLE..CLOSED_UPDATES], 0) == 1
+    byte_at(&d[SINGLE..SETTLED], 0) == 1
+}
+
+// How many of the main revision's own updates are of closed transactions (02, U10).
+pub fn settled(d: &[u8]) -> usize
+    requires { ⌜ length (now d) ≡ lowerBytes ⌝ }
+    ensures { λ v. ⌜ (v ≡ cells (now (d .entry)) .settled) × (v < 65536) ⌝ }
+{
+    word_at(&d[SETTLED..STARTED], 0)
 }

@@ -8,7 +8,7 @@ ghost use Rattle.lists.specs.Lists.{restOf};
 ghost use Rattle.lists.specs.Arranged.{insertBefore, remove};
 ghost use Rattle.cells.specs.Sizes.{lowerBytes, clients, revisions, updates};
 ghost use Rattle.cells.specs.Parts.{split, wrote, lowPart, highPart, seenPart, caughtPart, statePart, usedPart, lastPart, firstPart};
-ghost use Rattle.cells.specs.Parts.{countPart, basePart, layoutPart, queuePart, openedPart, countersPart, namesPart, rowsPart};
+ghost use Rattle.cells.specs.Parts.{countPart, basePart, layoutPart, queuePart, openedPart, countersPart, namesPart, rowsPart, settledPart};
 ghost use Rattle.cells.specs.Words.{putHalf, putName, putWord};
 ghost use Rattle.cells.specs.Flags.{flagAt, pack, putRow};
 ghost use Rattle.cells.specs.Decode.{cells};
@@ -35,7 +35,9 @@ use crate::parts::OPENED;
 use crate::parts::QUEUE;
 use crate::parts::ROWS;
 use crate::parts::SEEN;
+use crate::parts::SETTLED;
 use crate::parts::SINGLE;
+use crate::parts::STARTED;
 use crate::parts::STATE;
 use crate::parts::USED;
 use sizes::numbers::Client;
@@ -134,6 +136,14 @@ pub fn name(d: &mut [u8], r: Revision, name: &[u8])
     ensures { λ _. ⌜ now (d .exit) ≡ wrote (now (d .entry)) namesPart (putName (split (now (d .entry)) namesPart) (r .0) (now (name .entry))) ⌝ }
 {
     put_name(&mut d[NAMES..SINGLE], wide(r.0), name);
+}
+
+// So many of the main revision's own updates are of closed transactions (02, U10).
+pub fn settled(d: &mut [u8], v: usize)
+    requires { ⌜ (length (now d) ≡ lowerBytes) × (v < 65536) ⌝ }
+    ensures { λ _. ⌜ now (d .exit) ≡ wrote (now (d .entry)) settledPart (putWord (split (now (d .entry)) settledPart) 0 v) ⌝ }
+{
+    put_word(&mut d[SETTLED..STARTED], 0, v);
 }
 
 // Client c has caught up with r alone.

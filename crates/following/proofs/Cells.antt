@@ -7,7 +7,10 @@ pub mod Forking
 pub mod Leaving
 pub mod Joining
 pub mod Dropping
+pub mod Settled
+pub mod Closed
 pub mod Kept
+pub mod Brought
 pub mod Answers
 pub mod Passing
 pub mod Numbers

@@ -25,12 +25,12 @@ use Rattle.following.proofs.Bytes.Stored.{Stored, fresh-stored, step-st
 kept-follows : (y : Day) (m : Machine) (k : Cells) → Kept y m k → CellsFollow y k
 kept-follows y m k K = answers y m k (follows y m (K .agree)) (laid y m (K .agree) (K .named) (K .marks)) (K .represents)
 
-kept-from : (ss : List Step) (y : Day) (m : Machine) (k : Cells) → AcceptedFrom y ss → Kept y m k → Kept (runFrom y ss) (machineFrom m ss) (cellsFrom y k ss)
+pub kept-from : (ss : List Step) (y : Day) (m : Machine) (k : Cells) → AcceptedFrom y ss → Kept y m k → Kept (runFrom y ss) (machineFrom m ss) (cellsFrom y k ss)
 unfolding runFrom machineFrom cellsFrom
 kept-from [] y m k P K = K
 kept-from (s ∷ ss) y m k P K = kept-from ss (after y s) (machineAfter m s) (stepCells k (byNumber y s)) (P .1) (kept-after y m k K s (P .0))
 
-kept-run : (single : Bool) (ss : List Step) → Accepted ss → Kept (run ss) (machineFrom freshMachine ss) (cellsAfter single ss)
+pub kept-run : (single : Bool) (ss : List Step) → Accepted ss → Kept (run ss) (machineFrom freshMachine ss) (cellsAfter single ss)
 unfolding run cellsAfter
 kept-run single ss P = kept-from ss fresh freshMachine (freshCells single) P (fresh-kept single)
 

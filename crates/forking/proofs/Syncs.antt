@@ -1,12 +1,12 @@
 -- A sync from what the join's checks find: the join, then the fork of what it left, which is taken.
 use Prim.Native.Nat.{ℕ, _<_}
 use mathlib.Core.Bool.{true, false, not, cond}
-use mathlib.Core.Path.{_≡_, refl, sym, ap, _∙_}
+use mathlib.Core.Path.{_≡_, sym, ap, _∙_}
 use mathlib.Core.List.{List, _++_}
-use native.Mathlib.Omega.{arith}
 use lib.ListN.{length}
 use borrow.Author.Tests.{not-false}
 use Rattle.lists.proofs.Told.{failed}
+use Rattle.boards.specs.Board.{boardBytes}
 use Rattle.cells.specs.Sizes.{revisions}
 use Rattle.cells.specs.Cells.{nextNumber}
 use Rattle.cells.specs.Decode.{cells}
@@ -28,13 +28,8 @@ use Rattle.table.proofs.Halves.{high-of, low-of, lower-of}
 use Rattle.table.proofs.Syncs.{left-lower, left-table, sync-forks}
 use Rattle.forking.proofs.Calls.{same-taken}
 
--- the call on bytes that are no table
-pub no-sync : (t : List ℕ) → isTable t ≡ false → (m : ℕ) → refused t 1 ≡ syncOut t m
-unfolding syncOut
-no-sync t h m = rw h
-
 -- the call on a table, from what the join's checks find
-pub sync-by : (t : List ℕ) → isTable t ≡ true → (m : ℕ) (z : PairCheck) → joinCheck (low t) 0 m ≡ z → onPair z (refused t) (λ a b. asOne t (forkOut (joinEnd t 0 m .lent) 0)) ≡ syncOut t m
+pub sync-by : (t : List ℕ) → isTable t ≡ true → (m : ℕ) (z : PairCheck) → joinCheck (low t) 0 m ≡ z → onPair z (refused t) (λ a b. asOne t (forkOut (joinEnd t 0 m .lent) 0)) ≡ syncOut t m boardBytes
 unfolding joinCheck syncOut onPair
 sync-by t h m z e = rw (← e) (simp (given-is, pair-cond, either, h))
 
@@ -94,7 +89,7 @@ module _ (t : List ℕ) (h : isTable t ≡ true) (m : ℕ) (a b : Revision) (e :
     pub next-in : (c : Revision) → c ≡ record { 0 = nextNumber (cells (low t₁)) } → (0 < c .0) × (c .0 < revisions)
     next-in c f = let n = next-ranged (cells (low t₁)) (ranges (low t₁) (joined-lower .1)) in (rw f (n .0), rw f (n .1))
 
-    pub sync-done : (c : Revision) (t₂ : List ℕ) → c ≡ record { 0 = nextNumber (cells (low t₁)) } → t₂ ≡ forkBytes (low t₁) (a .0) (c .0) ++ high t₁ → taken t₂ (c .0) ≡ syncOut t m
+    pub sync-done : (c : Revision) (t₂ : List ℕ) → c ≡ record { 0 = nextNumber (cells (low t₁)) } → t₂ ≡ forkBytes (low t₁) (a .0) (c .0) ++ high t₁ → taken t₂ (c .0) ≡ syncOut t m boardBytes
     unfolding onPair
     sync-done c t₂ f g =
         let ml = rw (J .joinee) at bl in

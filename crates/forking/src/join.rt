@@ -1,10 +1,11 @@
-// The call join: a revision joins another; how many updates the joinee had of its own is the value.
+// The call join on bytes that are a table: a revision joins another; how many updates the joinee had of its own is the value. The call with its board
+// stands above.
 ghost use mathlib.Core.Path.{_≡_};
 ghost use mathlib.Core.Bool.{true};
 ghost use mathlib.Core.List.{_++_};
-ghost use Prim.Native.Nat.{_<_, _≤_};
+ghost use Prim.Native.Nat.{_<_};
 ghost use lib.ListN.{length};
-ghost use Rattle.lists.specs.Differences.{differences};
+ghost use Rattle.boards.specs.Board.{boardBytes};
 ghost use Rattle.cells.specs.Sizes.{revisions};
 ghost use Rattle.cells.specs.Range.{inRange};
 ghost use Rattle.cells.specs.Steps.{joinBytes};
@@ -17,8 +18,6 @@ use sizes::table::Table;
 use table::answer::Answer;
 use table::join::check_join;
 use table::pair::PairCheck;
-use table::sound;
-use table::sound::TableCheck;
 
 // b is joined into a. How many updates a gained is the answer.
 pub fn join_lower(t: &mut [u8], a: Revision, b: Revision) -> u32
@@ -29,10 +28,10 @@ pub fn join_lower(t: &mut [u8], a: Revision, b: Revision) -> u32
     n as u32
 }
 
-// The call on bytes that are a table.
-fn join_sound(t: &mut [u8], joiner: u8, joinee: u8) -> Answer
+// The checks, then the work; the board has the right length.
+pub fn join_sound(t: &mut [u8], joiner: u8, joinee: u8) -> Answer
     requires { ⌜ (isTable (now t) ≡ true) × (length (now t) ≡ tableBytes) × (inRange (low (now t)) ≡ true) ⌝ }
-    ensures { λ a. ⌜ left a (now (t .exit)) ≡ joinOut (now (t .entry)) joiner joinee ⌝ }
+    ensures { λ a. ⌜ left a (now (t .exit)) ≡ joinOut (now (t .entry)) joiner joinee boardBytes ⌝ }
 {
     let found = check_join(&t[0..Table::LOWER], joiner, joinee);
     let PairCheck::Allowed(a, b) = found else {
@@ -43,14 +42,4 @@ fn join_sound(t: &mut [u8], joiner: u8, joinee: u8) -> Answer
     };
     let value = join_lower(t, a, b);
     Answer { code: 0, value }
-}
-
-// The table differs from its former bytes at no more than 256 places (02, U11).
-pub fn join(t: &mut [u8], joiner: u8, joinee: u8) -> Answer
-    ensures { λ a. ⌜ (left a (now (t .exit)) ≡ joinOut (now (t .entry)) joiner joinee) × (differences (now (t .entry)) (now (t .exit)) ≤ 256) ⌝ }
-{
-    let TableCheck::Sound = sound::check_table(t) else {
-        return Answer { code: 1, value: 0 };
-    };
-    join_sound(t, joiner, joinee)
 }

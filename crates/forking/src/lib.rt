@@ -1,7 +1,7 @@
-// A day's revisions: the first of a fresh table, those forked, those joined, and marks.
+// A day's revisions: the first of a fresh table, those forked, those joined, and marks. Fresh, join and sync stop short of the board, which is lent above.
 pub mod drop; // drop.rt: the call drop
 pub mod fork; // fork.rt: the call fork
-pub mod fresh; // fresh.rt: the call fresh
-pub mod join; // join.rt: the call join
+pub mod fresh; // fresh.rt: a new day
+pub mod join; // join.rt: the call join on a table
 pub mod mark; // mark.rt: the call mark
-pub mod sync; // sync.rt: the call sync
+pub mod sync; // sync.rt: the call sync on a table

@@ -27,9 +27,9 @@ among-most n =
     (λ h. rw h (let k = ltb-false 64 n h in omega arith))
 
 -- 14 of two bundles that are wrong, after 1
-wrong-same : (t : List ℕ) (c n : ℕ) (a b : List ℕ) → isWrong a ≡ true → isWrong b ≡ true → bundleOut t c n a ≡ bundleOut t c n b
+wrong-same : (t : List ℕ) (c n : ℕ) (a b : List ℕ) (room : ℕ) → isWrong a ≡ true → isWrong b ≡ true → bundleOut t c n a room ≡ bundleOut t c n b room
 unfolding bundleOut
-wrong-same t c n a b h k = rw (h, k)
+wrong-same t c n a b room h k = rw (h, k)
 
 none-wrong : isWrong [] ≡ true
 unfolding isWrong
@@ -46,21 +46,21 @@ all-passed : (es : List Entry) → ltb 64 (length es) ≡ false → recordsIn (p
 unfolding recordsIn packedOf
 all-passed es h = rw h (packed-records es (ltb-false 64 (length es) h))
 
-packed-records-are : (t : List ℕ) (c n : ℕ) (es : List Entry) → bundleOut t c n (recordsIn (packedOf es)) ≡ bundleOut t c n (recordsOf es)
-packed-records-are t c n es =
+packed-records-are : (t : List ℕ) (c n : ℕ) (es : List Entry) (room : ℕ) → bundleOut t c n (recordsIn (packedOf es)) room ≡ bundleOut t c n (recordsOf es) room
+packed-records-are t c n es room =
     cases (ltb 64 (length es))
-    (λ h. ap (bundleOut t c n) (none-passed es h) ∙ wrong-same t c n [] (recordsOf es) none-wrong (many-wrong es h))
-    (λ h. ap (bundleOut t c n) (all-passed es h))
+    (λ h. ap (λ b. bundleOut t c n b room) (none-passed es h) ∙ wrong-same t c n [] (recordsOf es) room none-wrong (many-wrong es h))
+    (λ h. ap (λ b. bundleOut t c n b room) (all-passed es h))
 
 -- a lent list is the bundle of its records
-pub records-are : (t : List ℕ) (c n : ℕ) (es : List Entry) → bundleOut t c n (recordsOf es) ≡ entriesOut t c n es
+pub records-are : (t : List ℕ) (c n : ℕ) (es : List Entry) (room : ℕ) → bundleOut t c n (recordsOf es) room ≡ entriesOut t c n es room
 unfolding bundleOut entriesOut
-records-are t c n es = rw (wrong-records es, entries-of-records es)
+records-are t c n es room = rw (wrong-records es, entries-of-records es)
 
-pub packed-is : (t : List ℕ) (c n : ℕ) (es : List Entry) → bundleOut t c n (recordsIn (packedOf es)) ≡ entriesOut t c n es
-packed-is t c n es = packed-records-are t c n es ∙ records-are t c n es
+pub packed-is : (t : List ℕ) (c n : ℕ) (es : List Entry) (room : ℕ) → bundleOut t c n (recordsIn (packedOf es)) room ≡ entriesOut t c n es room
+packed-is t c n es room = packed-records-are t c n es room ∙ records-are t c n es room
 
 -- a count above 64
-pub too-many : (t : List ℕ) (c n count : ℕ) (es : List Entry) → 64 < count → entriesOut t c n (take (among count) es) ≡ check (not (isTable t)) 1 t (refused t 14)
+pub too-many : (t : List ℕ) (c n count : ℕ) (es : List Entry) (room : ℕ) → 64 < count → entriesOut t c n (take (among count) es) room ≡ check (not (isTable t)) 1 t (refused t 14)
 unfolding entriesOut
-too-many t c n count es h = rw (lt-ltb 64 count h)
+too-many t c n count es room h = rw (lt-ltb 64 count h)

@@ -6,6 +6,7 @@ mod say; // say.rt: lines on standard output
 mod steps; // steps.rt: the calls that a round is made of
 mod tally; // tally.rt: what the calls answered
 
+use boards::check::Board;
 use tally::Tally;
 
 const ROUNDS: u32 = 6700;
@@ -13,15 +14,15 @@ const ROUNDS: u32 = 6700;
 // How many rounds a box is carried before it is handed in.
 const LATE: usize = 20;
 
-fn meeting(t: &mut [u8], sheet: &mut [u8]) {
+fn meeting(t: &mut [u8], board: &mut [u8], sheet: &mut [u8]) {
     let mut sent = [0u8; LATE];
     let mut nested = [0u8; LATE];
     let mut tally = Tally::new();
     let mut i: u32 = 0;
     while i < ROUNDS {
         let slot = (i % 20) as usize;
-        let gone = rounds::send(t, i, tally);
-        tally = rounds::receive(t, sent[slot], nested[slot], gone.tally);
+        let gone = rounds::send(t, board, i, tally);
+        tally = rounds::receive(t, board, sent[slot], nested[slot], gone.tally);
         sent[slot] = gone.sender;
         nested[slot] = gone.nested;
         i += 1;
@@ -34,7 +35,8 @@ fn meeting(t: &mut [u8], sheet: &mut [u8]) {
 
 fn main() {
     let mut t = io::large_buffer();
+    let mut board = [0u8; Board::BYTES];
     let mut sheet = io::large_buffer();
-    forking::fresh::fresh(&mut t, false);
-    meeting(&mut t, &mut sheet);
+    announcing::fresh::fresh(&mut t, &mut board, false);
+    meeting(&mut t, &mut board, &mut sheet);
 }

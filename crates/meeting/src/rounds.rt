@@ -13,18 +13,18 @@ pub struct Sent {
 }
 
 // A client writes on the innermost box, and another looks at the main revision.
-fn write(t: &mut [u8], i: u32, revision: u8, tally: Tally) -> Tally {
-    let entered = enters(t, (i % 16) as u8, revision, i, tally);
-    looks(t, ((i % 16 + 8) % 16) as u8, i, entered)
+fn write(t: &mut [u8], board: &mut [u8], i: u32, revision: u8, tally: Tally) -> Tally {
+    let entered = enters(t, board, (i % 16) as u8, revision, i, tally);
+    looks(t, board, ((i % 16 + 8) % 16) as u8, i, entered)
 }
 
 // Every third round the middle box is handed in at once too.
-fn fold(t: &mut [u8], i: u32, outer: u8, middle: u8, tally: Tally) -> Sent {
+fn fold(t: &mut [u8], board: &mut [u8], i: u32, outer: u8, middle: u8, tally: Tally) -> Sent {
     if i % 3 == 0 {
         return Sent {
             sender: outer,
             nested: 0,
-            tally: joins(t, outer, middle, tally),
+            tally: joins(t, board, outer, middle, tally),
         };
     }
     Sent {
@@ -56,23 +56,23 @@ fn three(t: &mut [u8], tally: Tally) -> Boxes {
 }
 
 // The innermost of three is handed in at once.
-pub fn send(t: &mut [u8], i: u32, tally: Tally) -> Sent {
+pub fn send(t: &mut [u8], board: &mut [u8], i: u32, tally: Tally) -> Sent {
     let boxes = three(t, tally);
-    let written = write(t, i, boxes.inner, boxes.tally);
-    let joined = joins(t, boxes.middle, boxes.inner, written);
-    fold(t, i, boxes.outer, boxes.middle, joined)
+    let written = write(t, board, i, boxes.inner, boxes.tally);
+    let joined = joins(t, board, boxes.middle, boxes.inner, written);
+    fold(t, board, i, boxes.outer, boxes.middle, joined)
 }
 
 // A late box comes in. 0 is none.
-fn late(t: &mut [u8], revision: u8, tally: Tally) -> Tally {
+fn late(t: &mut [u8], board: &mut [u8], revision: u8, tally: Tally) -> Tally {
     if revision == 0 {
         return tally;
     }
-    joins(t, 0, revision, tally)
+    joins(t, board, 0, revision, tally)
 }
 
 // The sender comes in before the box that it sent.
-pub fn receive(t: &mut [u8], sender: u8, nested: u8, tally: Tally) -> Tally {
-    let heard = late(t, sender, tally);
-    late(t, nested, heard)
+pub fn receive(t: &mut [u8], board: &mut [u8], sender: u8, nested: u8, tally: Tally) -> Tally {
+    let heard = late(t, board, sender, tally);
+    late(t, board, nested, heard)
 }

@@ -11,6 +11,7 @@ use Rattle.lists.proofs.Cases.{cases, or-false}
 use Rattle.bundles.specs.declared.entry.Entry.{Entry}
 use Rattle.bundles.specs.Records.{entryAt}
 use Rattle.bundles.proofs.First.{first-entry}
+use Rattle.boards.specs.Board.{boardBytes}
 use Rattle.desk.specs.Calls.{Call, Update, Yield, Records, Entries, Batch, entriesOf, isWrongBatch}
 use Rattle.desk.specs.Checks.{checks}
 use Rattle.desk.proofs.Checks.{Ends, no, yes, ends}
@@ -40,7 +41,7 @@ after-bundled p o z = cases (eqb (o .answer .code) 0) (λ q. (eqb-true _ 0 q, rw
 module _ (c n : ℕ) where
   pub sent-never : (es : List Entry) (p : PlainDay) → sent p c n es .answer .code ≡ 1 → ⊥
   unfolding sent called
-  sent-never [] p = one-never p (Yield c) refl
+  sent-never [] p = one-never p (Yield c boardBytes) refl
   sent-never (e ∷ es) p = after-code (called p (Update c n (e .kind) (e .bib) (e .v))) (λ q. sent q c n es) (one-never p (Update c n (e .kind) (e .bib) (e .v)) refl) (λ q. sent-never es q)
 
   -- the first is taken, and then the others are sent

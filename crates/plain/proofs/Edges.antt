@@ -22,11 +22,11 @@ use Rattle.diagram.specs.Day.{nextNumber, isGiven, isNamed, markNamed, meant}
 use Rattle.diagram.specs.Checks.{unknownClient, marked, badName, openElsewhere, busyByOther, busy, stale, logFull, noneLeft, notJoinable}
 use Rattle.diagram.specs.Steps.{after}
 use Rattle.diagram.specs.Examples.{withCounts}
-use Rattle.desk.specs.Calls.{Call, Update, Query, Yield, Fork, Join, Bundle, Entries, level}
+use Rattle.desk.specs.Calls.{Call, Update, Query, Fork, level}
 use Rattle.entries.specs.declared.entry.Entry.{Entry}
 use Rattle.plain.specs.Record.{Line, PlainDay, freshDay}
 use Rattle.plain.specs.Answers.{called, sent, dayFrom, dayAfter, answersFrom, answers}
-use Rattle.plain.specs.Edges.{edges, codes, reused, marks, onLine, orders, said, expected, computed, ok, refusal, neither, filled, list, fill, lent, sends, small, unknownBib}
+use Rattle.plain.specs.Edges.{edges, codes, reused, marks, onLine, orders, boards, said, expected, computed, ok, refusal, neither, filled, list, fill, yield, join, lent, sends, lends, small, unknownBib}
 
 pub edges-hold : computed false edges ≡ expected edges
 unfolding called answersFrom answers after leads tabulate isGiven meant isNamed markNamed nextNumber fourLetters unknownClient marked badName openElsewhere busyByOther busy anyBelow stale logFull noneLeft notJoinable revisionLimit clientLimit updateLimit kindCheck effect earliest penalized stateOf valueIn applied sent entriesIn entriesFrom isWrong number
@@ -53,28 +53,32 @@ unfolding called answersFrom answers after leads tabulate isGiven meant isNamed 
     fits isComplete noOther noneTwice inOrder rises placeFrom isBadList numbersIn numbersOf fileOf
 orders-hold = refl
 
+pub boards-hold : computed false boards ≡ expected boards
+unfolding called answersFrom answers after leads tabulate isGiven meant isNamed markNamed nextNumber fourLetters unknownClient marked badName openElsewhere busyByOther busy anyBelow stale logFull noneLeft notJoinable revisionLimit clientLimit updateLimit kindCheck effect earliest penalized stateOf valueIn applied sent entriesIn entriesFrom isWrong number
+boards-hold = refl
+
 -- the fresh day, but with this many updates taken and boxes sent
 abbrev counted : ℕ → ℕ → PlainDay
 counted updates revisions = record { single = false; day = withCounts updates revisions; entries = freshDay false .entries }
 
 -- 9 once 4,096 updates are taken, after 8; and not before
-log-full : said (answersFrom (counted 4095 1) (Fork 0 ∷ Update 0 0 1 7 5 ∷ Yield 0 ∷ Update 0 1 1 7 5 ∷ Update 0 0 1 7 5 ∷ Query 0 0 8 ∷ []))
+log-full : said (answersFrom (counted 4095 1) (Fork 0 ∷ Update 0 0 1 7 5 ∷ yield 0 ∷ Update 0 1 1 7 5 ∷ Update 0 0 1 7 5 ∷ Query 0 0 8 ∷ []))
     ≡ ok 1 ∷ ok 4095 ∷ ok 0 ∷ refusal 8 ∷ refusal 9 ∷ neither ∷ []
 unfolding called answersFrom answers after leads tabulate isGiven meant isNamed markNamed nextNumber fourLetters unknownClient marked badName openElsewhere busyByOther busy anyBelow stale logFull noneLeft notJoinable revisionLimit clientLimit updateLimit kindCheck effect earliest penalized stateOf valueIn applied sent entriesIn entriesFrom isWrong number
 log-full = refl
 
 -- 10 once 64 boxes are started, after 3 and 7; and not before
-none-left : said (answersFrom (counted 0 63) (Fork 0 ∷ Fork 64 ∷ Query 0 0 7 ∷ Fork 0 ∷ Yield 0 ∷ Fork 0 ∷ []))
+none-left : said (answersFrom (counted 0 63) (Fork 0 ∷ Fork 64 ∷ Query 0 0 7 ∷ Fork 0 ∷ yield 0 ∷ Fork 0 ∷ []))
     ≡ ok 63 ∷ refusal 3 ∷ neither ∷ refusal 7 ∷ ok 0 ∷ refusal 10 ∷ []
 unfolding called answersFrom answers after leads tabulate isGiven meant isNamed markNamed nextNumber fourLetters unknownClient marked badName openElsewhere busyByOther busy anyBelow stale logFull noneLeft notJoinable revisionLimit clientLimit updateLimit kindCheck effect earliest penalized stateOf valueIn applied sent entriesIn entriesFrom isWrong number
 none-left = refl
 
 -- the joinee's update 1 is listed behind the joiner's update 2, each with its number and as it was entered
 abbrev apart : List (Call ℕ)
-apart = Update 2 0 1 7 61000 ∷ Yield 2 ∷ Fork 0 ∷ Update 1 1 3 999 5 ∷ Yield 1 ∷ Update 3 0 4 8 6 ∷ Yield 3 ∷ []
+apart = Update 2 0 1 7 61000 ∷ yield 2 ∷ Fork 0 ∷ Update 1 1 3 999 5 ∷ yield 1 ∷ Update 3 0 4 8 6 ∷ yield 3 ∷ []
 
 abbrev joining : List (Call ℕ)
-joining = apart ++ (Join 0 1 ∷ [])
+joining = apart ++ (join 0 1 ∷ [])
 
 abbrev entered : Entry → ℕ → Line
 entered e n = record { entry = e; number = n }
@@ -106,7 +110,7 @@ unfolding called answersFrom answers after leads tabulate isGiven meant isNamed 
 most-records = refl
 
 -- and so are 65 entries of a lent list
-most-entries : said (answersFrom (freshDay false) (Bundle 0 0 (Entries (replicate 65 (lent 1 7 5))) ∷ Bundle 0 0 (Entries (replicate 64 (lent 1 7 5))) ∷ fill 0 ∷ []))
+most-entries : said (answersFrom (freshDay false) (lends 0 0 ((replicate 65 (lent 1 7 5))) ∷ lends 0 0 ((replicate 64 (lent 1 7 5))) ∷ fill 0 ∷ []))
     ≡ refusal 14 ∷ ok 0 ∷ filled 64 64 ∷ []
 unfolding called answersFrom answers after leads tabulate isGiven meant isNamed markNamed nextNumber fourLetters unknownClient marked badName openElsewhere busyByOther busy anyBelow stale logFull noneLeft notJoinable revisionLimit clientLimit updateLimit kindCheck effect earliest penalized stateOf valueIn applied sent entriesIn entriesFrom isWrong number
 most-entries = refl

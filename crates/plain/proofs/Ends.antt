@@ -2,16 +2,17 @@
 use Prim.Native.Nat.{ℕ}
 use mathlib.Core.Bool.{true, false, not, _&&_, _||_, true≢false}
 use mathlib.Core.Path.{_≡_, refl}
-use mathlib.Core.Option.{Option, none, some}
+use mathlib.Core.Option.{none, some}
 use lib.Dec.{eqb}
-use borrow.Author.Tests.{not-false}
+use borrow.Author.Tests.{eqb-true, not-false}
 use Rattle.lists.specs.Names.{Name}
 use Rattle.lists.proofs.Cases.{or-false}
 use Rattle.updates.specs.declared.kind.KindCheck.{KindCheck}
 use Rattle.updates.specs.declared.kind.KindCheck.the-variants.{Known, Unknown}
 use Rattle.updates.specs.Kinds.{badBib, badKind, isUnknown, kindCheck, kindIn, kindOf}
+use Rattle.boards.specs.Board.{boardBytes, isWrongBoard}
 use Rattle.desk.specs.Calls.{Call, Update, Query, Yield, Fork, Join, Mark, Drop, Looks, Preview}
-use Rattle.desk.specs.Checks.{checks}
+use Rattle.desk.specs.Checks.{checks, joinChecks}
 use Rattle.desk.proofs.Checks as Rows
 use Rattle.desk.proofs.Checks.{Passed, _also_, took}
 use Rattle.diagram.specs.Day.{Day, Means, isGiven, markNamed, meant}
@@ -34,6 +35,10 @@ Passes p c = Passed (checks (asked p) c)
 pub was-taken : (p : PlainDay) (c : Call ℕ) → called p c .answer .code ≡ 0 → Passes p c × (called p c ≡ ending p c)
 unfolding called
 was-taken p c e = let t = took (λ (o : Outcome). o .answer .code) (refused p) (λ k. refl) (asked p) c (ending p c) e in (t .passed, t .is)
+
+-- 19 does not apply to a board of the right length alone
+pub right-board : (room : ℕ) → isWrongBoard room ≡ false → room ≡ boardBytes
+right-board room e = eqb-true room boardBytes (not-false _ e)
 
 -- a byte that is no unknown kind is its kind
 is-kind : (k : KindCheck) → isUnknown k ≡ false → k ≡ Known (kindIn k)
@@ -66,8 +71,8 @@ module _ (p : PlainDay) where
   pub query-accepts : (c n bib : ℕ) → Passes p (Query c n bib) → accepted y (Steps.Event c (meant y n) false) ≡ true
   query-accepts c n bib (e1 also e2 also e3 also e4 also e16 also e5 also e6 also e7 also e8 also Rows.none) = accept-event y c (meant y n) false e2 (known n e3) e4 e16 e6 e7 e8 refl
 
-  pub yield-accepts : (c : ℕ) → Passes p (Yield c) → accepted y (Steps.Yield c) ≡ true
-  yield-accepts c (e1 also e2 also Rows.none) = accept-yield y c e2
+  pub yield-accepts : (c room : ℕ) → Passes p (Yield c room) → accepted y (Steps.Yield c) ≡ true
+  yield-accepts c room (e1 also e19 also e2 also Rows.none) = accept-yield y c e2
 
   pub fork-accepts : (n : ℕ) → Passes p (Fork n) → accepted y (Steps.Fork (meant y n) none) ≡ true
   fork-accepts n (e1 also e3 also e4 also e15 also e7 also e10 also Rows.none) = accept-fork y (meant y n) none (known n e3) e4 e7 e10 refl
@@ -95,10 +100,21 @@ module _ (p : PlainDay) where
       let i = or-false (busy y (meant y n)) (busy y (meant y m)) e7 in
       record { joiner = not-false (isGiven y n) (g .0); joinee = not-false (isGiven y m) (g .1); on-line = e15; accepts = accept-join y (meant y n) (meant y m) (known n (g .0)) (known m (g .1)) (o .0) (o .1) (k .0) (k .1) (i .0) (i .1) e11 }
 
-  pub join-passes : (n m : ℕ) → Passes p (Join n m) → Joins n m
-  join-passes n m (e1 also e3 also e4 also e15 also e16 also e7 also e11 also Rows.none) = joins-by n m e3 e4 e15 e16 e7 e11
+  -- the checks of a join, those of its table and board apart
+  abbrev pub BoxesPass : ℕ → ℕ → Type 0
+  BoxesPass n m = Passed (joinChecks (asked p) n m)
 
-  -- a preview's row has the join's
-  pub preview-passes : (n m bib : ℕ) → Passes p (Looks (Preview n m bib)) → Passes p (Join n m) × (badBib bib ≡ false)
+  pub join-passes : (n m : ℕ) → BoxesPass n m → Joins n m
+  join-passes n m (e3 also e4 also e15 also e16 also e7 also e11 also Rows.none) = joins-by n m e3 e4 e15 e16 e7 e11
+
+  -- they are in the row of a join, and of a sync, which is that of a join into box 0
+  pub boxes-pass : (n m room : ℕ) → Passes p (Join n m room) → BoxesPass n m
+  boxes-pass n m room (e1 also e19 also P) = P
+
+  pub board-passes : (n m room : ℕ) → Passes p (Join n m room) → room ≡ boardBytes
+  board-passes n m room (e1 also e19 also P) = right-board room e19
+
+  -- and in that of a preview
+  pub preview-passes : (n m bib : ℕ) → Passes p (Looks (Preview n m bib)) → BoxesPass n m × (badBib bib ≡ false)
   preview-passes n m bib (e1 also e3 also e4 also e15 also e16 also e7 also e11 also e5 also Rows.none) =
-      (e1 also e3 also e4 also e15 also e16 also e7 also e11 also Rows.none, e5)
+      (e3 also e4 also e15 also e16 also e7 also e11 also Rows.none, e5)

@@ -18,6 +18,7 @@ use Rattle.bundles.specs.declared.entry.Entry.{Entry}
 use Rattle.bundles.specs.Records.{isWrong}
 use Rattle.orderfile.specs.File.{count, offset, isBadList}
 use Rattle.orderfile.proofs.Numbers.{good-fits}
+use Rattle.boards.specs.Board.{boardBytes, isWrongBoard}
 use Rattle.desk.specs.Calls.{Batch, Call, Update, Query, Yield, Fork, Join, Sync, Mark, Drop, Bundle, Looks, Show, Fill, Preview, Verify, Entries, Records, entriesOf, isWrongBatch}
 use Rattle.desk.specs.Checks.{checks}
 use Rattle.desk.proofs.Checks as Rows
@@ -36,11 +37,11 @@ use Rattle.diagram.proofs.Order.Reuse.{by-numbers}
 use Rattle.diagram.proofs.Order.Single.{main-run, syncs-go-on}
 use Rattle.diagram.proofs.Order.Runs.{accepted-both, accepted-rest, fine-run}
 use Rattle.plain.specs.Record.{PlainDay}
-use Rattle.plain.specs.Answers.{Outcome, asOne, asked, called, dayAfter, ending, joined, refused, sent}
+use Rattle.plain.specs.Answers.{Outcome, asOne, asked, called, dayAfter, ending, joined, refused, sent, synced}
 use Rattle.plain.specs.Bundles.{AllTaken, parts}
 use Rattle.plain.specs.Taken.{bundleSteps, endOf, stepsAfter}
-use Rattle.plain.specs.Allowed.{Allowed, AreEntries, IsBatch, IsBib, IsKind, IsList, JoinAllowed, Meaning, OnLine}
-use Rattle.plain.proofs.Ends.{Joins, Passes, drop-accepts, fork-accepts, mark-accepts, given, join-passes, known-kind, means, preview-passes, query-accepts, update-accepts, was-taken, yield-accepts}
+use Rattle.plain.specs.Allowed.{Allowed, AreEntries, IsBatch, IsBib, IsBoard, IsKind, IsList, JoinAllowed, Meaning, OnLine}
+use Rattle.plain.proofs.Ends.{BoxesPass, Joins, Passes, board-passes, boxes-pass, drop-accepts, fork-accepts, mark-accepts, given, join-passes, known-kind, means, preview-passes, query-accepts, right-board, update-accepts, was-taken, yield-accepts}
 use Rattle.plain.proofs.Bundles.{after-bundled, first-of, parts-sent, sent-parts}
 use Rattle.plain.proofs.Steps.{all-accepted, marks-after, same-choice, same-day, sent-ran}
 
@@ -92,6 +93,10 @@ batch-good (Records bytes) (n, l, a, b) =
     rw (r, q, ne-eqb n 0 (λ e. omega arith), le-ltb 64 n b)
 batch-good (Entries es) (a, b) = rw (ne-eqb (length es) 0 (λ e. omega arith), le-ltb 64 (length es) b)
 
+-- 19
+board-good : (room : ℕ) → IsBoard room → isWrongBoard room ≡ false
+board-good room e = rw e
+
 -- 21
 good-list : (file : List ℕ) → isBadList file ≡ false → IsList file
 good-list file e = let g = good-fits file e in (omega arith, g .0, g .1)
@@ -135,7 +140,7 @@ good-entries (e ∷ es) p c n T =
 
 all-taken : (es : List Entry) (p : PlainDay) (c n : ℕ) → not (isGiven (p .day) n) ≡ false → AreEntries es → AcceptedFrom (p .day) (bundleSteps c (meant (p .day) n) es) → AllTaken p (parts c n es)
 unfolding isGiven meant after
-all-taken [] p c n g G A = (passed-on p (Yield c) (refl also yield-test (p .day) c (A .0) also Rows.none), tt)
+all-taken [] p c n g G A = (passed-on p (Yield c boardBytes) (refl also refl also yield-test (p .day) c (A .0) also Rows.none), tt)
 all-taken (e ∷ es) p c n g G A =
     let is = passed-is p (Update c n (e .kind) (e .bib) (e .v)) (update-row p c n (e .kind) (e .bib) (e .v) g (G .0, G .1) (A .0)) in
     (ap (λ (o : Outcome). o .answer .code) is, subst (λ (o : Outcome). AllTaken (o .next) (parts c n es)) (sym is) (all-taken es _ c n g (G .2) (A .1)))
@@ -189,28 +194,31 @@ module _ (single : Bool) (before : List (Call ℕ)) where
   join-means : (n m : ℕ) → Joins p n m → JoinAllowed single before n m
   join-means n m J = (record { given = J .joiner; holds = record { given = J .joinee; holds = follows _ (J .accepts) } }, on-line n (J .on-line))
 
-  bundle-means : (c n : ℕ) (batch : Batch) → isWrongBatch batch ≡ false → sent p c n (entriesOf batch) .answer .code ≡ 0 → Allowed single before (Bundle c n batch)
-  bundle-means c n batch e z =
+  join-lent : (n m room : ℕ) → Passes p (Join n m room) → JoinAllowed single before n m × IsBoard room
+  join-lent n m room P = (join-means n m (join-passes p n m (boxes-pass p n m room P)), board-passes p n m room P)
+
+  bundle-means : (c n : ℕ) (batch : Batch) (room : ℕ) → isWrongBatch batch ≡ false → isWrongBoard room ≡ false → sent p c n (entriesOf batch) .answer .code ≡ 0 → Allowed single before (Bundle c n batch room)
+  bundle-means c n batch room e b z =
       let es = entriesOf batch in
       let T = sent-parts c n es p z .0 in
       let f = first-of batch e in
       let g = was-taken p (Update c n (f .0 .kind) (f .0 .bib) (f .0 .v)) (subst (λ es. AllTaken p (parts c n es)) (f .2) T .0) .0 in
       let A = sent-ran c n (meant y n) es p refl z .accepts in
-      (good-batch batch e, good-entries es p c n T, meaning n (update-given p c n (f .0 .kind) (f .0 .bib) (f .0 .v) g) (runs-exactly (ss ++ bundleSteps c (meant y n) es) .0 (longer (bundleSteps c (meant y n) es) A)))
+      (good-batch batch e, right-board room b, good-entries es p c n T, meaning n (update-given p c n (f .0 .kind) (f .0 .bib) (f .0 .v) g) (runs-exactly (ss ++ bundleSteps c (meant y n) es) .0 (longer (bundleSteps c (meant y n) es) A)))
 
   passed-allowed : (c : Call ℕ) → Passes p c → ending p c .answer .code ≡ 0 → Allowed single before c
   passed-allowed (Update c n k bib v) P z = let i = update-entry p c n k bib v P in (meaning n (update-given p c n k bib v P) (follows _ (update-accepts p c n k bib v P)), i .0, i .1)
   passed-allowed (Query c n bib) (e1 also e2 also e3 also e4 also e16 also e5 also P) z =
       (meaning n e3 (follows _ (query-accepts p c n bib (e1 also e2 also e3 also e4 also e16 also e5 also P))), good-bib bib e5)
-  passed-allowed (Yield c) P z = follows _ (yield-accepts p c P)
+  passed-allowed (Yield c room) (e1 also e19 also P) z = (follows _ (yield-accepts p c room (e1 also e19 also P)), right-board room e19)
   passed-allowed (Fork n) (e1 also e3 also e4 also e15 also P) z = (meaning n e3 (follows _ (fork-accepts p n (e1 also e3 also e4 also e15 also P))), on-line n e15)
-  passed-allowed (Join n m) P z = join-means n m (join-passes p n m P)
-  passed-allowed (Sync m) P z = join-means 0 m (join-passes p 0 m P)
+  passed-allowed (Join n m room) P z = join-lent n m room P
+  passed-allowed (Sync m room) P z = join-lent 0 m room P
   passed-allowed (Mark n name) (e1 also e3 also e4 also e15 also P) z =
       (meaning n e3 (follows _ (mark-accepts p n name (e1 also e3 also e4 also e15 also P))), sym (same-choice single before) ∙ e15)
   passed-allowed (Drop name) (e1 also e18 also Rows.none) z =
       (markNamed y name, named-is y name (not-false _ e18), follows _ (drop-accepts p (marks-after single before) name (e1 also e18 also Rows.none)))
-  passed-allowed (Bundle c n batch) (e1 also e14 also Rows.none) z = bundle-means c n batch e14 (after-bundled p (sent p c n (entriesOf batch)) z .0)
+  passed-allowed (Bundle c n batch room) (e1 also e14 also e19 also Rows.none) z = bundle-means c n batch room e14 e19 (after-bundled p (sent p c n (entriesOf batch)) z .0)
   passed-allowed (Looks (Show n room)) (e1 also e3 also e4 also e7 also e12 also Rows.none) z = meaning n e3 (record { out = (is-out n e3, e4); idle = busy-idle y fine (meant y n) .0 e7; fits = ltb-false room _ e12 })
   passed-allowed (Looks (Fill n)) (e1 also e3 also e4 also Rows.none) z = meaning n e3 (is-out n e3, e4)
   passed-allowed (Looks (Preview n m bib)) P z = let q = preview-passes p n m bib P in (join-means n m (join-passes p n m (q .0)), good-bib bib (q .1))
@@ -220,10 +228,10 @@ module _ (single : Bool) (before : List (Call ℕ)) where
   taken-allowed c e = let w = was-taken p c e in passed-allowed c (w .0) (rw (w .1) at e)
 
   -- a call that is allowed is taken
-  join-row : (n m : ℕ) → JoinAllowed single before n m → Passes p (Join n m)
+  join-row : (n m : ℕ) → JoinAllowed single before n m → BoxesPass p n m
   join-row n m A =
       let t = join-tests y (meant y n) (meant y m) (passes _ (A .0 .holds .holds)) in
-      refl also neither (given (A .0)) (given (A .0 .holds)) also neither (t .0) (t .1) also line-on n (A .1) also neither (t .2) (t .3) also neither (t .4) (t .5) also t .6 also Rows.none
+      neither (given (A .0)) (given (A .0 .holds)) also neither (t .0) (t .1) also line-on n (A .1) also neither (t .2) (t .3) also neither (t .4) (t .5) also t .6 also Rows.none
 
   -- box 0 is the main revision, after every list of calls
   pub main-means : Means y 0 0
@@ -236,7 +244,7 @@ module _ (single : Bool) (before : List (Call ℕ)) where
   fork-after : (b : ℕ) → accepted y (Steps.Join 0 b) ≡ true → accepted (after y (Steps.Join 0 b)) (Steps.Fork 0 none) ≡ true
   fork-after b = subst (λ y. accepted y (Steps.Join 0 b) ≡ true → accepted (after y (Steps.Join 0 b)) (Steps.Fork 0 none) ≡ true) (sym (same-day single before)) (syncs-go-on ss (all-accepted single before) b)
 
-  pub sync-forks : (m : ℕ) → Passes p (Join 0 m) → Passes (joined p 0 m .next) (Fork 0)
+  pub sync-forks : (m : ℕ) → BoxesPass p 0 m → Passes (joined p 0 m .next) (Fork 0)
   unfolding isGiven meant after
   sync-forks m P =
       let a = join-passes p 0 m P .accepts in
@@ -244,7 +252,7 @@ module _ (single : Bool) (before : List (Call ℕ)) where
       let t = fork-tests _ (meant y 0) none (subst (λ r. accepted (after y (Steps.Join r (meant y m))) (Steps.Fork r none) ≡ true) (sym (main-means .1)) f) in
       refl also ap not (main-means .0) also t .0 also and-false (p .single) also t .1 also t .2 also Rows.none
 
-  pub sync-ends : (m : ℕ) → Passes p (Join 0 m) → ending p (Sync m) ≡ called (joined p 0 m .next) (Fork 0)
+  pub sync-ends : (m : ℕ) → BoxesPass p 0 m → synced p m ≡ called (joined p 0 m .next) (Fork 0)
   unfolding called
   sync-ends m P = let is = passed-is (joined p 0 m .next) (Fork 0) (sync-forks m P) in ap (asOne p) is ∙ sym is
 
@@ -253,7 +261,7 @@ module _ (single : Bool) (before : List (Call ℕ)) where
   allowed-taken (Query c n bib) A =
       let t = event-tests y c (meant y n) false (passes _ (A .0 .holds)) in
       passed-on p (Query c n bib) (refl also t .0 also given (A .0) also t .1 also t .2 also bib-good bib (A .1) also t .3 also t .4 also t .5 also Rows.none)
-  allowed-taken (Yield c) A = passed-on p (Yield c) (refl also yield-test y c (passes _ A) also Rows.none)
+  allowed-taken (Yield c room) A = passed-on p (Yield c room) (refl also board-good room (A .1) also yield-test y c (passes _ (A .0)) also Rows.none)
   allowed-taken (Fork n) A =
       let t = fork-tests y (meant y n) none (passes _ (A .0 .holds)) in
       passed-on p (Fork n) (refl also given (A .0) also t .0 also line-on n (A .1) also t .1 also t .2 also Rows.none)
@@ -261,17 +269,17 @@ module _ (single : Bool) (before : List (Call ℕ)) where
       let t = fork-tests y (meant y n) (some name) (passes _ (A .0 .holds)) in
       passed-on p (Mark n name) (refl also given (A .0) also t .0 also (same-choice single before ∙ A .1) also t .1 also t .2 also t .3 also Rows.none)
   allowed-taken (Drop name) A = passed-on p (Drop name) (refl also ap not (in-use y (marks-after single before) name (A .0) (A .1)) also Rows.none)
-  allowed-taken (Join n m) A = passed-on p (Join n m) (join-row n m A)
-  allowed-taken (Sync m) A = let P = join-row 0 m A in passed-on p (Sync m) P ∙ ap (λ o. o .answer .code) (sync-ends m P ∙ passed-is _ (Fork 0) (sync-forks m P))
-  allowed-taken (Bundle c n batch) A =
+  allowed-taken (Join n m room) A = passed-on p (Join n m room) (refl also board-good room (A .1) also join-row n m (A .0))
+  allowed-taken (Sync m room) A = let P = join-row 0 m (A .0) in passed-on p (Sync m room) (refl also board-good room (A .1) also P) ∙ ap (λ o. o .answer .code) (sync-ends m P ∙ passed-is _ (Fork 0) (sync-forks m P))
+  allowed-taken (Bundle c n batch room) A =
       let steps = bundleSteps c (meant y n) (entriesOf batch) in
-      let T = all-taken (entriesOf batch) p c n (given (A .2)) (A .1) (shorter steps (runs-exactly (ss ++ steps) .1 (A .2 .holds))) in
-      passed-on p (Bundle c n batch) (refl also batch-good batch (A .0) also Rows.none) ∙ rw (parts-sent c n (entriesOf batch) p T)
+      let T = all-taken (entriesOf batch) p c n (given (A .3)) (A .2) (shorter steps (runs-exactly (ss ++ steps) .1 (A .3 .holds))) in
+      passed-on p (Bundle c n batch room) (refl also batch-good batch (A .0) also board-good room (A .1) also Rows.none) ∙ rw (parts-sent c n (entriesOf batch) p T)
   allowed-taken (Looks (Show n room)) A =
       let t = A .holds in
       passed-on p (Looks (Show n room)) (refl also given A also t .out .1 also busy-idle y fine (meant y n) .1 (t .idle) also le-ltb room _ (t .fits) also Rows.none)
   allowed-taken (Looks (Fill n)) A = passed-on p (Looks (Fill n)) (refl also given A also A .holds .1 also Rows.none)
-  allowed-taken (Looks (Preview n m bib)) A = passed-on p (Looks (Preview n m bib)) (passed-both (join-row n m (A .0)) (bib-good bib (A .1) also Rows.none))
+  allowed-taken (Looks (Preview n m bib)) A = passed-on p (Looks (Preview n m bib)) (refl also passed-both (join-row n m (A .0)) (bib-good bib (A .1) also Rows.none))
   allowed-taken (Looks (Verify file)) A = passed-on p (Looks (Verify file)) (refl also list-good file A also Rows.none)
 
   pub exactly : (c : Call ℕ) → (called p c .answer .code ≡ 0) ↔ Allowed single before c

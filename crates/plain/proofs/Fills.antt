@@ -65,13 +65,13 @@ bundle-enters c r (e ∷ es) = let z = bundle-enters c r es in omega arith
 steps-enter : (p : PlainDay) (c : Call ℕ) → updatesIn (stepOf p c) ≡ enters c
 steps-enter p (Update c n k bib v) = refl
 steps-enter p (Query c n bib) = refl
-steps-enter p (Yield c) = refl
+steps-enter p (Yield c room) = refl
 steps-enter p (Fork n) = refl
-steps-enter p (Join n m) = refl
-steps-enter p (Sync m) = refl
+steps-enter p (Join n m room) = refl
+steps-enter p (Sync m room) = refl
 steps-enter p (Mark n name) = refl
 steps-enter p (Drop name) = refl
-steps-enter p (Bundle c n batch) = bundle-enters c _ (entriesOf batch)
+steps-enter p (Bundle c n batch room) = bundle-enters c _ (entriesOf batch)
 steps-enter p (Looks l) = refl
 
 if-taken : (b : Bool) (ss : List Step) → updatesIn (cond b ss []) ≡ cond b (updatesIn ss) 0

@@ -1,4 +1,4 @@
--- The starred edges by computing, code 1, which does not arise, one line-up for every list of calls, previews, syncs, orders, and own updates that add up.
+-- The starred edges by computing, code 1, which does not arise, one line-up for every list of calls, previews, syncs, orders, own updates that add up, and right boards.
 pub mod Edges
 pub mod Ends
 pub mod Bundles
@@ -11,3 +11,5 @@ pub mod Marks
 pub mod Orders
 pub mod LineUp
 pub mod Fills
+pub mod Boards
+mod Announced

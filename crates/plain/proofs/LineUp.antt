@@ -6,6 +6,7 @@ use mathlib.Core.Option.{none, some}
 use mathlib.Core.List.{List, List·Memᴰ·head, List·Memᴰ·tail, [], _++_, _∷_, append-assoc, append-nil}
 use native.Mathlib.Omega.{arith}
 use lib.ListN.{length}
+use Rattle.boards.specs.Board.{boardBytes}
 use Rattle.desk.specs.Calls.{Bundle, Call, Fork, Join, Looks, Query, Show, Sync, Update, Batch, entriesOf, isWrongBatch}
 use Rattle.desk.proofs.Checks.{_also_}
 use Rattle.diagram.proofs.Days.Naming.{meant-low}
@@ -25,14 +26,13 @@ use Rattle.diagram.specs.Arbitration.{Explains, Extends, Shows, WholeAt}
 use Rattle.diagram.specs.Checks.{busy}
 use Rattle.diagram.specs.Day.{Day, IsOut, meant}
 use Rattle.diagram.specs.Effects.{entry, number, view}
-use Rattle.diagram.specs.Steps as Steps
 use Rattle.diagram.specs.Steps.{Event, Step, after, run}
 use Rattle.diagram.specs.Accepted.{Accepted}
 use Rattle.lists.proofs.Blocks.{flat-from}
 use Rattle.lists.proofs.Changed.{changed-same}
 use Rattle.lists.specs.Lists.{_∈_}
 use Rattle.plain.proofs.Bundles.{after-bundled, first-of, sent-parts}
-use Rattle.plain.proofs.Ends.{Passes, means, was-taken}
+use Rattle.plain.proofs.Ends.{Passes, means, right-board, was-taken}
 use Rattle.plain.proofs.Exactly.{exactly}
 use Rattle.plain.proofs.Values.{fill-value, fork-none, fork-takes, fork-value, join-value}
 use Rattle.plain.proofs.Previews.{foresees}
@@ -78,8 +78,8 @@ grows-from (c ∷ cs) p M F =
 show-idle : (p : PlainDay) (n room : ℕ) → Passes p (Looks (Show n room)) → IsOut (p .day) (meant (p .day) n) × (busy (p .day) (meant (p .day) n) ≡ false)
 show-idle p n room (e1 also e3 also e4 also e7 also P) = ((meant-low (p .day) n (meant (p .day) n) (means p n e3), e4), e7)
 
-bundle-right : (p : PlainDay) (c n : ℕ) (batch : Batch) → Passes p (Bundle c n batch) → isWrongBatch batch ≡ false
-bundle-right p c n batch (e1 also e14 also P) = e14
+bundle-right : (p : PlainDay) (c n : ℕ) (batch : Batch) (room : ℕ) → Passes p (Bundle c n batch room) → (isWrongBatch batch ≡ false) × (room ≡ boardBytes)
+bundle-right p c n batch room (e1 also e14 also e19 also P) = (e14, right-board room e19)
 
 module _ (single : Bool) (cs : List (Call ℕ)) where
   abbrev A : Arbitration (stepsAfter single cs)
@@ -234,17 +234,18 @@ module _ (single : Bool) (cs : List (Call ℕ)) where
       marks : Marks (next .day)
       marks = subst (λ o. Marks (o .next .day)) is (marks-next q (marks-after single before) (Update c r k bib v))
 
-  bundles : (before rest : List (Call ℕ)) (c n : ℕ) (batch : Batch) → Taken single cs before (Bundle c n batch) rest → Bundled single before c n batch
-  bundles before rest c n batch T =
+  bundles : (before rest : List (Call ℕ)) (c n : ℕ) (batch : Batch) (room : ℕ) → Taken single cs before (Bundle c n batch room) rest → Bundled single before c n batch room
+  bundles before rest c n batch room T =
       let q = dayAfter single before in
-      let w = was-taken q (Bundle c n batch) (T .code) in
-      let right = bundle-right q c n batch (w .0) in
+      let w = was-taken q (Bundle c n batch room) (T .code) in
+      let right = bundle-right q c n batch room (w .0) in
       let b = after-bundled q (sent q c n (entriesOf batch)) (rw (w .1) at (T .code)) in
       let s = sent-parts c n (entriesOf batch) q (b .0) in
-      let f = first-of batch right in
+      let f = first-of batch (right .0) in
       let first = subst (λ es. AllTaken q (parts c n es)) (f .2) (s .0) .0 in
       record {
-        right = right;
+        right = right .0;
+        board = right .1;
         each = s .0;
         day = ap (λ o. o .next) (w .1 ∙ b .1) ∙ s .1;
         first = f .0;
@@ -253,19 +254,22 @@ module _ (single : Bool) (cs : List (Call ℕ)) where
         value = ap (λ o. o .answer .value) (w .1 ∙ b .1) ∙ sym (ap (λ o. o .answer .value) (was-taken q (Update c n (f .0 .kind) (f .0 .bib) (f .0 .v)) first .1));
       }
 
-  unbundled : (before rest : List (Call ℕ)) (c n : ℕ) (batch : Batch) → Taken single cs before (Bundle c n batch) rest → dayAfter single cs ≡ dayAfter single (before ++ (parts c n (entriesOf batch) ++ rest))
+  unbundled : (before rest : List (Call ℕ)) (c n : ℕ) (batch : Batch) (room : ℕ) → Taken single cs before (Bundle c n batch room) rest → dayAfter single cs ≡ dayAfter single (before ++ (parts c n (entriesOf batch) ++ rest))
   unfolding dayFrom dayAfter
-  unbundled before rest c n batch T =
-      day-is before (Bundle c n batch) rest T
-      ∙ ap (λ p. dayFrom p rest) (bundles before rest c n batch T .day)
+  unbundled before rest c n batch room T =
+      day-is before (Bundle c n batch room) rest T
+      ∙ ap (λ p. dayFrom p rest) (bundles before rest c n batch room T .day)
       ∙ sym (day-both before (parts c n (entriesOf batch) ++ rest) (freshDay single) ∙ day-both (parts c n (entriesOf batch)) rest (dayAfter single before))
 
-  unsynced : (before rest : List (Call ℕ)) (m : ℕ) → Taken single cs before (Sync m) rest → dayAfter single cs ≡ dayAfter single (before ++ (Join 0 m ∷ Fork 0 ∷ rest))
+  unsynced : (before rest : List (Call ℕ)) (m room : ℕ) → Taken single cs before (Sync m room) rest → dayAfter single cs ≡ dayAfter single (before ++ (Join 0 m room ∷ Fork 0 ∷ rest))
   unfolding dayFrom dayAfter
-  unsynced before rest m T =
-      day-is before (Sync m) rest T
-      ∙ ap (λ o. dayFrom (o .next) rest) (sync-is single before m (T .code) .is)
-      ∙ sym (ap (dayAfter single) (sym (append-assoc before (Join 0 m ∷ []) (Fork 0 ∷ rest))) ∙ day-both (before ++ (Join 0 m ∷ [])) (Fork 0 ∷ rest) (freshDay single))
+  unsynced before rest m room T =
+      let S = sync-is single before m room (T .code) in
+      let join = Join 0 m boardBytes in
+      day-is before (Sync m room) rest T
+      ∙ ap (λ o. dayFrom (o .next) rest) (S .is)
+      ∙ sym (ap (dayAfter single) (sym (append-assoc before (join ∷ []) (Fork 0 ∷ rest))) ∙ day-both (before ++ (join ∷ [])) (Fork 0 ∷ rest) (freshDay single))
+      ∙ ap (λ k. dayAfter single (before ++ (Join 0 m k ∷ Fork 0 ∷ rest))) (sym (S .board))
 
   pub lined-up : LineUp single cs
   lined-up = record {
@@ -283,7 +287,7 @@ module _ (single : Bool) (cs : List (Call ℕ)) where
     number-at = number-at;
     noted = noted-is;
     forked = λ before rest n T. fork-value single before n (named single before) (T .code);
-    gained = λ before rest n m T. join-value single before n m (T .code);
+    gained = λ before rest n m room T. join-value single before n m room (T .code);
     filled = λ before rest n T. fill-value single before n (T .code);
     unbundled = unbundled;
     bundles = bundles;
@@ -293,8 +297,8 @@ module _ (single : Bool) (cs : List (Call ℕ)) where
     lists = lists;
     previews = λ before rest n m bib T. foresees single before n m bib (T .code);
     unsynced = unsynced;
-    syncs = λ before rest m T. sync-is single before m (T .code);
-    never-ten = λ before rest m place. never-ten single before m;
+    syncs = λ before rest m room T. sync-is single before m room (T .code);
+    never-ten = λ before rest m room place. never-ten single before m room;
     single-main = λ e. on-single-main cs;
     marks = on-marks single cs;
     verified = λ before rest file T. verified single before file (T .code);

@@ -1,12 +1,11 @@
 -- What a taken mark and a taken drop are, and what comes of a mark (02, U9).
-use Prim.Native.Nat.{ℕ, _<_}
+use Prim.Native.Nat.{ℕ}
 use mathlib.Core.Bool.{Bool, true, false, true≢false}
 use mathlib.Core.Path.{_≡_, refl, sym, _∙_, ap, subst}
 use mathlib.Core.Option.{none, some}
 use mathlib.Core.List.{List, [], _∷_, _++_, append-assoc, append-nil}
-use native.Mathlib.Omega.{arith}
 use lib.Dec.{eqb}
-use borrow.Author.Tests.{eqb-false, eqb-true, not-false}
+use borrow.Author.Tests.{eqb-false, not-false}
 use Rattle.lists.specs.Names.{Name}
 use Rattle.lists.proofs.Cases.{cases}
 use Rattle.lists.proofs.Changed.{changed-other, changed-same}
@@ -16,7 +15,7 @@ use Rattle.desk.proofs.Checks.{_also_}
 use Rattle.diagram.specs.Day.{Day, IsOut, Means, isGiven, isNamed, markNamed, meant, numberOf}
 use Rattle.diagram.specs.Checks.{marked, notJoinable}
 use Rattle.diagram.specs.Steps as Steps
-use Rattle.diagram.specs.Steps.{Step, after, run}
+use Rattle.diagram.specs.Steps.{after, run}
 use Rattle.diagram.specs.Accepted.{accepted}
 use Rattle.diagram.specs.Marks.{FromMark, StartedAsMark}
 use Rattle.diagram.proofs.Days.Accepting.{join-tests}
@@ -27,10 +26,10 @@ use Rattle.diagram.proofs.Order.Constructed.{joinable-iff}
 use Rattle.diagram.proofs.Order.Marked.{by-marks}
 use Rattle.diagram.proofs.Order.Reuse.{by-numbers}
 use Rattle.plain.specs.Record.{PlainDay, freshDay}
-use Rattle.plain.specs.Answers.{Outcome, called, dayAfter, dayFrom, ending, shownAt}
+use Rattle.plain.specs.Answers.{called, dayAfter, dayFrom, ending, shownAt}
 use Rattle.plain.specs.Taken.{Taken, endOf, stepsAfter, stepsFrom}
 use Rattle.plain.specs.Marks.{CameOf, DropTaken, MarkTaken, OnMarks}
-use Rattle.plain.proofs.Ends.{Passes, fork-accepts, join-passes, mark-accepts, was-taken}
+use Rattle.plain.proofs.Ends.{BoxesPass, Passes, boxes-pass, fork-accepts, join-passes, mark-accepts, was-taken}
 use Rattle.plain.proofs.Exactly.{main-means}
 use Rattle.plain.proofs.Steps.{all-accepted, day-both, marks-after, named, same-day, steps-both, taken-steps}
 use Rattle.plain.proofs.Values.{fork-value, forks, mark-takes}
@@ -82,7 +81,7 @@ module _ (single : Bool) (before : List (Call ℕ)) where
   drop-value name e = let w = was-taken p (Drop name) e in subst (DropTaken y name) (sym (w .1)) (dropped name (in-use name (w .0)))
 
   -- a join into box 0 that passes is of a box that came of no mark
-  apart : (m r : ℕ) → Passes p (Join 0 m) → CameOf single before r (meant y m) → ⊥
+  apart : (m r : ℕ) → BoxesPass p 0 m → CameOf single before r (meant y m) → ⊥
   apart m r P (K, seen) =
       let ss = stepsAfter single before in
       let b = meant y m in
@@ -159,6 +158,6 @@ on-marks single cs = record {
   takes = λ before rest n name T. mark-takes single before n name (T .code);
   drops = λ before rest name T. drop-value single before name (T .code);
   comes-back = λ before middle rest n m name T. comes-back single cs before middle rest n m name T;
-  never-joined = λ before rest m r T. apart single before m r (was-taken (dayAfter single before) (Join 0 m) (T .code) .0);
-  never-synced = λ before rest m r T. apart single before m r (was-taken (dayAfter single before) (Sync m) (T .code) .0);
+  never-joined = λ before rest m room r T. apart single before m r (boxes-pass (dayAfter single before) 0 m room (was-taken (dayAfter single before) (Join 0 m room) (T .code) .0));
+  never-synced = λ before rest m room r T. apart single before m r (boxes-pass (dayAfter single before) 0 m room (was-taken (dayAfter single before) (Sync m room) (T .code) .0));
 }

@@ -1,7 +1,7 @@
 -- A taken preview answers what a join taken there and then would show (02, U6).
 use Prim.Native.Nat.{ℕ}
 use mathlib.Core.Bool.{Bool, false}
-use mathlib.Core.Path.{_≡_, _∙_, ap, sym}
+use mathlib.Core.Path.{_≡_, refl, _∙_, ap, sym}
 use mathlib.Core.Option.{none}
 use mathlib.Core.List.{List, [], _∷_, append-nil}
 use lib.ListN.{length}
@@ -14,6 +14,8 @@ use Rattle.diagram.specs.Effects.{view, viewStep}
 use Rattle.diagram.specs.Steps as Steps
 use Rattle.diagram.specs.Steps.{after}
 use Rattle.diagram.proofs.Graph.Tables.{tabulate-newest}
+use Rattle.boards.specs.Board.{boardBytes}
+use Rattle.desk.proofs.Checks.{_also_}
 use Rattle.plain.specs.Record.{PlainDay, freshDay, pathResult, standingOf}
 use Rattle.plain.specs.Answers.{called, dayAfter, dayFrom, ending, joined, stepped}
 use Rattle.plain.specs.Previews.{Foresees, joinedDay}
@@ -23,9 +25,9 @@ use Rattle.plain.proofs.Steps.{day-both}
 use Rattle.plain.proofs.Values.{join-value}
 
 -- the day with the join is the day that the join leaves
-pub joined-is : (single : Bool) (before : List (Call ℕ)) (n m : ℕ) → joinedDay single before n m ≡ called (dayAfter single before) (Join n m) .next
+pub joined-is : (single : Bool) (before : List (Call ℕ)) (n m : ℕ) → joinedDay single before n m ≡ called (dayAfter single before) (Join n m boardBytes) .next
 unfolding dayAfter dayFrom
-joined-is single before n m = day-both before (Join n m ∷ []) (freshDay single)
+joined-is single before n m = day-both before (Join n m boardBytes ∷ []) (freshDay single)
 
 -- a query reads what its revision's terminal shows
 pub reads-terminal : (q : PlainDay) (c r bib : ℕ) → pathResult (stepped q (Steps.Event c r false)) (length (q .day .diagram)) bib ≡ pathResult q (q .day .terminal r) bib
@@ -40,8 +42,8 @@ query-reads q c n bib e =
     (ap (λ o. o .answer .state) is ∙ ap stateOf read, ap (λ o. o .answer .value) is ∙ ap valueIn read)
 
 -- where a preview is taken so would be the join
-pub preview-join : (p : PlainDay) (n m bib : ℕ) → called p (Looks (Preview n m bib)) .answer .code ≡ 0 → called p (Join n m) ≡ joined p n m
-preview-join p n m bib e = passed-is p (Join n m) (preview-passes p n m bib (was-taken p (Looks (Preview n m bib)) e .0) .0)
+pub preview-join : (p : PlainDay) (n m bib : ℕ) → called p (Looks (Preview n m bib)) .answer .code ≡ 0 → called p (Join n m boardBytes) ≡ joined p n m
+preview-join p n m bib e = passed-is p (Join n m boardBytes) (refl also refl also preview-passes p n m bib (was-taken p (Looks (Preview n m bib)) e .0) .0)
 
 pub foresees : (single : Bool) (before : List (Call ℕ)) (n m bib : ℕ) → called (dayAfter single before) (Looks (Preview n m bib)) .answer .code ≡ 0 → Foresees single before n m bib (called (dayAfter single before) (Looks (Preview n m bib)) .answer)
 unfolding after isGiven meant
@@ -51,7 +53,7 @@ foresees single before n m bib e = record {
   terminal = ends;
   state = state-is;
   value = value-is;
-  gained = join-value single before n m (ap (λ o. o .answer .code) taken);
+  gained = join-value single before n m boardBytes (ap (λ o. o .answer .code) taken);
   query = λ c f.
       let g = query-reads q c n bib f in
       let there = ap (λ r. q .day .terminal r) (ap (λ z. meant (z .day) n) left) ∙ ends in
@@ -70,7 +72,7 @@ foresees single before n m bib e = record {
     is : called p (Looks (Preview n m bib)) ≡ ending p (Looks (Preview n m bib))
     is = was-taken p (Looks (Preview n m bib)) e .1
 
-    taken : called p (Join n m) ≡ joined p n m
+    taken : called p (Join n m boardBytes) ≡ joined p n m
     taken = preview-join p n m bib e
 
     left : q ≡ joined p n m .next

@@ -2,7 +2,7 @@
 use Prim.Native.Nat.{_<_, _≤_, ℕ}
 use mathlib.Core.Bool.{Bool, cond, false, true}
 use mathlib.Core.Path.{_∙_, _≡_, ap, refl, subst, sym}
-use mathlib.Core.Option.{none, some}
+use mathlib.Core.Option.{none}
 use mathlib.Core.List.{List, [], _++_, _∷_, append-assoc}
 use native.Mathlib.Omega.{arith}
 use lib.Dec.{eqb}
@@ -10,6 +10,7 @@ use borrow.Author.Tests.{eqb-false, eqb-true, ne-eqb}
 use Rattle.lists.proofs.Cases.{cases}
 use Rattle.lists.proofs.Changed.{changed-other}
 use Rattle.bundles.specs.declared.entry.Entry.{Entry}
+use Rattle.boards.specs.Board.{boardBytes}
 use Rattle.desk.specs.Calls.{Bundle, Call, Fill, Fork, Join, Looks, Preview, Query, Show, Sync, Mark, Drop, Update, Verify, Yield, entriesOf}
 use Rattle.desk.specs.Checks.{checks}
 use Rattle.desk.proofs.Checks.{Ends, no, yes, ends}
@@ -17,11 +18,11 @@ use Rattle.diagram.proofs.Order.Runs.{accepted-both, along, named-run, run-both
 use Rattle.diagram.proofs.Days.Moves.{step-moves, yield-updates}
 use Rattle.diagram.proofs.Days.Marking.{Marks, marks-fresh, marks-moves}
 use Rattle.diagram.proofs.Days.Naming.{Named}
-use Rattle.diagram.specs.Day.{Day, isGiven, markNamed, meant}
+use Rattle.diagram.specs.Day.{Day, isGiven, meant}
 use Rattle.diagram.specs.Steps as Steps
 use Rattle.diagram.specs.Steps.{Event, Step, after, run, runFrom}
 use Rattle.diagram.specs.Accepted.{Accepted, AcceptedFrom, accepted}
-use Rattle.plain.proofs.Ends.{drop-accepts, fork-accepts, join-passes, mark-accepts, query-accepts, update-accepts, was-taken, yield-accepts}
+use Rattle.plain.proofs.Ends.{boxes-pass, drop-accepts, fork-accepts, join-passes, mark-accepts, query-accepts, update-accepts, was-taken, yield-accepts}
 use Rattle.plain.proofs.Bundles.{after-bundled, one-never, sent-first, sent-never}
 use Rattle.plain.specs.Answers.{Outcome, asOne, asked, bundled, called, dayAfter, dayFrom, ending, joined, refused, sent, stepped}
 use Rattle.plain.specs.Taken.{Taken, bundleSteps, endOf, stepOf, stepsAfter, stepsFrom, stepsOf}
@@ -44,13 +45,13 @@ ending-fair : (p : PlainDay) (c : Call ℕ) → Fair p (ending p c)
 unfolding called
 ending-fair p (Update c n k bib v) = good refl
 ending-fair p (Query c n bib) = good refl
-ending-fair p (Yield c) = good refl
+ending-fair p (Yield c room) = good refl
 ending-fair p (Fork n) = good refl
-ending-fair p (Join n m) = good refl
+ending-fair p (Join n m room) = good refl
 ending-fair p (Mark n name) = good refl
 ending-fair p (Drop name) = good refl
-ending-fair p (Sync m) = let q = joined p 0 m .next in one-fair p (called q (Fork 0)) (one-never q (Fork 0) refl)
-ending-fair p (Bundle c n batch) = bundled-fair p (sent p c n (entriesOf batch)) (sent-never c n (entriesOf batch) p)
+ending-fair p (Sync m room) = let q = joined p 0 m .next in one-fair p (called q (Fork 0)) (one-never q (Fork 0) refl)
+ending-fair p (Bundle c n batch room) = bundled-fair p (sent p c n (entriesOf batch)) (sent-never c n (entriesOf batch) p)
 ending-fair p (Looks (Show n room)) = good refl
 ending-fair p (Looks (Fill n)) = good refl
 ending-fair p (Looks (Preview n m bib)) = good refl
@@ -122,7 +123,7 @@ update-bearer p c n k bib v m e = ap (λ o. meant (o .next .day) m) (was-taken p
 -- updates sent, and all taken
 pub sent-ran : (c n r : ℕ) (es : List Entry) (p : PlainDay) → meant (p .day) n ≡ r → sent p c n es .answer .code ≡ 0 → RanTo p (sent p c n es .next) (bundleSteps c r es)
 unfolding sent called
-sent-ran c n r [] p b z = let w = was-taken p (Yield c) z in rw (w .1) (ran-step p (Steps.Yield c) (yield-accepts p c (w .0)))
+sent-ran c n r [] p b z = let w = was-taken p (Yield c boardBytes) z in rw (w .1) (ran-step p (Steps.Yield c) (yield-accepts p c boardBytes (w .0)))
 sent-ran c n r (e ∷ es) p b z =
     let f = sent-first c n e es p z in
     let q = called p (Update c n (e .kind) (e .bib) (e .v)) .next in
@@ -139,20 +140,20 @@ taken-ran : (p : PlainDay) → Marks (p .day) → (c : Call ℕ) → called p c 
 unfolding called isGiven meant after
 taken-ran p M (Update c n k bib v) e = update-ran p c n k bib v e
 taken-ran p M (Query c n bib) e = let w = was-taken p (Query c n bib) e in rw (w .1) (ran-step p _ (query-accepts p c n bib (w .0)))
-taken-ran p M (Yield c) e = let w = was-taken p (Yield c) e in rw (w .1) (ran-step p _ (yield-accepts p c (w .0)))
+taken-ran p M (Yield c room) e = let w = was-taken p (Yield c room) e in rw (w .1) (ran-step p _ (yield-accepts p c room (w .0)))
 taken-ran p M (Fork n) e = let w = was-taken p (Fork n) e in rw (w .1) (ran-step p _ (fork-accepts p n (w .0)))
-taken-ran p M (Join n m) e = let w = was-taken p (Join n m) e in rw (w .1) (ran-step p _ (join-passes p n m (w .0) .accepts))
+taken-ran p M (Join n m room) e = let w = was-taken p (Join n m room) e in rw (w .1) (ran-step p _ (join-passes p n m (boxes-pass p n m room (w .0)) .accepts))
 taken-ran p M (Mark n name) e = let w = was-taken p (Mark n name) e in rw (w .1) (ran-step p _ (mark-accepts p n name (w .0)))
 taken-ran p M (Drop name) e = let w = was-taken p (Drop name) e in rw (w .1) (ran-step p _ (drop-accepts p M name (w .0)))
-taken-ran p M (Sync m) e =
-    let w = was-taken p (Sync m) e in
+taken-ran p M (Sync m room) e =
+    let w = was-taken p (Sync m room) e in
     let q = joined p 0 m .next in
     let b = after-one p (called q (Fork 0)) (rw (w .1) at e) in
     let f = was-taken q (Fork 0) (b .0) in
-    subst (λ o. RanTo p (o .next) (stepOf p (Sync m))) (sym (w .1 ∙ b .1 ∙ f .1))
-    (ran-both p q _ (Steps.Join (meant (p .day) 0) (meant (p .day) m) ∷ []) (Steps.Fork (meant (p .day) 0) none ∷ []) (ran-step p _ (join-passes p 0 m (w .0) .accepts)) (ran-step q _ (fork-accepts q 0 (f .0))))
-taken-ran p M (Bundle c n batch) e =
-    let w = was-taken p (Bundle c n batch) e in
+    subst (λ o. RanTo p (o .next) (stepOf p (Sync m room))) (sym (w .1 ∙ b .1 ∙ f .1))
+    (ran-both p q _ (Steps.Join (meant (p .day) 0) (meant (p .day) m) ∷ []) (Steps.Fork (meant (p .day) 0) none ∷ []) (ran-step p _ (join-passes p 0 m (boxes-pass p 0 m room (w .0)) .accepts)) (ran-step q _ (fork-accepts q 0 (f .0))))
+taken-ran p M (Bundle c n batch room) e =
+    let w = was-taken p (Bundle c n batch room) e in
     let b = after-bundled p (sent p c n (entriesOf batch)) (rw (w .1) at e) in
     subst (λ o. RanTo p (o .next) (bundleSteps c (meant (p .day) n) (entriesOf batch))) (sym (w .1 ∙ b .1)) (sent-ran c n (meant (p .day) n) (entriesOf batch) p refl (b .0))
 taken-ran p M (Looks l) e = rw (was-taken p (Looks l) e .1) (ran-none p)

@@ -36,7 +36,7 @@ use Rattle.plain.specs.Answers.{Outcome, asked, called, dayAfter, ending
 use Rattle.plain.specs.Allowed.{Meaning, OnLine}
 use Rattle.plain.specs.Taken.{endOf, stepsAfter}
 use Rattle.plain.specs.Values.{Filled, Forked, Gained}
-use Rattle.plain.proofs.Ends.{Passes, fork-accepts, given, join-passes, mark-accepts, means, was-taken}
+use Rattle.plain.proofs.Ends.{Passes, boxes-pass, fork-accepts, given, join-passes, mark-accepts, means, was-taken}
 use Rattle.plain.proofs.Exactly.{line-on, on-line}
 use Rattle.plain.proofs.Steps.{all-accepted, same-day}
 
@@ -117,10 +117,10 @@ module _ (single : Bool) (before : List (Call ℕ)) where
       subst (λ y. SeenSince (y .diagram) (y .terminal a) (after y (Steps.Join a b) .diagram) (after y (Steps.Join a b) .terminal a) (ownAt y b)) (sym (same-day single before))
       (join-gains (stepsAfter single before) (all-accepted single before) a b (subst (λ y. accepted y (Steps.Join a b) ≡ true) (same-day single before) e))
 
-  pub join-value : (n m : ℕ) → called p (Join n m) .answer .code ≡ 0 → Gained y (meant y n) (meant y m) (called p (Join n m))
-  join-value n m e =
-      let w = was-taken p (Join n m) e in
-      let a = join-passes p n m (w .0) .accepts in
+  pub join-value : (n m room : ℕ) → called p (Join n m room) .answer .code ≡ 0 → Gained y (meant y n) (meant y m) (called p (Join n m room))
+  join-value n m room e =
+      let w = was-taken p (Join n m room) e in
+      let a = join-passes p n m (boxes-pass p n m room (w .0)) .accepts in
       subst (Gained y (meant y n) (meant y m)) (sym (w .1)) (record { updates = _; gained = gains (meant y n) (meant y m) a; brought = owns (meant y m) (can-join y (meant y n) (meant y m) a .out-b); value = refl })
 
   fill-out : (n : ℕ) → Passes p (Looks (Fill n)) → IsOut y (meant y n)

@@ -9,6 +9,7 @@ use mathlib.Core.List.{List, [], _∷_, _++_}
 use lib.ListN.{length}
 use Rattle.bundles.specs.declared.entry.Entry.{Entry}
 use Rattle.orderfile.specs.File.{count, offset}
+use Rattle.boards.specs.Board.{boardBytes}
 use Rattle.diagram.specs.Day.{Day, IsOut, IsIdle, isGiven, meant}
 use Rattle.diagram.specs.Steps as Steps
 use Rattle.diagram.specs.Steps.{Event}
@@ -38,6 +39,10 @@ abbrev pub IsBatch : Batch → Type 0
 IsBatch (Records bytes) = (n : ℕ) × (length bytes ≡ 12 * n) × (1 ≤ n) × (n ≤ 64)
 IsBatch (Entries es) = (1 ≤ length es) × (length es ≤ 64)
 
+-- 19: "length other than 5,000"
+abbrev pub IsBoard : ℕ → Type 0
+IsBoard room = room ≡ boardBytes
+
 -- 21: "if the length or the offset is under 8, or offset + 2 times the count isn't the length"
 abbrev pub IsList : List ℕ → Type 0
 IsList file = (8 ≤ length file) × (8 ≤ offset file) × (offset file + 2 * count file ≡ length file)
@@ -59,18 +64,18 @@ JoinAllowed single before n m = Meaning (endOf single before) n (λ a. Meaning (
 abbrev pub Allowed : Bool → List (Call ℕ) → Call ℕ → Type 0
 Allowed single before (Update c n k bib v) = Meaning (endOf single before) n (λ r. MayFollow (stepsAfter single before) (Event c r true)) × IsBib bib × IsKind k
 Allowed single before (Query c n bib) = Meaning (endOf single before) n (λ r. MayFollow (stepsAfter single before) (Event c r false)) × IsBib bib
-Allowed single before (Yield c) = MayFollow (stepsAfter single before) (Steps.Yield c)
+Allowed single before (Yield c room) = MayFollow (stepsAfter single before) (Steps.Yield c) × IsBoard room
 Allowed single before (Fork n) = Meaning (endOf single before) n (λ r. MayFollow (stepsAfter single before) (Steps.Fork r none)) × OnLine single n
-Allowed single before (Join n m) = JoinAllowed single before n m
+Allowed single before (Join n m room) = JoinAllowed single before n m × IsBoard room
 -- 02, U8: "has join's refusals for joiner 0": its fork may always follow
-Allowed single before (Sync m) = JoinAllowed single before 0 m
+Allowed single before (Sync m room) = JoinAllowed single before 0 m × IsBoard room
 -- 02, U9: a fork with this name may follow; "Single-main days have no marks"
 Allowed single before (Mark n name) = Meaning (endOf single before) n (λ r. MayFollow (stepsAfter single before) (Steps.Fork r (some name))) × (single ≡ false)
 -- 18 "no such mark": a mark bears this name
 Allowed single before (Drop name) = (r : ℕ) × (endOf single before .mark r ≡ some name) × MayFollow (stepsAfter single before) (Steps.Drop r)
 -- 02, U4: its updates and its yield may follow, one after another
-Allowed single before (Bundle c n batch) =
-    IsBatch batch × AreEntries (entriesOf batch) × Meaning (endOf single before) n (λ r. EachMayFollow (stepsAfter single before ++ bundleSteps c r (entriesOf batch)))
+Allowed single before (Bundle c n batch room) =
+    IsBatch batch × IsBoard room × AreEntries (entriesOf batch) × Meaning (endOf single before) n (λ r. EachMayFollow (stepsAfter single before ++ bundleSteps c r (entriesOf batch)))
 Allowed single before (Looks (Show n room)) = Meaning (endOf single before) n (λ r. CanShow (endOf single before) r room)
 -- 02, U1: of a box that is out, busy or not
 Allowed single before (Looks (Fill n)) = Meaning (endOf single before) n (IsOut (endOf single before))

@@ -11,6 +11,7 @@ use Rattle.updates.specs.Kinds.{kindOf}
 use Rattle.bundles.specs.declared.entry.Entry as Sent
 use Rattle.orderfile.specs.File.{numbersIn}
 use Rattle.orderfile.specs.Test.{fits}
+use Rattle.boards.specs.Board.{boardBytes}
 use Rattle.desk.specs.Calls.{Call, Update, Query, Yield, Fork, Join, Sync, Mark, Drop, Bundle, Looks, Look, Show, Fill, Preview, Verify, Answer, plainly, reading, level, entriesOf}
 use Rattle.desk.specs.Checks.{Tests, checks, settle}
 use Rattle.diagram.specs.Effects.{own, view}
@@ -20,7 +21,7 @@ use Rattle.diagram.specs.Steps as Steps
 use Rattle.diagram.specs.Steps.{after}
 use Rattle.plain.specs.Record.{PlainDay, Line, freshDay, pathResult, linesOf, noted}
 
--- on paper a sheet is told by its length, and has lines written on it
+-- on paper a sheet or a board is told by its length; a sheet has lines written on it, and a board changes nothing of the day
 pub record Outcome : Type 0 where
   pub next : PlainDay
   pub answer : Answer (List Line)
@@ -93,12 +94,12 @@ asOne p o = cond (eqb (o .answer .code) 0) o (refused p (o .answer .code))
 abbrev pub synced : PlainDay → ℕ → Outcome
 synced p m = let q = joined p 0 m .next in asOne p (settled q (Fork 0) (forked q 0 none))
 
--- 02, U4: "sending the updates one by one and then a yield"; the first that is refused ends it
+-- 02, U4: "sending the updates one by one and then a yield", with a board of the right length; the first that is refused ends it
 abbrev pub afterTaken : Outcome → (PlainDay → Outcome) → Outcome
 afterTaken o rest = cond (eqb (o .answer .code) 0) (rest (o .next)) o
 
 unfoldable pub sent : PlainDay → ℕ → ℕ → List Sent.Entry → Outcome
-sent p c n [] = settled p (Yield c) (yielded p c)
+sent p c n [] = settled p (Yield c boardBytes) (yielded p c)
 sent p c n (e ∷ es) = afterTaken (settled p (Update c n (e .kind) (e .bib) (e .v)) (updated p c n (e .kind) (e .bib) (e .v))) (λ q. sent q c n es)
 
 -- "If any of them would be refused, the code of the earliest is given"; "The value is the first entry's number."
@@ -128,14 +129,14 @@ ending p (Update c n k bib v) = updated p c n k bib v
 ending p (Query c n bib) =
     let q = stepped p (Steps.Event c (meant (p .day) n) false) in
     record { next = q; answer = reading (pathResult q (length (p .day .diagram)) bib) 0 [] }
-ending p (Yield c) = yielded p c
+ending p (Yield c room) = yielded p c
 ending p (Fork n) = forked p n none
-ending p (Join n m) = joined p n m
-ending p (Sync m) = synced p m
+ending p (Join n m room) = joined p n m
+ending p (Sync m room) = synced p m
 ending p (Mark n name) = forked p n (some name)
 -- 02, U9: a drop's "value is 0"
 ending p (Drop name) = taken (stepped p (Steps.Drop (markNamed (p .day) name))) 0
-ending p (Bundle c n batch) = bundled p (sent p c n (entriesOf batch))
+ending p (Bundle c n batch room) = bundled p (sent p c n (entriesOf batch))
 ending p (Looks l) = record { next = p; answer = told p l }
 
 unfoldable pub called : PlainDay → Call ℕ → Outcome

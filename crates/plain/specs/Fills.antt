@@ -19,13 +19,13 @@ fillSum p = sumBelow (p .day .numbering .given) (λ n. called p (Looks (Fill n))
 abbrev pub enters : Call ℕ → ℕ
 enters (Update c n k bib v) = 1
 enters (Query c n bib) = 0
-enters (Yield c) = 0
+enters (Yield c room) = 0
 enters (Fork n) = 0
-enters (Join n m) = 0
-enters (Sync m) = 0
+enters (Join n m room) = 0
+enters (Sync m room) = 0
 enters (Mark n name) = 0
 enters (Drop name) = 0
-enters (Bundle c n batch) = length (entriesOf batch)
+enters (Bundle c n batch room) = length (entriesOf batch)
 enters (Looks l) = 0
 
 -- the history: the calls and the codes of their answers; a call with code 0 was accepted

@@ -78,14 +78,14 @@ pub record LineUp (single : Bool) (cs : List (Call ℕ)) : Type 0 where
       → dayAfter single cs .entries (called (dayAfter single before) (Update c n k bib v) .answer .value) ≡ record { kind = kindOf k; client = c; bib = bib; v = v }
   -- "Values when taken: .. fork, the new number; join, the count of updates the joiner gained"; 02, U1: a fill's two numbers
   pub forked : (before rest : List (Call ℕ)) (n : ℕ) → Taken single cs before (Fork n) rest → Forked (endOf single before) n (called (dayAfter single before) (Fork n))
-  pub gained : (before rest : List (Call ℕ)) (n m : ℕ) → Taken single cs before (Join n m) rest
-      → Gained (endOf single before) (meant (endOf single before) n) (meant (endOf single before) m) (called (dayAfter single before) (Join n m))
+  pub gained : (before rest : List (Call ℕ)) (n m room : ℕ) → Taken single cs before (Join n m room) rest
+      → Gained (endOf single before) (meant (endOf single before) n) (meant (endOf single before) m) (called (dayAfter single before) (Join n m room))
   pub filled : (before rest : List (Call ℕ)) (n : ℕ) → Taken single cs before (Looks (Fill n)) rest
       → Filled (endOf single before) (meant (endOf single before) n) (called (dayAfter single before) (Looks (Fill n)) .answer)
   -- 02, U4: a bundle is its updates and a yield, and the day is the one of the calls with these in the bundle's place
-  pub unbundled : (before rest : List (Call ℕ)) (c n : ℕ) (batch : Batch) → Taken single cs before (Bundle c n batch) rest
+  pub unbundled : (before rest : List (Call ℕ)) (c n : ℕ) (batch : Batch) (room : ℕ) → Taken single cs before (Bundle c n batch room) rest
       → dayAfter single cs ≡ dayAfter single (before ++ (parts c n (entriesOf batch) ++ rest))
-  pub bundles : (before rest : List (Call ℕ)) (c n : ℕ) (batch : Batch) → Taken single cs before (Bundle c n batch) rest → Bundled single before c n batch
+  pub bundles : (before rest : List (Call ℕ)) (c n : ℕ) (batch : Batch) (room : ℕ) → Taken single cs before (Bundle c n batch room) rest → Bundled single before c n batch room
   -- "A taken query answers as its bib stands after the updates it sees, and no others, are applied to the fresh values, each
   -- once, in line-up order, and as entered within a transaction." Its vertex is the next one of the day before it.
   pub queries : (before rest : List (Call ℕ)) (c n bib : ℕ) → Taken single cs before (Query c n bib) rest
@@ -101,9 +101,9 @@ pub record LineUp (single : Bool) (cs : List (Call ℕ)) : Type 0 where
   pub previews : (before rest : List (Call ℕ)) (n m bib : ℕ) → Taken single cs before (Looks (Preview n m bib)) rest
       → Foresees single before n m bib (called (dayAfter single before) (Looks (Preview n m bib)) .answer)
   -- 02, U8: a sync is a join into box 0 and a fork of box 0, and the day is the one of the calls with these in its place; on any day it "never meets 10"
-  pub unsynced : (before rest : List (Call ℕ)) (m : ℕ) → Taken single cs before (Sync m) rest → dayAfter single cs ≡ dayAfter single (before ++ (Join 0 m ∷ Fork 0 ∷ rest))
-  pub syncs : (before rest : List (Call ℕ)) (m : ℕ) → Taken single cs before (Sync m) rest → Synced single before m
-  pub never-ten : (before rest : List (Call ℕ)) (m : ℕ) → cs ≡ before ++ (Sync m ∷ rest) → called (dayAfter single before) (Sync m) .answer .code ≡ 10 → ⊥
+  pub unsynced : (before rest : List (Call ℕ)) (m room : ℕ) → Taken single cs before (Sync m room) rest → dayAfter single cs ≡ dayAfter single (before ++ (Join 0 m room ∷ Fork 0 ∷ rest))
+  pub syncs : (before rest : List (Call ℕ)) (m room : ℕ) → Taken single cs before (Sync m room) rest → Synced single before m room
+  pub never-ten : (before rest : List (Call ℕ)) (m room : ℕ) → cs ≡ before ++ (Sync m room ∷ rest) → called (dayAfter single before) (Sync m room) .answer .code ≡ 10 → ⊥
   pub single-main : single ≡ true → OnSingleMain cs
   -- 02, U9
   pub marks : OnMarks single cs

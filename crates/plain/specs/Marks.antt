@@ -50,5 +50,5 @@ pub record OnMarks (single : Bool) (cs : List (Call ℕ)) : Type 0 where
       → shownAt (called (dayAfter single (before ++ (Mark n name ∷ middle))) (Fork m) .next .day) (endOf single (before ++ (Mark n name ∷ middle)) .revisions)
       ≡ shownAt (endOf single before) (meant (endOf single before) n)
   -- a mark is not joined "in either role", so box 0 never takes over what came of one
-  pub never-joined : (before rest : List (Call ℕ)) (m r : ℕ) → Taken single cs before (Join 0 m) rest → CameOf single before r (meant (endOf single before) m) → ⊥
-  pub never-synced : (before rest : List (Call ℕ)) (m r : ℕ) → Taken single cs before (Sync m) rest → CameOf single before r (meant (endOf single before) m) → ⊥
+  pub never-joined : (before rest : List (Call ℕ)) (m room r : ℕ) → Taken single cs before (Join 0 m room) rest → CameOf single before r (meant (endOf single before) m) → ⊥
+  pub never-synced : (before rest : List (Call ℕ)) (m room r : ℕ) → Taken single cs before (Sync m room) rest → CameOf single before r (meant (endOf single before) m) → ⊥

@@ -22,15 +22,15 @@ bundleSteps c r (e ∷ es) = Event c r true ∷ bundleSteps c r es
 abbrev pub stepOf : PlainDay → Call ℕ → List Step
 stepOf p (Update c n k bib v) = Event c (meant (p .day) n) true ∷ []
 stepOf p (Query c n bib) = Event c (meant (p .day) n) false ∷ []
-stepOf p (Yield c) = Steps.Yield c ∷ []
+stepOf p (Yield c room) = Steps.Yield c ∷ []
 stepOf p (Fork n) = Steps.Fork (meant (p .day) n) none ∷ []
-stepOf p (Join n m) = Steps.Join (meant (p .day) n) (meant (p .day) m) ∷ []
+stepOf p (Join n m room) = Steps.Join (meant (p .day) n) (meant (p .day) m) ∷ []
 -- 02, U8: a sync is a join and a fork
-stepOf p (Sync m) = Steps.Join (meant (p .day) 0) (meant (p .day) m) ∷ Steps.Fork (meant (p .day) 0) none ∷ []
+stepOf p (Sync m room) = Steps.Join (meant (p .day) 0) (meant (p .day) m) ∷ Steps.Fork (meant (p .day) 0) none ∷ []
 -- 02, U9: a mark is a fork with a name
 stepOf p (Mark n name) = Steps.Fork (meant (p .day) n) (some name) ∷ []
 stepOf p (Drop name) = Steps.Drop (markNamed (p .day) name) ∷ []
-stepOf p (Bundle c n batch) = bundleSteps c (meant (p .day) n) (entriesOf batch)
+stepOf p (Bundle c n batch room) = bundleSteps c (meant (p .day) n) (entriesOf batch)
 stepOf p (Looks l) = []
 
 -- a call that was refused is none

@@ -6,6 +6,7 @@ use mathlib.Core.List.{List, _++_}
 use lib.ListN.{replicate, length-replicate}
 use Rattle.text.specs.Placed.{ascii}
 use Rattle.text.specs.Decimal.{ended}
+use Rattle.boards.specs.Board.{boardBytes}
 use Rattle.dayfile.specs.File.{fileCheck}
 use Rattle.dayfile.specs.Record.{stepAt}
 use Rattle.dayfile.specs.declared.file.FileCheck.{FileCheck}
@@ -24,9 +25,9 @@ use Rattle.printed.specs.Paper.{outcome, paperAfter, paperLines, paperAs
 step-same : (p : PlainDay) (t : List ℕ) (S : Stands p t) (s : Step) → OnTable p t S (stepOut t s) (outcome p s)
 step-same p t S (Update c n k bib v) = update-same p t S c n k bib v
 step-same p t S (Query c n bib) = query-same p t S c n bib
-step-same p t S (Yield c) = yield-same p t S c
+step-same p t S (Yield c) = yield-same p t S c boardBytes
 step-same p t S (Fork n) = fork-same p t S n
-step-same p t S (Join n m) = join-same p t S n m
+step-same p t S (Join n m) = join-same p t S n m boardBytes
 step-same p t S Unknown = refused-same p t S 13
 
 stands : (f : List ℕ) (i : ℕ) → Stands (paperAfter f i) (tableAfter freshTable f i)

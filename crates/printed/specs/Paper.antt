@@ -6,6 +6,7 @@ use mathlib.Core.Path.{_≡_}
 use mathlib.Core.List.{List, [], _++_}
 use Rattle.text.specs.Placed.{ascii}
 use Rattle.text.specs.Decimal.{ended}
+use Rattle.boards.specs.Board.{boardBytes}
 use Rattle.dayfile.specs.File.{fileCheck}
 use Rattle.dayfile.specs.Record.{stepAt}
 use Rattle.dayfile.specs.declared.file.FileCheck.{FileCheck}
@@ -18,13 +19,13 @@ use Rattle.plain.specs.Record.{Line, PlainDay, freshDay}
 use Rattle.plain.specs.Answers.{Outcome, called, refused}
 use Rattle.report.specs.Printed.{line, lineFeed, printed}
 
--- 13: "strange step", "given by the program": no call of the day
+-- 13: "strange step", "given by the program": no call of the day. A yield and a join have a board of the right length lent
 abbrev pub outcome : PlainDay → Step → Outcome
 outcome p (Update c n k bib v) = called p (Call.Update c n k bib v)
 outcome p (Query c n bib) = called p (Call.Query c n bib)
-outcome p (Yield c) = called p (Call.Yield c)
+outcome p (Yield c) = called p (Call.Yield c boardBytes)
 outcome p (Fork n) = called p (Call.Fork n)
-outcome p (Join n m) = called p (Call.Join n m)
+outcome p (Join n m) = called p (Call.Join n m boardBytes)
 outcome p Unknown = refused p 13
 
 -- the day after the first i records

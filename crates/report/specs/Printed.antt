@@ -8,6 +8,7 @@ use Rattle.updates.specs.declared.standing.State.{State}
 use Rattle.updates.specs.declared.standing.State.the-variants.{Neither, Timed, Struck}
 use Rattle.text.specs.Placed.{ascii}
 use Rattle.text.specs.Decimal.{ended}
+use Rattle.boards.specs.Board.{boardBytes}
 use Rattle.dayfile.specs.File.{fileCheck}
 use Rattle.dayfile.specs.declared.file.FileCheck.{FileCheck}
 use Rattle.dayfile.specs.declared.file.FileCheck.the-variants.{Good, Bad}
@@ -37,7 +38,7 @@ lines t f zero = []
 lines t f (suc i) = lines t f i ++ line i (outAt t f i .code) (outAt t f i .state) (outAt t f i .value)
 
 unfoldable pub freshTable : List ℕ
-freshTable = freshOut (replicate tableBytes 0) false .lent
+freshTable = freshOut (replicate tableBytes 0) false boardBytes .lent
 
 -- "Otherwise it makes a table fresh and prints `steps n`, then one line a record"
 unfoldable pub day : List ℕ → ℕ → List ℕ

@@ -2,6 +2,7 @@
 ghost use mathlib.Core.Path.{_≡_};
 ghost use Prim.Native.Nat.{_+_, _*_, _≤_, _<_};
 ghost use lib.ListN.{length};
+ghost use Rattle.boards.specs.Board.{boardBytes};
 ghost use Rattle.text.specs.Placed.{placed};
 ghost use Rattle.report.specs.Printed.{line as lineOf, valueText};
 ghost use Rattle.report.specs.Printed.{lines as linesOf};
@@ -32,15 +33,22 @@ fn line(out: &mut [u8], at: usize, index: u32, code: u8, state: State, value: u3
     value_text(out, b, state, value)
 }
 
-// The first n records of f, run on the table t.
-pub(crate) fn lines(f: &[u8], n: u32, t: &mut [u8], out: &mut [u8], at: usize) -> usize
-    requires { ⌜ (n ≤ 5460) × (at + 20 * n ≤ length (now out)) ⌝ }
+// The first n records of f, run on the table t with the board.
+pub(crate) fn lines(
+    f: &[u8],
+    n: u32,
+    t: &mut [u8],
+    board: &mut [u8],
+    out: &mut [u8],
+    at: usize,
+) -> usize
+    requires { ⌜ (n ≤ 5460) × (at + 20 * n ≤ length (now out)) × (length (now board) ≡ boardBytes) ⌝ }
     ensures { λ r. ⌜ (r ≤ at + 20 * n) × (r ≡ at + length (linesOf (now (t .entry)) (now (f .entry)) n)) × (now (out .exit) ≡ placed (now (out .entry)) at (linesOf (now (t .entry)) (now (f .entry)) n)) ⌝ }
 {
     let mut end = at;
     let mut i: u32 = 0;
     while i < n {
-        let a = run(t, step_at(f, i));
+        let a = run(t, board, step_at(f, i));
         let state = a.state;
         end = line(out, end, i, a.code, state, a.value);
         i += 1;

@@ -5,6 +5,7 @@ ghost use lib.ListN.{length};
 ghost use Rattle.text.specs.Placed.{placed};
 ghost use Rattle.report.specs.Printed.{day, room, shown};
 use crate::lines::lines;
+use boards::check::Board;
 use dayfile::file::FileCheck;
 use dayfile::file::check_file;
 use text::number::number;
@@ -23,10 +24,11 @@ fn put_day(f: &[u8], n: u32, out: &mut [u8]) -> usize
     ensures { λ r. ⌜ (r ≡ length (day (now (f .entry)) n)) × (now (out .exit) ≡ placed (now (out .entry)) 0 (day (now (f .entry)) n)) ⌝ }
 {
     let mut t = io::large_buffer();
-    forking::fresh::fresh(&mut t, false);
+    let mut board = [0u8; Board::BYTES];
+    announcing::fresh::fresh(&mut t, &mut board, false);
     let a = put(out, 0, b"steps ");
     let b = number(out, a, n as u64, b'\n');
-    lines(f, n, &mut t, out, b)
+    lines(f, n, &mut t, &mut board, out, b)
 }
 
 // What the file prints as, at the start of the buffer; the answer is its length. A buffer that is too short for some day is

@@ -15,15 +15,15 @@ use Rattle.lists.specs.Names.{Name}
 use Rattle.lists.proofs.Cases.{cases}
 use Rattle.cells.specs.Sizes.{lowerBytes, revisions, clients, closed, main, stateOut, stateJoined, stateMarked}
 use Rattle.cells.specs.Parts.{Parts, Sized, parts, offset, size, split, glue, wrote, _⟨_≔_⟩, rowsPart, lowPart, highPart, seenPart, caughtPart, statePart, usedPart, lastPart, firstPart}
-use Rattle.cells.specs.Parts.{countPart, basePart, layoutPart, queuePart, openedPart, countersPart, namesPart, singlePart, signaturePart}
+use Rattle.cells.specs.Parts.{countPart, basePart, layoutPart, queuePart, openedPart, countersPart, namesPart, singlePart, settledPart, signaturePart}
 use Rattle.cells.specs.Range.{signature}
 use Rattle.cells.specs.Words.{putWord, putHalf, putName}
 use Rattle.cells.specs.Flags.{pack, putRow}
 use Rattle.cells.specs.Decode.{decode}
 use Rattle.lists.specs.Pool.{forkPool, joinPool}
-use Rattle.cells.specs.CellSteps.{counted, oneFewer, forkCaught, forkRow, joinCaught}
+use Rattle.cells.specs.CellSteps.{counted, oneFewer, closeSettled, forkCaught, forkRow, joinCaught}
 use Rattle.cells.specs.Steps.{queryParts, linkParts, appendParts, putRowOf, inheritParts, forkParts, spliceParts, mergeParts, dropParts}
-use Rattle.cells.specs.Steps.{freshBytes, queryBytes, updateBytes, forkBytes, markBytes, joinBytes, dropBytes}
+use Rattle.cells.specs.Steps.{freshBytes, queryBytes, updateBytes, closeBytes, forkBytes, markBytes, joinBytes, dropBytes}
 use Rattle.cells.proofs.Parts.{Holds, glue-split, holds-split, holds-put, holds-step, holds-wrote, sized-with, split-is, with-same}
 use Rattle.cells.proofs.Words.{putWord-length, putHalf-length, putName-length}
 use Rattle.cells.proofs.Sized.{append-sized, caught-sized, caughtRow-sized, drop-sized, fork-sized, inherit-sized}
@@ -112,6 +112,13 @@ module _ (d : List ℕ) (l : length d ≡ lowerBytes) where
       let h₁ = holds-step (λ q. q ⟨ caughtPart ≔ putRow 8 (q caughtPart) c (λ y. eqb y r) ⟩) h e₁ (caughtRow-sized (h .sized) c (λ y. eqb y r) cl) in
       byte-wrote openedPart c v h₁ e₂ .eq ∙ rw ev
 
+  pub close-done : (d₁ d₂ : List ℕ) (c v : ℕ) → v ≡ closeSettled (decode (split d)) c → d₁ ≡ wrote d openedPart (set (split d openedPart) c closed)
+      → d₂ ≡ wrote d₁ settledPart (putWord (split d₁ settledPart) 0 v) → d₂ ≡ closeBytes d c
+  unfolding closeBytes
+  close-done d₁ d₂ c v ev e₁ e₂ =
+      let h₁ = byte-wrote openedPart c closed (holds-split d l) e₁ in
+      word-wrote settledPart 0 v h₁ e₂ .eq ∙ rw ev
+
   pub append-done : (d₁ d₂ d₃ d₄ d₅ : List ℕ) (r u last count first : ℕ)
       → u ≡ decode (split d) .updates → last ≡ decode (split d) .last r → count ≡ counted (decode (split d) .count r + 1) → first ≡ cond (eqb (decode (split d) .count r) 0) u (decode (split d) .first r)
       → d₁ ≡ glue (linkParts (split d) u last) → d₂ ≡ wrote d₁ lastPart (putWord (split d₁ lastPart) r u) → d₃ ≡ wrote d₂ firstPart (putWord (split d₂ firstPart) r first)
@@ -150,16 +157,18 @@ module _ (d : List ℕ) (l : length d ≡ lowerBytes) where
       let h₂ = word-wrote lastPart a end h₁ e₂ in
       word-wrote firstPart a first h₂ e₃ .eq ∙ rw (ne-eqb (decode (split d) .count b) 0 (λ z. nz (en ∙ z)), eg, ef, et, ee)
 
-  pub merge-done : (d₁ d₂ d₃ d₄ : List ℕ) (a b m n t : ℕ) → a < revisions → m ≡ decode (split d) .count a → n ≡ decode (split d) .count b → t ≡ counted (m + n)
-      → d₁ ≡ glue (spliceParts (split d) a b) → d₂ ≡ wrote d₁ countPart (putWord (split d₁ countPart) a t)
-      → d₃ ≡ wrote d₂ seenPart (putRow 8 (split d₂ seenPart) a (joinPool (decode (split d₂) .seen) a b a))
-      → d₄ ≡ wrote d₃ caughtPart (pack clients (joinCaught (decode (split d₃) .caught) a b)) → d₄ ≡ glue (mergeParts (split d) a b)
-  merge-done d₁ d₂ d₃ d₄ a b m n t al em en et e₁ e₂ e₃ e₄ =
+  pub merge-done : (d₁ d₂ d₃ d₄ d₅ : List ℕ) (a b m n t v : ℕ) → a < revisions → m ≡ decode (split d) .count a → n ≡ decode (split d) .count b → t ≡ counted (m + n)
+      → v ≡ cond (eqb a main) t (decode (split d) .settled)
+      → d₁ ≡ glue (spliceParts (split d) a b) → d₂ ≡ wrote d₁ countPart (putWord (split d₁ countPart) a t) → d₃ ≡ wrote d₂ settledPart (putWord (split d₂ settledPart) 0 v)
+      → d₄ ≡ wrote d₃ seenPart (putRow 8 (split d₃ seenPart) a (joinPool (decode (split d₃) .seen) a b a)) → d₅ ≡ wrote d₄ caughtPart (pack clients (joinCaught (decode (split d₄) .caught) a b))
+      → d₅ ≡ glue (mergeParts (split d) a b)
+  merge-done d₁ d₂ d₃ d₄ d₅ a b m n t v al em en et ev e₁ e₂ e₃ e₄ e₅ =
       let h = holds-split d l in
       let h₁ = holds-step (λ q. spliceParts q a b) h e₁ (splice-sized (h .sized) a b) in
       let h₂ = word-wrote countPart a t h₁ e₂ in
-      let h₃ = holds-step (λ q. q ⟨ seenPart ≔ putRow 8 (q seenPart) a (joinPool (decode q .seen) a b a) ⟩) h₂ e₃ (seenRow-sized (h₂ .sized) a _ al) in
-      caught-wrote (λ f. joinCaught f a b) h₃ e₄ .eq ∙ rw (et, em, en)
+      let h₃ = word-wrote settledPart 0 v h₂ e₃ in
+      let h₄ = holds-step (λ q. q ⟨ seenPart ≔ putRow 8 (q seenPart) a (joinPool (decode q .seen) a b a) ⟩) h₃ e₄ (seenRow-sized (h₃ .sized) a _ al) in
+      caught-wrote (λ f. joinCaught f a b) h₄ e₅ .eq ∙ rw (ev, et, em, en)
 
   pub drop-done : (d₁ d₂ d₃ d₄ : List ℕ) (r i o : ℕ) → i ≡ decode (split d) .given - decode (split d) .out → o ≡ oneFewer (decode (split d) .out)
       → d₁ ≡ wrote d statePart (set (split d statePart) r stateJoined) → d₂ ≡ wrote d₁ layoutPart (take revisions (remove r (split d₁ layoutPart) ++ (0 ∷ [])))

@@ -1,9 +1,10 @@
 // A revision joins another, which is handed in.
 ghost use mathlib.Core.Path.{_≡_};
-ghost use mathlib.Core.Bool.{true};
+ghost use mathlib.Core.Bool.{cond, true};
 ghost use Prim.Native.Nat.{_<_};
+ghost use lib.Dec.{eqb};
 ghost use lib.ListN.{length};
-ghost use Rattle.cells.specs.Sizes.{lowerBytes, revisions};
+ghost use Rattle.cells.specs.Sizes.{lowerBytes, main, revisions};
 ghost use Rattle.cells.specs.Parts.{glue, split};
 ghost use Rattle.cells.specs.Decode.{cells};
 ghost use Rattle.cells.specs.Range.{inRange};
@@ -14,6 +15,17 @@ use fields::read;
 use fields::write;
 use sizes::numbers::Revision;
 
+// How many of the main revision's own updates are settled once a has `total`: all, where a is that revision.
+fn settled_with(d: &[u8], a: Revision, total: usize) -> usize
+    requires { ⌜ (length (now d) ≡ lowerBytes) × (total < 65536) ⌝ }
+    ensures { λ v. ⌜ (v ≡ cond (eqb (a .0) main) total (cells (now (d .entry)) .settled)) × (v < 65536) ⌝ }
+{
+    if a.0 == 0 {
+        return total;
+    }
+    read::settled(d)
+}
+
 // a gets b's own list, what b has seen, and who has caught up with b. How many updates a gained is the answer.
 fn merge(d: &mut [u8], a: Revision, b: Revision) -> usize
     requires { ⌜ (length (now d) ≡ lowerBytes) × (inRange (now d) ≡ true) × (a .0 < revisions) × (b .0 < revisions) ⌝ }
@@ -21,8 +33,10 @@ fn merge(d: &mut [u8], a: Revision, b: Revision) -> usize
 {
     let gain = read::count(d, b);
     let total = own::counted(read::count(d, a) + gain);
+    let settled = settled_with(d, a, total);
     own::splice(d, a, b);
     write::count(d, a, total);
+    write::settled(d, settled);
     write::join_seen(d, a, b);
     write::join_caught(d, a, b);
     gain

@@ -1,13 +1,15 @@
--- What the answers of the checks of the whole buffer say: code 1.
+-- What the answers of the checks of a whole buffer say: code 1 of a table, 19 of a board.
 use Prim.Native.Nat.{ℕ}
 use mathlib.Core.Bool.{Bool, true, false, cond, _&&_}
 use mathlib.Core.Path.{_≡_, sym, ap}
 use mathlib.Core.List.{List}
 use lib.Dec.{eqb}
 use lib.ListN.{length}
-use borrow.Author.Tests.{eq-eqb, ne-eqb, eqb-true}
+use borrow.Author.Tests.{eq-eqb, ne-eqb, eqb-true, not-false}
 use Rattle.lists.proofs.Cases.{and-true}
 use Rattle.lists.proofs.Told.{held, failed, Told, told}
+use Rattle.boards.specs.Board.{boardBytes, boardCheck, isWrongBoard}
+use Rattle.boards.specs.declared.check.BoardCheck.the-variants as board
 use Rattle.cells.specs.Range.{inRange}
 use Rattle.checks.specs.Answers.{rangeCheck}
 use Rattle.checks.specs.declared.range.RangeCheck.the-variants as range
@@ -66,3 +68,12 @@ is-table t e =
 pub no-table : (t : List ℕ) → tableCheck t ≡ table.Damaged → isTable t ≡ false
 unfolding tableCheck
 no-table t e = failed (isTable t) _ _ _ (λ d. cc) e .0
+
+-- a board by its length
+pub board-long : (n : ℕ) → boardCheck n ≡ board.Sound → n ≡ boardBytes
+unfolding boardCheck
+board-long n e = eqb-true n boardBytes (not-false (eqb n boardBytes) (failed (isWrongBoard n) _ _ _ (λ d. cc) e .0))
+
+pub board-wrong : (n : ℕ) → boardCheck n ≡ board.Wrong → isWrongBoard n ≡ true
+unfolding boardCheck
+board-wrong n e = held (isWrongBoard n) _ _ _ (λ d. cc) e .0

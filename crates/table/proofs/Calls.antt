@@ -3,6 +3,7 @@ use Prim.Native.Nat.{ℕ}
 use mathlib.Core.Bool.{Bool, true, false, not, cond, _||_}
 use mathlib.Core.Path.{_≡_, refl, sym, _∙_}
 use mathlib.Core.List.{List, _++_}
+use Rattle.boards.specs.Board.{boardBytes}
 use Rattle.cells.specs.Decode.{cells}
 use Rattle.cells.specs.Steps.{joinBytes}
 use Rattle.cells.specs.Checks.{isClient, givenOut}
@@ -62,12 +63,8 @@ pub either : {A : Type 0} (a b : Bool) (x y : A) → cond (a || b) x y ≡ cond 
 either true b x y = refl
 either false b x y = refl
 
--- a join of bytes that are no table, and of a table, from what its checks find
-pub no-join : (t : List ℕ) → isTable t ≡ false → (n m : ℕ) → refused t 1 ≡ joinOut t n m
-unfolding joinOut
-no-join t h n m = rw h
-
+-- a join of a table, with a board of the right length, from what its checks find
 pub join-by : (t : List ℕ) → isTable t ≡ true → (n m : ℕ) (z : PairCheck) → joinCheck (low t) n m ≡ z
-    → onPair z (refused t) (λ a b. taken (joinBytes (low t) (a .0) (b .0) ++ high t) (cellsOf t .count (b .0))) ≡ joinOut t n m
+    → onPair z (refused t) (λ a b. taken (joinBytes (low t) (a .0) (b .0) ++ high t) (cellsOf t .count (b .0))) ≡ joinOut t n m boardBytes
 unfolding joinCheck joinOut onPair
 join-by t h n m z e = rw (← e) (simp (given-is, pair-cond, either, h))

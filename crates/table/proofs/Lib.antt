@@ -1,7 +1,8 @@
--- Laws of the two halves of the table, of the answers of the shared checks, of those taken apart, and of joins and syncs that are taken.
+-- Laws of the two halves of the table, of the answers of the shared checks, of those taken apart, of joins and syncs that are taken, and of the board's step.
 pub mod Halves
 pub mod Checks
 pub mod Buffer
 pub mod Calls
 pub mod Syncs
 pub mod Light
+pub mod Brings

@@ -1,5 +1,5 @@
 -- A join and a sync leave the table's bytes but for a few (02, U11): refused, every byte; taken, the upper half, and of the lower half what `cells` counts.
-use Prim.Native.Nat.{ℕ, _+_, _≤_}
+use Prim.Native.Nat.{ℕ, _≤_}
 use mathlib.Core.Path.{_≡_, refl, sym, _∙_, ap, subst}
 use mathlib.Core.List.{List, _++_}
 use native.Mathlib.Omega.{arith}
@@ -58,19 +58,19 @@ low-bytes t b = take-bytes lowerBytes t b
 
 pub light-joins : LightJoins
 unfolding joinOut
-light-joins t b n m = light-settled t 256 (joinEnd t n m) _ (λ P.
-    let J = joins t n m P in
+light-joins t b n m room = light-settled t 256 (joinEnd t n m) _ (λ P.
+    let J = joins t n m room P in
     let L = lower-of t (J .table) .1 in
     more (lower-light {t = t} (L .long) (join-differs (low t) (L .long) (low-bytes t b) n m (J .joiner)) _) 256 (omega arith))
 
 pub light-syncs : LightSyncs
 unfolding syncOut
-light-syncs t b m = light-settled t 512 _ _ (λ P.
-    let J = joins t 0 m P in
+light-syncs t b m room = light-settled t 512 _ _ (λ P.
+    let J = joins t 0 m room P in
     let L = lower-of t (J .table) .1 in
     let d = joinBytes (low t) 0 m in
     let next = next-ranged (cells d) (ranges d (left-lower t (J .table) m (J .joinee) (J .some) .ranged)) .1 in
-    rw (sync-ends t m P) (more (lower-light {t = t} (L .long) (sync-differs (low t) (L .long) (low-bytes t b) m (nextNumber (cells d)) next) _) 512 (omega arith)))
+    rw (sync-ends t m room P) (more (lower-light {t = t} (L .long) (sync-differs (low t) (L .long) (low-bytes t b) m (nextNumber (cells d)) next) _) 512 (omega arith)))
 
 -- for code: the answer and the bytes left are these, and so are their places
 pub promised : {t : List ℕ} {n : ℕ} {o : Out} → Light t n o → (a : Answer) (d : List ℕ) → left a d ≡ o → (left a d ≡ o) × (differences t d ≤ n)

@@ -69,8 +69,8 @@ pub record Joins (t : List ℕ) (n m : ℕ) : Type 0 where
   pub out : joined (cellsOf t) n ≡ false
   pub idle : busy (cellsOf t) n ≡ false
 
-pub joins : (t : List ℕ) (n m : ℕ) → Passed (checks (asked t) (Join n m)) → Joins t n m
-joins t n m (e1 also e3 also e4 also e15 also e16 also e7 also e11 also P) =
+pub joins : (t : List ℕ) (n m room : ℕ) → Passed (checks (asked t) (Join n m room)) → Joins t n m
+joins t n m room (e1 also e19 also e3 also e4 also e15 also e16 also e7 also e11 also P) =
     let k = cellsOf t in
     let never = or-false (not (givenOut k n)) (not (givenOut k m)) e3 in
     let given-n = not-false (givenOut k n) (never .0) in
@@ -86,6 +86,6 @@ joins t n m (e1 also e3 also e4 also e15 also e16 also e7 also e11 also P) =
     }
 
 -- so a sync whose checks find nothing is taken
-pub sync-ends : (t : List ℕ) (m : ℕ) → Passed (checks (asked t) (Sync m))
+pub sync-ends : (t : List ℕ) (m room : ℕ) → Passed (checks (asked t) (Sync m room))
     → asOne t (forkOut (joinEnd t 0 m .lent) 0) ≡ taken (forkBytes (joinBytes (low t) 0 m) 0 (nextNumber (cells (joinBytes (low t) 0 m))) ++ high t) (nextNumber (cells (joinBytes (low t) 0 m)))
-sync-ends t m P = let J = joins t 0 m P in ap (asOne t) (sync-forks t (J .table) m (J .joinee) (J .some) (J .given) (J .out) (J .idle))
+sync-ends t m room P = let J = joins t 0 m room P in ap (asOne t) (sync-forks t (J .table) m (J .joinee) (J .some) (J .given) (J .out) (J .idle))

@@ -14,6 +14,8 @@ use Rattle.updates.specs.declared.standing.Standing.{Standing}
 use Rattle.updates.specs.declared.standing.State.the-variants.{Neither}
 use Rattle.desk.specs.Calls.{Update, Query, Yield, Fork, Join, Sync, Mark, Drop, Bundle, Looks, Show, Fill, Preview, Verify, Batch, Records, Entries, entriesOf}
 use Rattle.desk.specs.Checks.{Tests, _if_, checks, settle}
+use Rattle.boards.specs.Board.{boardBytes, isWrongBoard}
+use Rattle.posting.specs.Brought.{boardAfter}
 use Rattle.orderfile.specs.File.{numbersIn}
 use Rattle.orderfile.specs.Test.{fits}
 use Rattle.cells.specs.Sizes.{revisions}
@@ -60,9 +62,18 @@ asked t = record {
   noMark = noSuchMark (cellsOf t);
 }
 
--- fresh: of 1, the length only. 02, U8: "Fresh gains a choice of such a day."
-unfoldable pub freshOut : List ℕ → Bool → Out
-freshOut t single = settle (1 if not (eqb (length t) tableBytes) ∷ []) (refused t) (taken (freshBytes single ++ replicate Upper.entryBytes 0) 0)
+-- fresh: of 1, the length only. 02, U8: "Fresh gains a choice of such a day." U10: 19 of a board that has `room` bytes
+unfoldable pub freshOut : List ℕ → Bool → ℕ → Out
+freshOut t single room =
+    settle (1 if not (eqb (length t) tableBytes) ∷ 19 if isWrongBoard room ∷ []) (refused t) (taken (freshBytes single ++ replicate Upper.entryBytes 0) 0)
+
+-- U10: "Fresh clears it"; a refusal leaves it
+unfoldable pub freshBoard : List ℕ → Bool → List ℕ → List ℕ
+freshBoard t single board = cond (eqb (freshOut t single (length board) .code) 0) (replicate boardBytes 0) board
+
+-- the board after any other call that it is lent to, by the table before and after: what the call brought to box 0 is applied to it. A refusal brings nothing
+unfoldable pub boardOut : List ℕ → List ℕ → List ℕ → List ℕ
+boardOut before after board = boardAfter (cellsOf before) (cellsOf after) (high after) board
 
 unfoldable pub updateOut : List ℕ → ℕ → ℕ → ℕ → ℕ → ℕ → Out
 updateOut t c n k bib v =
@@ -72,8 +83,8 @@ updateOut t c n k bib v =
 unfoldable pub queryOut : List ℕ → ℕ → ℕ → ℕ → Out
 queryOut t c n bib = settle (checks (asked t) (Query c n bib)) (refused t) (answered (queryBytes (low t) c n ++ high t) (standingAt t n bib))
 
-unfoldable pub yieldOut : List ℕ → ℕ → Out
-yieldOut t c = settle (checks (asked t) (Yield c)) (refused t) (taken (closeBytes (low t) c ++ high t) 0)
+unfoldable pub yieldOut : List ℕ → ℕ → ℕ → Out
+yieldOut t c room = settle (checks (asked t) (Yield c room)) (refused t) (taken (closeBytes (low t) c ++ high t) 0)
 
 unfoldable pub forkOut : List ℕ → ℕ → Out
 forkOut t n = settle (checks (asked t) (Fork n)) (refused t) (taken (forkBytes (low t) n (nextNumber (cellsOf t)) ++ high t) (nextNumber (cellsOf t)))
@@ -81,15 +92,15 @@ forkOut t n = settle (checks (asked t) (Fork n)) (refused t) (taken (forkBytes (
 abbrev pub joinEnd : List ℕ → ℕ → ℕ → Out
 joinEnd t n m = taken (joinBytes (low t) n m ++ high t) (cellsOf t .count m)
 
-unfoldable pub joinOut : List ℕ → ℕ → ℕ → Out
-joinOut t n m = settle (checks (asked t) (Join n m)) (refused t) (joinEnd t n m)
+unfoldable pub joinOut : List ℕ → ℕ → ℕ → ℕ → Out
+joinOut t n m room = settle (checks (asked t) (Join n m room)) (refused t) (joinEnd t n m)
 
 -- 02, U8: "joins it into box 0, then forks box 0; it is one step": where the fork is refused, the table keeps every byte. No day refuses it
 abbrev pub asOne : List ℕ → Out → Out
 asOne t o = cond (eqb (o .code) 0) o (refused t (o .code))
 
-unfoldable pub syncOut : List ℕ → ℕ → Out
-syncOut t m = settle (checks (asked t) (Sync m)) (refused t) (asOne t (forkOut (joinEnd t 0 m .lent) 0))
+unfoldable pub syncOut : List ℕ → ℕ → ℕ → Out
+syncOut t m room = settle (checks (asked t) (Sync m room)) (refused t) (asOne t (forkOut (joinEnd t 0 m .lent) 0))
 
 -- 02, U9: "Mark has fork's refusals and value"
 unfoldable pub markOut : List ℕ → ℕ → Name → Out
@@ -114,9 +125,9 @@ told k n = record { code = 0; own = k .count n; total = k .updates }
 unfoldable pub fillOut : List ℕ → ℕ → Level
 fillOut t n = settle (checks (asked t) (Looks (Fill n))) noFill (told (cellsOf t) n)
 
--- 02, U4: "sending the updates one by one and then a yield"; the first that is refused ends it
+-- 02, U4: "sending the updates one by one and then a yield", with a board of the right length; the first that is refused ends it
 unfoldable pub sentOut : List ℕ → ℕ → ℕ → List Entry → Out
-sentOut t c n [] = yieldOut t c
+sentOut t c n [] = yieldOut t c boardBytes
 sentOut t c n (e ∷ es) = afterTaken (updateOut t c n (e .kind) (e .bib) (e .v)) (λ d. sentOut d c n es)
 
 -- "If any of them would be refused, the code of the earliest is given and the table keeps every byte"; "The value is the first
@@ -124,15 +135,15 @@ sentOut t c n (e ∷ es) = afterTaken (updateOut t c n (e .kind) (e .bib) (e .v)
 abbrev pub settled : List ℕ → Out → Out
 settled t o = cond (eqb (o .code) 0) (taken (o .lent) (cellsOf t .updates)) (refused t (o .code))
 
-abbrev pub batchOut : List ℕ → ℕ → ℕ → Batch → Out
-batchOut t c n batch = settle (checks (asked t) (Bundle c n batch)) (refused t) (settled t (sentOut t c n (entriesOf batch)))
+abbrev pub batchOut : List ℕ → ℕ → ℕ → Batch → ℕ → Out
+batchOut t c n batch room = settle (checks (asked t) (Bundle c n batch room)) (refused t) (settled t (sentOut t c n (entriesOf batch)))
 
 -- "first as 12-byte records, then as a lent list of entries"
-unfoldable pub bundleOut : List ℕ → ℕ → ℕ → List ℕ → Out
-bundleOut t c n records = batchOut t c n (Records records)
+unfoldable pub bundleOut : List ℕ → ℕ → ℕ → List ℕ → ℕ → Out
+bundleOut t c n records room = batchOut t c n (Records records) room
 
-unfoldable pub entriesOut : List ℕ → ℕ → ℕ → List Entry → Out
-entriesOut t c n es = batchOut t c n (Entries es)
+unfoldable pub entriesOut : List ℕ → ℕ → ℕ → List Entry → ℕ → Out
+entriesOut t c n es room = batchOut t c n (Entries es) room
 
 -- 02, U6: refusals are "with state neither and gain 0"
 abbrev pub noProspect : ℕ → Prospect

@@ -1,6 +1,7 @@
 // The table of 65,536 bytes: what the calls answer and leave, and the checks that they share. The calls stand above.
 pub mod answer; // answer.rt: what a call answers
 pub mod bib; // bib.rt: the check of a bib
+pub mod board; // board.rt: the board's step behind a call
 pub mod counts; // counts.rt: two counts of a whole table
 pub mod event; // event.rt: the checks that update and query share
 pub mod join; // join.rt: the checks of a join

@@ -6,6 +6,7 @@ use mathlib.Core.List.{List, _++_}
 use Rattle.updates.specs.declared.kind.Kind.{Kind}
 use Rattle.updates.specs.declared.kind.KindCheck.{KindCheck}
 use Rattle.updates.specs.declared.kind.KindCheck.the-variants as kinds
+use Rattle.boards.specs.Board.{boardBytes}
 use Rattle.cells.specs.Steps.{updateBytes, closeBytes}
 use Rattle.entries.specs.Stored.{entry}
 use Rattle.entries.specs.Entries.{wrote}
@@ -44,13 +45,9 @@ module _ (t : List ℕ) (h : isTable t ≡ false) where
   unfolding updateOut
   no-update c n k b v = rw h
 
-  pub no-yield : (c : ℕ) → refused t 1 ≡ yieldOut t c
-  unfolding yieldOut
-  no-yield c = rw h
-
 -- the call on a table, from what its checks find
 module _ (t : List ℕ) (h : isTable t ≡ true) where
-  pub yield-by : (c : ℕ) (z : ClientCheck) → clientCheck c ≡ z → onClient z (refused t 2) (λ x. taken (closeBytes (low t) (x .0) ++ high t) 0) ≡ yieldOut t c
+  pub yield-by : (c : ℕ) (z : ClientCheck) → clientCheck c ≡ z → onClient z (refused t 2) (λ x. taken (closeBytes (low t) (x .0) ++ high t) 0) ≡ yieldOut t c boardBytes
   unfolding yieldOut
   yield-by c z e = rw (← e) (simp (client-is, h))
 

@@ -1,3 +1,3 @@
 // What a client enters: updates, and the end of its transaction.
 pub mod update; // update.rt: the call update
-pub mod yields; // yields.rt: the call yield
+pub mod yields; // yields.rt: the end of a transaction

@@ -2,6 +2,7 @@
 
 use calls::Code;
 
+use crate::board::Board;
 use crate::calls::LISTED;
 use crate::checks::refuse;
 use crate::entry::Entry;
@@ -14,9 +15,16 @@ const MOST: usize = 64;
 
 /// Several entries by a client on a revision, and its yield; the first entry's number. All are
 /// checked before the first is written.
-pub fn bundle(t: &mut [u8], client: u8, revision: u8, records: &[u8]) -> Result<u32, Code> {
+pub fn bundle(
+    t: &mut [u8],
+    board: &mut [u8],
+    client: u8,
+    revision: u8,
+    records: &[u8],
+) -> Result<u32, Code> {
     let mut t = checked(t)?;
     let records = checked_records(records)?;
+    let mut board = Board::checked(board)?;
     let client = Client::checked(client)?;
     let revision = t.check_given(revision)?;
     t.check_out(revision)?;
@@ -30,12 +38,13 @@ pub fn bundle(t: &mut [u8], client: u8, revision: u8, records: &[u8]) -> Result<
         t.check_log_after(place)?;
     }
 
-    let first = t.updates();
+    let (first, before) = (t.updates(), t.settled());
     t.enter(client, revision);
     for record in records {
         t.append(revision, checked_entry(record, client)?);
     }
     t.close(client);
+    board.bring(&t, before);
     Ok(u32::from(first))
 }
 

@@ -1,7 +1,9 @@
-//! The calls on lent bytes: the checks of each in ascending order, 15 and 16 after 4, then what it does.
+//! The calls on lent bytes: the checks of each in ascending order, 19 after 1, 15 and 16 after 4, then what
+//! it does.
 
 use calls::Code;
 
+use crate::board::Board;
 use crate::entry::Entry;
 use crate::numbers::{Bib, Client, Revision, LOG};
 use crate::range::checked;
@@ -30,9 +32,13 @@ pub struct Preview {
 }
 
 /// A new day, whatever the bytes were; on a single-main one, revisions come from the main one and go
-/// back to it alone.
-pub fn fresh(t: &mut [u8], single_main: bool) -> Result<u32, Code> {
-    table::fresh(t.try_into().map_err(|_| Code::NoTable)?, single_main);
+/// back to it alone. The board is cleared.
+pub fn fresh(t: &mut [u8], board: &mut [u8], single_main: bool) -> Result<u32, Code> {
+    let t = t.try_into().map_err(|_| Code::NoTable)?;
+    let board = Board::checked(board)?;
+
+    table::fresh(t, single_main);
+    board.clear();
     Ok(0)
 }
 
@@ -74,11 +80,14 @@ pub fn query(t: &mut [u8], client: u8, revision: u8, bib: u16) -> Result<Standin
 }
 
 /// A client ends its transaction, if it has one; 0.
-pub fn yield_(t: &mut [u8], client: u8) -> Result<u32, Code> {
+pub fn yield_(t: &mut [u8], board: &mut [u8], client: u8) -> Result<u32, Code> {
     let mut t = checked(t)?;
+    let mut board = Board::checked(board)?;
     let client = Client::checked(client)?;
 
+    let before = t.settled();
     t.close(client);
+    board.bring(&t, before);
     Ok(0)
 }
 
@@ -119,18 +128,26 @@ pub fn drop(t: &mut [u8], name: &[u8]) -> Result<u32, Code> {
 }
 
 /// The joiner takes over the joinee's updates; how many.
-pub fn join(t: &mut [u8], joiner: u8, joinee: u8) -> Result<u32, Code> {
+pub fn join(t: &mut [u8], board: &mut [u8], joiner: u8, joinee: u8) -> Result<u32, Code> {
     let mut t = checked(t)?;
+    let mut board = Board::checked(board)?;
     let (joiner, joinee) = t.check_join(joiner, joinee)?;
 
-    Ok(u32::from(t.join(joiner, joinee)))
+    let before = t.settled();
+    let gained = t.join(joiner, joinee);
+    board.bring(&t, before);
+    Ok(u32::from(gained))
 }
 
 /// The revision is joined into the main one, which then forks; the new number.
-pub fn sync(t: &mut [u8], revision: u8) -> Result<u32, Code> {
+pub fn sync(t: &mut [u8], board: &mut [u8], revision: u8) -> Result<u32, Code> {
     let mut t = checked(t)?;
+    let mut board = Board::checked(board)?;
     let (main, joinee) = t.check_join(Revision::MAIN.0, revision)?;
+
+    let before = t.settled();
     t.join(main, joinee);
+    board.bring(&t, before);
     // The joinee's, if no other.
     let child = t.next();
     t.fork(main, child);

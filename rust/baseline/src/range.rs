@@ -4,8 +4,8 @@ use calls::Code;
 
 use crate::numbers::{CLIENTS, REVISIONS};
 use crate::parts::{
-    BASE, BYTES, CLOSED_MAIN, COUNT, FIRST, GIVEN, LAST, LAYOUT, OPENED, OUT, QUEUE, SIGNATURE,
-    SIGNED, SINGLE, STATE, UPDATES, USED,
+    BASE, BYTES, COUNT, FIRST, GIVEN, LAST, LAYOUT, OPENED, OUT, QUEUE, SETTLED, SIGNATURE, SIGNED,
+    SINGLE, STATE, UPDATES, USED,
 };
 use crate::table::Table;
 
@@ -38,6 +38,6 @@ fn in_range(t: &[u8; BYTES]) -> bool {
         && (1..=64).contains(&t[OUT])
         && (1..=64).contains(&t[GIVEN])
         && bytes(SINGLE, 1, 1)
-        && words(CLOSED_MAIN, 1, 4_096)
+        && words(SETTLED, 1, 4_096)
         && t[SIGNATURE..SIGNATURE + SIGNED.len()] == SIGNED
 }

@@ -34,7 +34,11 @@ impl Table<'_> {
         u
     }
 
+    /// Where the transaction was on the main revision, all updates there are of closed ones.
     pub(crate) fn close(&mut self, c: Client) {
+        if self.opened()[c.index()] == Revision::MAIN.0 {
+            self.set_settled(self.count(Revision::MAIN));
+        }
         self.set_opened(c, CLOSED);
     }
 
@@ -108,6 +112,9 @@ impl Table<'_> {
             }
         }
         self.set_count(joiner, counted(before + gained));
+        if joiner == Revision::MAIN {
+            self.set_settled(self.count(joiner));
+        }
         self.set_seen(joiner, self.seen(joiner).or(self.seen(joinee)));
         for client in (0..CLIENTS as u8).map(Client) {
             let flags = self.caught(client);

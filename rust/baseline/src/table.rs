@@ -4,8 +4,8 @@ use crate::flags::Flags;
 use crate::numbers::{Client, Revision, CLIENTS, REVISIONS};
 use crate::parts::{
     BASE, BYTES, CAUGHT, CLOSED, COUNT, ENTRIES, ENTRY, FIRST, GIVEN, HIGH, IS_OUT, LAST, LAYOUT,
-    LOW, NAME, NAMES, OPENED, OUT, QUEUE, ROW, ROWS, SEEN, SIGNATURE, SIGNED, SINGLE, STATE,
-    UPDATES, USED,
+    LOW, NAME, NAMES, OPENED, OUT, QUEUE, ROW, ROWS, SEEN, SETTLED, SIGNATURE, SIGNED, SINGLE,
+    STATE, UPDATES, USED,
 };
 
 /// A lent buffer that passed the check of code 1.
@@ -119,6 +119,15 @@ impl Table<'_> {
     /// The choice given to fresh.
     pub(crate) fn is_single_main(&self) -> bool {
         self.0[SINGLE] == 1
+    }
+
+    /// How many of the main revision's own updates are of closed transactions.
+    pub(crate) fn settled(&self) -> u16 {
+        self.word(SETTLED)
+    }
+
+    pub(crate) fn set_settled(&mut self, n: u16) {
+        self.set_word(SETTLED, n);
     }
 
     /// The revisions of all clients' open transactions, by client.

@@ -108,6 +108,13 @@ pub enum Call {
         /// The file: see [`order_file`].
         order: Vec<u8>,
     },
+    /// A call that takes a board, with one of so many bytes lent to it in place of the day's own.
+    OnBoard {
+        /// The length of that board in bytes.
+        length: usize,
+        /// Fresh, yield, bundle, join or sync.
+        call: Box<Call>,
+    },
 }
 
 /// The kinds of update by name, kind 1 first. What each makes of a bib, by 01 and 02's U2:
@@ -139,12 +146,32 @@ impl Call {
             Call::Mark { .. } => "mark",
             Call::Drop { .. } => "drop",
             Call::Verify { .. } => "verify",
+            Call::OnBoard { call, .. } => call.name(),
+        }
+    }
+
+    /// Whether a board is lent to it: "Fresh, yield, bundle, join and sync take it, no other call".
+    pub fn takes_a_board(&self) -> bool {
+        match self {
+            Call::Fresh { .. } | Call::Yield { .. } | Call::Bundle { .. } => true,
+            Call::Join { .. } | Call::Sync { .. } => true,
+            Call::OnBoard { .. } => true,
+            Call::Update { .. } | Call::Query { .. } | Call::Fork { .. } | Call::List { .. } => {
+                false
+            }
+            Call::Fill { .. } | Call::Preview { .. } | Call::Mark { .. } | Call::Drop { .. } => {
+                false
+            }
+            Call::Verify { .. } => false,
         }
     }
 }
 
 impl fmt::Display for Call {
     fn fmt(&self, f: &mut fmt::Formatter<'_>) -> fmt::Result {
+        if let Call::OnBoard { length, call } = self {
+            return write!(f, "{call}, board of {length} bytes");
+        }
         write!(f, "{} ", self.name())?;
         match *self {
             Call::Update { client, revision, kind, bib, v } => {
@@ -170,6 +197,7 @@ impl fmt::Display for Call {
             }
             Call::Drop { ref name } => write!(f, "\"{}\"", name.escape_ascii()),
             Call::Verify { ref order } => write_order(f, order),
+            Call::OnBoard { .. } => unreachable!("written above"),
         }
     }
 }
@@ -246,6 +274,10 @@ mod tests {
             (Call::Mark { revision: 0, name: vec![] }, "mark box 0 \"\""),
             (Call::Drop { name: b"JURY".into() }, "drop \"JURY\""),
             (Call::Drop { name: b"a\"\xff".into() }, r#"drop "a\"\xff""#),
+            (
+                Call::OnBoard { length: 4_999, call: Box::new(Call::Yield { client: 1 }) },
+                "yield 1, board of 4999 bytes",
+            ),
             (Call::Verify { order: order_file(&[0, 4_095]) }, "verify order [0, 4095]"),
             (Call::Verify { order: vec![1, 2] }, "verify bytes [1, 2]"),
             (

@@ -47,12 +47,14 @@ pub enum Code {
     BadName = 17,
     /// 02, U9: no mark that is out has the name.
     NoSuchMark = 18,
+    /// 02, U10: a board has another length than 5,000 bytes.
+    WrongBoard = 19,
     /// 02, U13: the header of an order does not fit its length.
     BadList = 21,
 }
 
 /// Each code with its name, in the order of their numbers.
-const NAMED: [(Code, &str); 20] = [
+const NAMED: [(Code, &str); 21] = [
     (Code::Accepted, "taken"),
     (Code::NoTable, "no table"),
     (Code::UnknownClient, "strange tablet"),
@@ -72,6 +74,7 @@ const NAMED: [(Code, &str); 20] = [
     (Code::Marked, "marked box"),
     (Code::BadName, "bad name"),
     (Code::NoSuchMark, "no such mark"),
+    (Code::WrongBoard, "wrong board"),
     (Code::BadList, "bad list"),
 ];
 
@@ -107,7 +110,7 @@ mod tests {
 
     #[test]
     fn each_number_has_its_code() {
-        let numbers: Vec<u8> = (0..=18).chain([21]).collect();
+        let numbers: Vec<u8> = (0..=19).chain([21]).collect();
         for number in 0..=u8::MAX {
             let known = numbers.contains(&number).then_some(number);
             assert_eq!(Code::of(number).map(Code::number), known);

@@ -19,4 +19,4 @@ pub use answer::{Answer, Line, State};
 pub use call::{Call, KINDS, STRIKE};
 pub use code::Code;
 pub use order::order_file;
-pub use sizes::{BIBS, BUNDLE, CLIENTS, REVISIONS, SHEET, UPDATES};
+pub use sizes::{BIBS, BOARD, BUNDLE, CLIENTS, REVISIONS, SHEET, UPDATES};

@@ -1,4 +1,4 @@
-//! 01, "Sizes of a day", and 02's bundle, for what makes and judges days. The implementations that
+//! 01, "Sizes of a day", and 02's bundle and board, for what makes and judges days. The implementations that
 //! are compared keep numbers of their own, and the tests of 01's and 02's edges have them written out.
 
 use crate::Line;
@@ -13,5 +13,7 @@ pub const BIBS: u16 = 1_000;
 pub const UPDATES: usize = 4_096;
 /// Records of a bundle, of which there is one at least.
 pub const BUNDLE: usize = 64;
+/// The length of a board, with an entry of five bytes for each bib.
+pub const BOARD: usize = 5 * BIBS as usize;
 /// The length of a listing buffer (01: sheet) that every listing fits.
 pub const SHEET: usize = UPDATES * Line::BYTES;

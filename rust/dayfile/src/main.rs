@@ -7,8 +7,8 @@ use std::io::{self, Read, Write};
 use std::process::ExitCode;
 
 use dayfile::{
-    drawn_day, misfit, ordered_day, printed_day, read_file, read_text, shown_day, write_file,
-    write_text, Record, LONGEST,
+    boarded_day, drawn_day, misfit, ordered_day, printed_day, read_file, read_text, shown_day,
+    write_file, write_text, Record, LONGEST,
 };
 
 const HELP: &str = "\
@@ -18,13 +18,16 @@ usage: dayfile pack   [TEXT [FILE]]   text to day file
        dayfile unpack [FILE [TEXT]]   day file to text
        dayfile show   [FILE]          each step with its code, value and refusal
        dayfile print  [FILE]          the printed day: index, code, value
+       dayfile board  [FILE]          the announcer's board: bib, state, value
        dayfile draw   [FILE [SVG]]    the day's diagram as a picture
        dayfile order  [FILE [ORDER]]  the order of the day's updates, as a file
        dayfile verify FILE ORDER      whether such a file fits the day: yes or no
        dayfile --help                 this text
 
 A missing name or `-` means standard input or standard output. `show`, `print`
-and `draw` have `struck` for the value of a query that finds its bib struck.
+and `draw` have `struck` for the value of a query that finds its bib struck. `board`
+has the bibs that are struck or timed at box 0 when the day ends, by closed
+transactions only.
 
 An order has a count and an offset, 4 bytes each, and from the offset on update
 numbers of 2 bytes, least significant byte first. It fits if it has every update
@@ -67,6 +70,8 @@ fn main() -> ExitCode {
         ["show", file] => show(file),
         ["print"] => print("-"),
         ["print", file] => print(file),
+        ["board"] => board("-"),
+        ["board", file] => board(file),
         ["draw"] => draw("-", "-"),
         ["draw", file] => draw(file, "-"),
         ["draw", file, picture] => draw(file, picture),
@@ -102,6 +107,10 @@ fn unpack(file: &str, text: &str) -> Result<(), String> {
 
 fn show(file: &str) -> Result<(), String> {
     write_bytes("-", shown_day(&records(file)?).as_bytes())
+}
+
+fn board(file: &str) -> Result<(), String> {
+    write_bytes("-", boarded_day(&records(file)?).as_bytes())
 }
 
 fn draw(file: &str, picture: &str) -> Result<(), String> {

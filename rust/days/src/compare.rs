@@ -1,11 +1,11 @@
-//! The literal replay against the baseline, answer by answer.
+//! The literal replay against the baseline, answer by answer and board by board.
 
 use calls::{Answer, Call};
 use literal::Day;
 
 use crate::reads::{every_fill, every_list, every_preview};
 
-/// The first call that the two answer differently, in words.
+/// The first call that the two answer differently, or after which their boards differ, in words.
 pub fn disagreement(calls: &[Call]) -> Option<String> {
     disagreement_with(calls, |_| Vec::new())
 }
@@ -34,7 +34,9 @@ pub fn disagreement_with_previews(calls: &[Call], bibs: &[u16]) -> Option<String
 fn disagreement_with(calls: &[Call], reads: impl Fn(&Day) -> Vec<Call>) -> Option<String> {
     let mut both = Both::fresh();
     calls.iter().find_map(|call| {
-        both.differ(call).or_else(|| reads(&both.literal).iter().find_map(|read| both.differ(read)))
+        both.differ(call)
+            .or_else(|| both.boards_differ(call))
+            .or_else(|| reads(&both.literal).iter().find_map(|read| both.differ(read)))
     })
 }
 
@@ -51,5 +53,10 @@ impl Both {
     fn differ(&mut self, call: &Call) -> Option<String> {
         let (literal, baseline) = (self.literal.call(call), self.baseline.call(call));
         (literal != baseline).then(|| format!("`{call}`: literal {literal}, baseline {baseline}"))
+    }
+
+    fn boards_differ(&self, call: &Call) -> Option<String> {
+        (self.literal.board() != self.baseline.board())
+            .then(|| format!("`{call}`: the baseline's board is not as worked out afresh"))
     }
 }

@@ -3,7 +3,7 @@
 
 use std::collections::BTreeMap;
 
-use calls::{Answer, Call, Code, Line, CLIENTS, REVISIONS, SHEET};
+use calls::{Answer, Call, Code, Line, BOARD, CLIENTS, REVISIONS, SHEET};
 
 use crate::profile::Profile;
 use crate::rng::Rng;
@@ -24,6 +24,8 @@ pub fn random_day(profile: &Profile, seed: u64) -> Vec<Call> {
 pub(crate) struct Generator<'a> {
     pub(crate) profile: &'a Profile,
     pub(crate) rng: Rng,
+    /// For boards of wrong lengths: the other calls of a day are the same without them.
+    boards: Rng,
     day: baseline::Day,
     calls: Vec<Call>,
     /// The revisions that are out, in the order of their starts.
@@ -54,6 +56,7 @@ impl<'a> Generator<'a> {
         Generator {
             profile,
             rng: Rng::new(seed),
+            boards: Rng::new(!seed),
             day: baseline::Day::fresh(),
             calls: Vec::new(),
             out: vec![0],
@@ -69,8 +72,23 @@ impl<'a> Generator<'a> {
         }
     }
 
-    /// Makes a call.
+    /// Makes a call; now and then one that takes a board is made with a wrong one before.
     pub(crate) fn make(&mut self, call: Call) {
+        let often = match call {
+            Call::Fresh { .. } => 20,
+            Call::Bundle { .. } => 10,
+            _ => 2,
+        };
+        if call.takes_a_board() && self.boards.percent(often) {
+            let any = self.boards.below(2 * BOARD);
+            let length = self.boards.pick(&[0, 1, BOARD - 1, BOARD + 1, any]);
+            let call = Box::new(call.clone());
+            self.made(Call::OnBoard { length, call });
+        }
+        self.made(call);
+    }
+
+    fn made(&mut self, call: Call) {
         let answer = self.day.call(&call);
         self.learn(&call, &answer);
         self.calls.push(call);
@@ -105,7 +123,7 @@ impl<'a> Generator<'a> {
             }
             Call::Drop { ref name } => self.dropped(name),
             Call::List { .. } | Call::Fill { .. } | Call::Preview { .. } => {}
-            Call::Verify { .. } => {}
+            Call::Verify { .. } | Call::OnBoard { .. } => {}
         }
     }
 

@@ -58,7 +58,8 @@ impl History {
             Call::Fresh { single_main } => *self = History { single_main, ..History::fresh() },
             Call::Query { .. } | Call::Yield { .. } => {}
             Call::List { .. } | Call::Fill { .. } | Call::Preview { .. } => {}
-            Call::Verify { .. } => {}
+            // Only with a board of a wrong length.
+            Call::Verify { .. } | Call::OnBoard { .. } => {}
         }
     }
 
@@ -84,6 +85,8 @@ pub(crate) fn named(call: &Call) -> Vec<u8> {
     match *call {
         Call::Yield { .. } | Call::Fresh { .. } => vec![],
         Call::Drop { .. } | Call::Verify { .. } => vec![],
+        // 19 comes before any number is looked at.
+        Call::OnBoard { .. } => vec![],
         Call::Update { revision, .. } | Call::Query { revision, .. } => vec![revision],
         Call::Bundle { revision, .. } | Call::List { revision, .. } => vec![revision],
         Call::Fork { revision } | Call::Fill { revision } => vec![revision],

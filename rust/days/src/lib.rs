@@ -1,7 +1,7 @@
 //! Random days, and the checkers that judge them.
 //!
 //! Days are made from a seed, but for the short ones of [`late_days`]. A failed check prints the
-//! seed, and the shortest day found that still fails. There are eleven checks:
+//! seed, and the shortest day found that still fails. There are thirteen checks:
 //!
 //! - the literal replay and the baseline agree on every answer;
 //! - an arbitration order (01: line-up) has what demand 3 says of it, by brute force;
@@ -14,12 +14,14 @@
 //! - marks have names and lists by the calls before, and refuse what they must;
 //! - what comes of a mark is taken over by nothing that does not;
 //! - joins and syncs leave the table but at few places;
-//! - a verify says yes to the day's own line-up, and to others what the literal replay says.
+//! - a verify says yes to the day's own line-up, and to others what the literal replay says;
+//! - a board is right after every call, and any other has what its promise says.
 
 #![forbid(unsafe_code)]
 
 mod arbitration;
 mod beginning;
+mod boards;
 mod branching;
 mod bundles;
 mod chains;
@@ -54,6 +56,7 @@ mod syncs;
 mod verdicts;
 
 pub use arbitration::arbitration_order;
+pub use boards::{brought, fault_of_boards, post, rightly_left};
 pub use bundles::{fault_of_bundles, updates_of};
 pub use chains::chains_of_joins;
 pub use compare::{

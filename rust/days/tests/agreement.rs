@@ -1,5 +1,5 @@
 //! Random days of all kinds: the literal replay and the baseline give the same code, state, value,
-//! total, gain and listing for every call.
+//! total, gain and listing for every call, and the baseline's board is as worked out afresh.
 
 use std::collections::BTreeMap;
 
@@ -79,15 +79,15 @@ fn every_call_meets_each_of_its_codes() {
     let codes: [(&str, &[u8]); 14] = [
         ("update", &[0, 2, 3, 4, 5, 6, 7, 8, 9, 16]),
         ("query", &[0, 2, 3, 4, 5, 6, 7, 8, 16]),
-        ("yield", &[0, 2]),
+        ("yield", &[0, 2, 19]),
         ("fork", &[0, 3, 4, 7, 10, 15]),
-        ("join", &[0, 3, 4, 7, 11, 15, 16]),
+        ("join", &[0, 3, 4, 7, 11, 15, 16, 19]),
         ("list", &[0, 3, 4, 7, 12]),
         ("fill", &[0, 3, 4]),
-        ("bundle", &[0, 2, 3, 4, 5, 6, 7, 8, 9, 14, 16]),
+        ("bundle", &[0, 2, 3, 4, 5, 6, 7, 8, 9, 14, 16, 19]),
         ("preview", &[0, 3, 4, 5, 7, 11, 15, 16]),
-        ("fresh", &[0]),
-        ("sync", &[0, 3, 4, 7, 11, 16]),
+        ("fresh", &[0, 19]),
+        ("sync", &[0, 3, 4, 7, 11, 16, 19]),
         ("mark", &[0, 3, 4, 7, 10, 15, 17]),
         ("drop", &[0, 18]),
         ("verify", &[0, 21]),

@@ -1,7 +1,7 @@
 //! 02, U11, on random days, by the baseline: joins and syncs leave the table but at few places. And
 //! heavy joins and syncs are found: each is the baseline with some more bytes written.
 
-use calls::{Answer, Call, Code};
+use calls::{Answer, Call, Code, BOARD};
 use days::{chains_of_joins, must_find, must_pass, one_in, seeds, Heaviest, Profile};
 
 /// Where the parts lie: docs/CELLS.md.
@@ -18,7 +18,7 @@ fn fresh() -> Bytes {
 
 /// Makes a call by the baseline.
 fn right(t: &mut Bytes, call: &Call) -> Answer {
-    baseline::call(t, call).unwrap_or_else(Answer::refused)
+    baseline::call(t, &mut [0; BOARD], call).unwrap_or_else(Answer::refused)
 }
 
 #[test]

@@ -3,7 +3,7 @@
 
 use std::collections::BTreeMap;
 
-use calls::{Answer, Call, Code, REVISIONS};
+use calls::{Answer, Call, Code, BOARD, REVISIONS};
 use days::{
     days_of, fault_of_syncs, must_find, must_pass, one_in, strange_code, unseen_by_a_start, Profile,
 };
@@ -54,7 +54,7 @@ fn three_forks() -> Vec<u8> {
 /// Makes a call by the baseline; a refused one leaves every byte.
 fn code(t: &mut [u8], call: &Call) -> Code {
     let before = t.to_vec();
-    match baseline::call(t, call) {
+    match baseline::call(t, &mut [0; BOARD], call) {
         Ok(_) => Code::Accepted,
         Err(code) => {
             assert!(*t == before, "`{call}` is refused and changes a byte");

@@ -2,7 +2,7 @@
 //! changed before or after a fork or a join, as by a table that leaves something of a number's earlier
 //! bearer, or takes another number than it should.
 
-use calls::{Answer, Call, Code};
+use calls::{Answer, Call, Code, BOARD};
 use days::{disagreement_by, must_find, Profile};
 
 /// Where the parts lie: docs/CELLS.md.
@@ -140,7 +140,7 @@ fn add(before: &[u8], t: &mut [u8], at: usize, length: usize) {
 }
 
 fn right(table: &mut Table, call: &Call) -> Answer {
-    baseline::call(&mut table.bytes, call).unwrap_or_else(Answer::refused)
+    baseline::call(&mut table.bytes, &mut [0; BOARD], call).unwrap_or_else(Answer::refused)
 }
 
 /// Makes the call, before a fork on changed cells. A refused one leaves what there was.

@@ -1,7 +1,7 @@
 //! 02, U8: wrong single-main days and wrong syncs are found by the literal replay. Each is the baseline
 //! with the choice's cell changed for a call, or with the parts of a sync put together otherwise.
 
-use calls::{Answer, Call, Code, BIBS};
+use calls::{Answer, Call, Code, BIBS, BOARD};
 use days::{disagreement_by, must_find, Profile};
 
 /// Where the parts lie: docs/CELLS.md.
@@ -201,7 +201,7 @@ const SYNCS: [(&str, Wrong); 16] = [
 ];
 
 fn right(t: &mut Bytes, call: &Call) -> Answer {
-    baseline::call(t, call).unwrap_or_else(Answer::refused)
+    baseline::call(t, &mut [0; BOARD], call).unwrap_or_else(Answer::refused)
 }
 
 /// The call on a day of this choice.

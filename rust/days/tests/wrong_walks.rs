@@ -4,7 +4,7 @@
 
 use std::iter::once;
 
-use calls::{Answer, Call, Code, STRIKE};
+use calls::{Answer, Call, Code, BOARD, STRIKE};
 use days::{disagreement_by, must_find, must_pass, seeds, stands, Profile};
 use literal::Update;
 
@@ -128,7 +128,8 @@ fn by_walk(walk: Walk) -> impl Fn(&[Call]) -> Option<String> {
     move |calls| {
         let mut t = baseline::Day::fresh().bytes().to_vec();
         disagreement_by(calls, |call| {
-            let answer = baseline::call(&mut t, call).unwrap_or_else(Answer::refused);
+            let answer =
+                baseline::call(&mut t, &mut [0; BOARD], call).unwrap_or_else(Answer::refused);
             match *call {
                 Call::Query { revision, bib, .. } if answer.code == Code::Accepted => {
                     let applied = walk(met(&t, revision), bib).into_iter().map(|met| met.update);

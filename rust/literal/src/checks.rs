@@ -1,5 +1,5 @@
-//! The checks behind codes 2 to 12, 14 to 18 and 21, each by itself: 01, "Codes of the desk", and 02, U4,
-//! U7, U8, U9 and U13.
+//! The checks behind codes 2 to 12, 14 to 19 and 21, each by itself: 01, "Codes of the desk", and 02, U4,
+//! U7, U8, U9, U10 and U13.
 
 use calls::Code;
 
@@ -45,6 +45,11 @@ pub(crate) fn listing_fits(visible: usize, room: usize) -> Result<(), Code> {
 pub(crate) fn bundle_whole(bytes: usize) -> Result<(), Code> {
     let whole = bytes.is_multiple_of(ENTRY);
     refuse_if(!whole || !(1..=64).contains(&(bytes / ENTRY)), Code::WrongBundle)
+}
+
+/// 19: "length other than 5,000".
+pub(crate) fn board_whole(bytes: usize) -> Result<(), Code> {
+    refuse_if(bytes != 5_000, Code::WrongBoard)
 }
 
 /// 21: "if the length or the offset is under 8, or offset + 2 times the count isn't the length"; else the

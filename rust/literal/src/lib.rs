@@ -9,6 +9,7 @@
 
 #![forbid(unsafe_code)]
 
+mod board;
 mod checks;
 mod day;
 mod diagram;

@@ -9,7 +9,13 @@ use crate::refusal::{answer, Refusal};
 use crate::standing::Standing;
 
 extern "C" {
-    fn silttongs_fresh(table: *mut u8, length: usize, single_main: u8) -> u64;
+    fn silttongs_fresh(
+        table: *mut u8,
+        length: usize,
+        board: *mut u8,
+        board_length: usize,
+        single_main: u8,
+    ) -> u64;
     fn silttongs_update(
         table: *mut u8,
         length: usize,
@@ -20,10 +26,29 @@ extern "C" {
         v: u32,
     ) -> u64;
     fn silttongs_query(table: *mut u8, length: usize, client: u8, revision: u8, bib: u16) -> u64;
-    fn silttongs_yield(table: *mut u8, length: usize, client: u8) -> u64;
+    fn silttongs_yield(
+        table: *mut u8,
+        length: usize,
+        board: *mut u8,
+        board_length: usize,
+        client: u8,
+    ) -> u64;
     fn silttongs_fork(table: *mut u8, length: usize, revision: u8) -> u64;
-    fn silttongs_join(table: *mut u8, length: usize, joiner: u8, joinee: u8) -> u64;
-    fn silttongs_sync(table: *mut u8, length: usize, revision: u8) -> u64;
+    fn silttongs_join(
+        table: *mut u8,
+        length: usize,
+        board: *mut u8,
+        board_length: usize,
+        joiner: u8,
+        joinee: u8,
+    ) -> u64;
+    fn silttongs_sync(
+        table: *mut u8,
+        length: usize,
+        board: *mut u8,
+        board_length: usize,
+        revision: u8,
+    ) -> u64;
     fn silttongs_mark(
         table: *mut u8,
         length: usize,
@@ -43,6 +68,8 @@ extern "C" {
     fn silttongs_bundle(
         table: *mut u8,
         length: usize,
+        board: *mut u8,
+        board_length: usize,
         client: u8,
         revision: u8,
         records: *const u8,
@@ -61,10 +88,11 @@ extern "C" {
 // its slices, and keeps nothing of them. A slice that it writes is lent to it alone for as long as
 // it runs.
 
-pub(crate) fn fresh(t: &mut [u8], day: Day) -> Result<u32, Refusal> {
+pub(crate) fn fresh(t: &mut [u8], board: &mut [u8], day: Day) -> Result<u32, Refusal> {
     let single_main = u8::from(day == Day::SingleMain);
-    // SAFETY: as above.
-    answer(unsafe { silttongs_fresh(t.as_mut_ptr(), t.len(), single_main) })
+    let (at, length) = (board.as_mut_ptr(), board.len());
+    // SAFETY: as above. The board lies apart from the table.
+    answer(unsafe { silttongs_fresh(t.as_mut_ptr(), t.len(), at, length, single_main) })
 }
 
 pub(crate) fn update(
@@ -85,9 +113,10 @@ pub(crate) fn query(t: &mut [u8], client: u8, revision: u8, bib: u16) -> Result<
     Standing::from_packed(packed)
 }
 
-pub(crate) fn yield_(t: &mut [u8], client: u8) -> Result<u32, Refusal> {
-    // SAFETY: as above.
-    answer(unsafe { silttongs_yield(t.as_mut_ptr(), t.len(), client) })
+pub(crate) fn yield_(t: &mut [u8], board: &mut [u8], client: u8) -> Result<u32, Refusal> {
+    let (at, length) = (board.as_mut_ptr(), board.len());
+    // SAFETY: as above. The board lies apart from the table.
+    answer(unsafe { silttongs_yield(t.as_mut_ptr(), t.len(), at, length, client) })
 }
 
 pub(crate) fn fork(t: &mut [u8], revision: u8) -> Result<u8, Refusal> {
@@ -95,14 +124,16 @@ pub(crate) fn fork(t: &mut [u8], revision: u8) -> Result<u8, Refusal> {
     number(unsafe { silttongs_fork(t.as_mut_ptr(), t.len(), revision) })
 }
 
-pub(crate) fn join(t: &mut [u8], joiner: u8, joinee: u8) -> Result<u32, Refusal> {
-    // SAFETY: as above.
-    answer(unsafe { silttongs_join(t.as_mut_ptr(), t.len(), joiner, joinee) })
+pub(crate) fn join(t: &mut [u8], board: &mut [u8], joiner: u8, joinee: u8) -> Result<u32, Refusal> {
+    let (at, length) = (board.as_mut_ptr(), board.len());
+    // SAFETY: as above. The board lies apart from the table.
+    answer(unsafe { silttongs_join(t.as_mut_ptr(), t.len(), at, length, joiner, joinee) })
 }
 
-pub(crate) fn sync(t: &mut [u8], revision: u8) -> Result<u8, Refusal> {
-    // SAFETY: as above.
-    number(unsafe { silttongs_sync(t.as_mut_ptr(), t.len(), revision) })
+pub(crate) fn sync(t: &mut [u8], board: &mut [u8], revision: u8) -> Result<u8, Refusal> {
+    let (at, length) = (board.as_mut_ptr(), board.len());
+    // SAFETY: as above. The board lies apart from the table.
+    number(unsafe { silttongs_sync(t.as_mut_ptr(), t.len(), at, length, revision) })
 }
 
 pub(crate) fn mark(t: &mut [u8], revision: u8, name: &[u8]) -> Result<u8, Refusal> {
@@ -134,13 +165,25 @@ pub(crate) fn fill(t: &[u8], revision: u8) -> Result<Fill, Refusal> {
 
 pub(crate) fn bundle(
     t: &mut [u8],
+    board: &mut [u8],
     client: u8,
     revision: u8,
     records: &[u8],
 ) -> Result<u32, Refusal> {
-    let (at, length) = (records.as_ptr(), records.len());
-    // SAFETY: as above. The records are only read, and lie apart from the table.
-    answer(unsafe { silttongs_bundle(t.as_mut_ptr(), t.len(), client, revision, at, length) })
+    // SAFETY: as above. The board lies apart from the table; the records are only read, and lie apart
+    // from both.
+    answer(unsafe {
+        silttongs_bundle(
+            t.as_mut_ptr(),
+            t.len(),
+            board.as_mut_ptr(),
+            board.len(),
+            client,
+            revision,
+            records.as_ptr(),
+            records.len(),
+        )
+    })
 }
 
 pub(crate) fn preview(t: &[u8], joiner: u8, joinee: u8, bib: u16) -> Result<Preview, Refusal> {

@@ -9,19 +9,46 @@
 //! What box 1 has comes behind when it is handed in.
 //!
 //! ```
-//! use silttongs::{Day, Kind, Refusal, Standing, Table, BYTES};
+//! use silttongs::{Board, Day, Kind, Refusal, Standing, Table, BYTES};
 //!
-//! let mut table = Table::fresh(vec![0; BYTES], Day::Ordinary)?;
+//! let mut board = Board::new();
+//! let mut table = Table::fresh(vec![0; BYTES], &mut board, Day::Ordinary)?;
 //! table.update(0, 0, Kind::Time, 7, 61_000)?;
-//! table.yield_(0)?;
+//! table.yield_(&mut board, 0)?;
 //! let sent = table.fork(0)?;
 //! table.update(1, sent, Kind::Penalty, 7, 5_000)?;
-//! table.yield_(1)?;
+//! table.yield_(&mut board, 1)?;
 //! table.update(0, 0, Kind::Time, 7, 60_000)?;
-//! table.yield_(0)?;
+//! table.yield_(&mut board, 0)?;
 //! assert_eq!(table.query(0, sent, 7), Err(Refusal::Stale));
-//! assert_eq!(table.join(0, sent), Ok(1));
+//! assert_eq!(table.join(&mut board, 0, sent), Ok(1));
 //! assert_eq!(table.query(1, 0, 7), Ok(Standing::Timed(65_000)));
+//! # Ok::<(), Refusal>(())
+//! ```
+//!
+//! The announcer reads the [`Board`], a second buffer that is lent to the calls by which box 0 gets
+//! updates: every bib at once, by closed transactions only.
+//!
+//! ```
+//! use silttongs::{Board, Day, Kind, Refusal, Standing, Table, BYTES};
+//!
+//! let mut board = Board::new();
+//! let mut table = Table::fresh(vec![0; BYTES], &mut board, Day::SingleMain)?;
+//! let sent = table.fork(0)?;
+//! table.update(1, sent, Kind::Time, 7, 61_000)?;
+//! table.update(1, sent, Kind::Strike, 12, 0)?;
+//! table.yield_(&mut board, 1)?;
+//! table.sync(&mut board, sent)?;
+//!
+//! let lines: Vec<String> = board
+//!     .standings()
+//!     .filter(|&(_, standing)| standing != Standing::Neither)
+//!     .map(|(bib, standing)| match standing {
+//!         Standing::Struck => format!("{bib} struck"),
+//!         _ => format!("{bib} {}", standing.value()),
+//!     })
+//!     .collect();
+//! assert_eq!(lines, ["7 61000", "12 struck"]);
 //! # Ok::<(), Refusal>(())
 //! ```
 //!
@@ -30,20 +57,21 @@
 //! result.
 //!
 //! ```
-//! use silttongs::{lines, Day, Kind, Line, Name, Refusal, Table, BYTES, SHEET};
+//! use silttongs::{lines, Board, Day, Kind, Line, Name, Refusal, Table, BYTES, SHEET};
 //!
-//! let mut table = Table::fresh(vec![0; BYTES], Day::Ordinary)?;
+//! let mut board = Board::new();
+//! let mut table = Table::fresh(vec![0; BYTES], &mut board, Day::Ordinary)?;
 //! table.update(0, 0, Kind::Time, 7, 60_000)?;
-//! table.yield_(0)?;
+//! table.yield_(&mut board, 0)?;
 //! let name = Name::new("JURY")?;
 //! let mark = table.mark(0, name)?;
 //! table.update(0, 0, Kind::Strike, 7, 0)?;
-//! table.yield_(0)?;
+//! table.yield_(&mut board, 0)?;
 //!
 //! let back = table.fork(mark)?;
 //! table.update(1, back, Kind::Penalty, 7, 5_000)?;
-//! table.yield_(1)?;
-//! assert_eq!(table.join(0, back), Err(Refusal::NotJoinable));
+//! table.yield_(&mut board, 1)?;
+//! assert_eq!(table.join(&mut board, 0, back), Err(Refusal::NotJoinable));
 //! table.drop(name)?;
 //!
 //! let mut sheet = vec![0; SHEET];
@@ -59,6 +87,7 @@
 #![no_std]
 #![deny(unsafe_code)]
 
+mod board;
 mod day;
 mod entry;
 mod exports;
@@ -71,6 +100,7 @@ mod refusal;
 mod standing;
 mod table;
 
+pub use board::{Board, BOARD};
 pub use day::Day;
 pub use entry::{Entry, BUNDLE};
 pub use fill::Fill;

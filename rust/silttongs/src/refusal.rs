@@ -49,12 +49,14 @@ pub enum Refusal {
     BadName = 17,
     /// No mark that is out has the name.
     NoSuchMark = 18,
+    /// A board has another length than [`BOARD`](crate::BOARD).
+    WrongBoard = 19,
     /// The header of an order does not fit its length.
     BadList = 21,
 }
 
 /// In the order of their numbers. 13 is given by the program `day` alone.
-const ALL: [Refusal; 18] = [
+const ALL: [Refusal; 19] = [
     Refusal::NoTable,
     Refusal::UnknownClient,
     Refusal::NeverGiven,
@@ -72,6 +74,7 @@ const ALL: [Refusal; 18] = [
     Refusal::Marked,
     Refusal::BadName,
     Refusal::NoSuchMark,
+    Refusal::WrongBoard,
     Refusal::BadList,
 ];
 
@@ -101,6 +104,7 @@ impl Refusal {
             Refusal::Marked => "marked box",
             Refusal::BadName => "bad name",
             Refusal::NoSuchMark => "no such mark",
+            Refusal::WrongBoard => "wrong board",
             Refusal::BadList => "bad list",
         }
     }
@@ -134,7 +138,7 @@ mod tests {
 
     #[test]
     fn each_number_has_its_refusal() {
-        assert!(ALL.map(Refusal::code).into_iter().eq((1..=12).chain(14..=18).chain([21])));
+        assert!(ALL.map(Refusal::code).into_iter().eq((1..=12).chain(14..=19).chain([21])));
         for refusal in ALL {
             assert_eq!(answer(u64::from(refusal.code()) << 32), Err(refusal));
         }

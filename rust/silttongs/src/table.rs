@@ -1,5 +1,6 @@
 //! The calls as methods.
 
+use crate::board::Board;
 use crate::day::Day;
 use crate::entry::{records, Entry, BUNDLE};
 use crate::exports;
@@ -48,38 +49,46 @@ impl TryFrom<u8> for Kind {
 /// or `&[u8]` for what only reads: lists, fills, previews, verifies and [`marks`](Table::marks).
 ///
 /// Nothing but the bytes is kept. A refused call changes none of them. A box is a revision of the
-/// table, a tablet is a client.
+/// table, a tablet is a client. A [`Board`] is lent besides to the calls that may bring updates to box 0.
 #[derive(Clone, Copy, Debug, PartialEq, Eq)]
 pub struct Table<B>(B);
 
 impl<B: AsMut<[u8]>> Table<B> {
-    /// A new day, whatever the bytes were: box 0 alone, every bib 0 and not struck.
+    /// A new day, whatever the bytes were: box 0 alone, every bib 0 and not struck. The board is
+    /// cleared, whatever it was.
     ///
     /// ```
-    /// use silttongs::{Day, Refusal, Table, BYTES};
+    /// use silttongs::{Board, Day, Refusal, Table, BYTES};
     ///
-    /// let mut lent = [0; BYTES];
-    /// assert!(Table::fresh(&mut lent, Day::Ordinary).is_ok());
-    /// assert_eq!(Table::fresh(&mut lent[1..], Day::Ordinary).err(), Some(Refusal::NoTable));
+    /// let (mut lent, mut board) = ([0; BYTES], Board::new());
+    /// assert!(Table::fresh(&mut lent, &mut board, Day::Ordinary).is_ok());
+    /// let short = Table::fresh(&mut lent[1..], &mut board, Day::Ordinary);
+    /// assert_eq!(short.err(), Some(Refusal::NoTable));
     /// ```
     ///
     /// On a single-main day boxes come from box 0 and go back to it alone:
     ///
     /// ```
-    /// # use silttongs::{Day, Refusal, Table, BYTES};
-    /// let mut table = Table::fresh([0; BYTES], Day::SingleMain)?;
+    /// # use silttongs::{Board, Day, Refusal, Table, BYTES};
+    /// let mut board = Board::new();
+    /// let mut table = Table::fresh([0; BYTES], &mut board, Day::SingleMain)?;
     /// assert_eq!((table.fork(0), table.fork(0)), (Ok(1), Ok(2)));
     /// assert_eq!(table.fork(1), Err(Refusal::OffTheLine));
-    /// assert_eq!(table.join(2, 1), Err(Refusal::OffTheLine));
-    /// assert_eq!(table.join(0, 1), Ok(0));
+    /// assert_eq!(table.join(&mut board, 2, 1), Err(Refusal::OffTheLine));
+    /// assert_eq!(table.join(&mut board, 0, 1), Ok(0));
     /// # Ok::<(), Refusal>(())
     /// ```
     ///
     /// # Errors
     ///
-    /// [`Refusal::NoTable`] if there aren't [`BYTES`] bytes.
-    pub fn fresh(mut bytes: B, day: Day) -> Result<Self, Refusal> {
-        exports::fresh(bytes.as_mut(), day)?;
+    /// [`Refusal::NoTable`] if there aren't [`BYTES`] bytes, [`Refusal::WrongBoard`] if the board
+    /// hasn't [`BOARD`](crate::BOARD).
+    pub fn fresh(
+        mut bytes: B,
+        board: &mut Board<impl AsMut<[u8]>>,
+        day: Day,
+    ) -> Result<Self, Refusal> {
+        exports::fresh(bytes.as_mut(), board.lent(), day)?;
         Ok(Table(bytes))
     }
 
@@ -87,9 +96,10 @@ impl<B: AsMut<[u8]>> Table<B> {
     /// need be. Its number is the answer: the count of updates taken before it.
     ///
     /// ```
-    /// use silttongs::{Day, Kind, Refusal, Table, BYTES};
+    /// use silttongs::{Board, Day, Kind, Refusal, Table, BYTES};
     ///
-    /// let mut table = Table::fresh([0; BYTES], Day::Ordinary)?;
+    /// let mut board = Board::new();
+    /// let mut table = Table::fresh([0; BYTES], &mut board, Day::Ordinary)?;
     /// assert_eq!(table.update(0, 0, Kind::Time, 7, 61_000), Ok(0));
     /// assert_eq!(table.update(0, 0, Kind::Penalty, 7, 5_000), Ok(1));
     /// assert_eq!(table.update(0, 0, Kind::Strike, 1_000, 0), Err(Refusal::BadEntry));
@@ -115,9 +125,10 @@ impl<B: AsMut<[u8]>> Table<B> {
     /// what it saw.
     ///
     /// ```
-    /// use silttongs::{Day, Kind, Refusal, Standing, Table, BYTES};
+    /// use silttongs::{Board, Day, Kind, Refusal, Standing, Table, BYTES};
     ///
-    /// let mut table = Table::fresh([0; BYTES], Day::Ordinary)?;
+    /// let mut board = Board::new();
+    /// let mut table = Table::fresh([0; BYTES], &mut board, Day::Ordinary)?;
     /// assert_eq!(table.query(0, 0, 7), Ok(Standing::Neither));
     /// table.update(0, 0, Kind::Time, 7, 61_000)?;
     /// assert_eq!(table.query(0, 0, 7), Ok(Standing::Timed(61_000)));
@@ -129,8 +140,9 @@ impl<B: AsMut<[u8]>> Table<B> {
     /// A struck bib stays struck until a Time:
     ///
     /// ```
-    /// # use silttongs::{Day, Kind, Refusal, Standing, Table, BYTES};
-    /// # let mut table = Table::fresh([0; BYTES], Day::Ordinary)?;
+    /// # use silttongs::{Board, Day, Kind, Refusal, Standing, Table, BYTES};
+    /// # let mut board = Board::new();
+    /// # let mut table = Table::fresh([0; BYTES], &mut board, Day::Ordinary)?;
     /// table.update(0, 0, Kind::Strike, 7, 0)?;
     /// table.update(0, 0, Kind::Earliest, 7, 60_000)?;
     /// table.update(0, 0, Kind::Penalty, 7, 5_000)?;
@@ -148,33 +160,39 @@ impl<B: AsMut<[u8]>> Table<B> {
     }
 
     /// The call yield, whose name is a word of the language: closes the tablet's transaction, if it
-    /// has one.
+    /// has one. If that is on box 0, its updates are brought to the board.
     ///
     /// ```
-    /// use silttongs::{Day, Refusal, Table, BYTES};
+    /// use silttongs::{Board, Day, Refusal, Table, BYTES};
     ///
-    /// let mut table = Table::fresh([0; BYTES], Day::Ordinary)?;
+    /// let mut board = Board::new();
+    /// let mut table = Table::fresh([0; BYTES], &mut board, Day::Ordinary)?;
     /// table.query(0, 0, 7)?;
     /// assert_eq!(table.fork(0), Err(Refusal::InUse));
-    /// table.yield_(0)?;
+    /// table.yield_(&mut board, 0)?;
     /// assert_eq!(table.fork(0), Ok(1));
     /// # Ok::<(), Refusal>(())
     /// ```
     ///
     /// # Errors
     ///
-    /// Codes 1 and 2.
-    pub fn yield_(&mut self, client: u8) -> Result<(), Refusal> {
-        exports::yield_(self.0.as_mut(), client).map(|_| ())
+    /// Codes 1, 19 and 2, in this order.
+    pub fn yield_(
+        &mut self,
+        board: &mut Board<impl AsMut<[u8]>>,
+        client: u8,
+    ) -> Result<(), Refusal> {
+        exports::yield_(self.0.as_mut(), board.lent(), client).map(|_| ())
     }
 
     /// Sends a new box off from a box, marked or not. Its number is the answer: the next that was never used; once
     /// all were, the number handed in or dropped longest ago. A number means the latest box that bore it.
     ///
     /// ```
-    /// use silttongs::{Day, Refusal, Table, BYTES};
+    /// use silttongs::{Board, Day, Refusal, Table, BYTES};
     ///
-    /// let mut table = Table::fresh([0; BYTES], Day::Ordinary)?;
+    /// let mut board = Board::new();
+    /// let mut table = Table::fresh([0; BYTES], &mut board, Day::Ordinary)?;
     /// assert_eq!(table.fork(0), Ok(1));
     /// assert_eq!(table.fork(1), Ok(2));
     /// assert_eq!(table.fork(3), Err(Refusal::NeverGiven));
@@ -184,14 +202,15 @@ impl<B: AsMut<[u8]>> Table<B> {
     /// 64 boxes may be out at a time:
     ///
     /// ```
-    /// # use silttongs::{Day, Refusal, Table, BYTES};
-    /// # let mut table = Table::fresh([0; BYTES], Day::Ordinary)?;
+    /// # use silttongs::{Board, Day, Refusal, Table, BYTES};
+    /// # let mut board = Board::new();
+    /// # let mut table = Table::fresh([0; BYTES], &mut board, Day::Ordinary)?;
     /// for number in 1..64 {
     ///     assert_eq!(table.fork(0), Ok(number));
     /// }
     /// assert_eq!(table.fork(0), Err(Refusal::NoneLeft));
-    /// table.join(0, 40)?;
-    /// table.join(0, 7)?;
+    /// table.join(&mut board, 0, 40)?;
+    /// table.join(&mut board, 0, 7)?;
     /// assert_eq!(table.fork(40), Err(Refusal::Joined));
     /// assert_eq!(table.fork(0), Ok(40));
     /// assert_eq!(table.fork(40), Ok(7));
@@ -207,54 +226,65 @@ impl<B: AsMut<[u8]>> Table<B> {
 
     /// Hands a box in: the joiner takes over the joinee's updates, behind its own. How many it
     /// gained is the answer. However many those are, the table differs from its former bytes at no
-    /// more than 256 places.
+    /// more than 256 places. What box 0 gains is brought to the board.
     ///
     /// ```
-    /// use silttongs::{Day, Kind, Refusal, Table, BYTES};
+    /// use silttongs::{Board, Day, Kind, Refusal, Table, BYTES};
     ///
-    /// let mut table = Table::fresh([0; BYTES], Day::Ordinary)?;
+    /// let mut board = Board::new();
+    /// let mut table = Table::fresh([0; BYTES], &mut board, Day::Ordinary)?;
     /// table.fork(0)?;
     /// table.update(3, 1, Kind::Time, 7, 61_000)?;
-    /// table.yield_(3)?;
-    /// assert_eq!(table.join(1, 0), Err(Refusal::NotJoinable));
-    /// assert_eq!(table.join(0, 1), Ok(1));
+    /// table.yield_(&mut board, 3)?;
+    /// assert_eq!(table.join(&mut board, 1, 0), Err(Refusal::NotJoinable));
+    /// assert_eq!(table.join(&mut board, 0, 1), Ok(1));
     /// # Ok::<(), Refusal>(())
     /// ```
     ///
     /// # Errors
     ///
-    /// Codes 1, 3, 4, 15, 16, 7 and 11, in this order.
-    pub fn join(&mut self, joiner: u8, joinee: u8) -> Result<u32, Refusal> {
-        exports::join(self.0.as_mut(), joiner, joinee)
+    /// Codes 1, 19, 3, 4, 15, 16, 7 and 11, in this order.
+    pub fn join(
+        &mut self,
+        board: &mut Board<impl AsMut<[u8]>>,
+        joiner: u8,
+        joinee: u8,
+    ) -> Result<u32, Refusal> {
+        exports::join(self.0.as_mut(), board.lent(), joiner, joinee)
     }
 
     /// Hands a box in to box 0 and sends a new one off from there, in one call, on any day: as
     /// [`join`](Table::join) and then [`fork`](Table::fork) of box 0, but both or neither. The new
     /// box's number is the answer. The old number is handed in before a new one is taken; so with 64
     /// boxes out it is the same again. The table differs from its former bytes at no more than 512
-    /// places.
+    /// places. What box 0 gains is brought to the board.
     ///
     /// ```
-    /// use silttongs::{Day, Kind, Refusal, Standing, Table, BYTES};
+    /// use silttongs::{Board, Day, Kind, Refusal, Standing, Table, BYTES};
     ///
-    /// let mut table = Table::fresh([0; BYTES], Day::SingleMain)?;
+    /// let mut board = Board::new();
+    /// let mut table = Table::fresh([0; BYTES], &mut board, Day::SingleMain)?;
     /// let mut sent = table.fork(0)?;
     /// table.update(3, sent, Kind::Time, 7, 61_000)?;
-    /// assert_eq!(table.sync(sent), Err(Refusal::InUse));
-    /// table.yield_(3)?;
-    /// sent = table.sync(sent)?;
+    /// assert_eq!(table.sync(&mut board, sent), Err(Refusal::InUse));
+    /// table.yield_(&mut board, 3)?;
+    /// sent = table.sync(&mut board, sent)?;
     /// assert_eq!(sent, 2);
     /// assert_eq!(table.query(3, sent, 7), Ok(Standing::Timed(61_000)));
-    /// assert_eq!(table.sync(1), Err(Refusal::Joined));
-    /// assert_eq!(table.sync(0), Err(Refusal::NotJoinable));
+    /// assert_eq!(table.sync(&mut board, 1), Err(Refusal::Joined));
+    /// assert_eq!(table.sync(&mut board, 0), Err(Refusal::NotJoinable));
     /// # Ok::<(), Refusal>(())
     /// ```
     ///
     /// # Errors
     ///
-    /// Codes 1, 3, 4, 16, 7 and 11, as for a join into box 0.
-    pub fn sync(&mut self, revision: u8) -> Result<u8, Refusal> {
-        exports::sync(self.0.as_mut(), revision)
+    /// Codes 1, 19, 3, 4, 16, 7 and 11, as for a join into box 0.
+    pub fn sync(
+        &mut self,
+        board: &mut Board<impl AsMut<[u8]>>,
+        revision: u8,
+    ) -> Result<u8, Refusal> {
+        exports::sync(self.0.as_mut(), board.lent(), revision)
     }
 
     /// Marks a box, marked or not: a new box is sent off from it as by [`fork`](Table::fork), and bears a
@@ -269,23 +299,24 @@ impl<B: AsMut<[u8]>> Table<B> {
     /// result.
     ///
     /// ```
-    /// use silttongs::{Day, Kind, Name, Refusal, Standing, Table, BYTES};
+    /// use silttongs::{Board, Day, Kind, Name, Refusal, Standing, Table, BYTES};
     ///
-    /// let mut table = Table::fresh([0; BYTES], Day::Ordinary)?;
+    /// let mut board = Board::new();
+    /// let mut table = Table::fresh([0; BYTES], &mut board, Day::Ordinary)?;
     /// table.update(0, 0, Kind::Time, 7, 60_000)?;
     /// assert_eq!(table.mark(0, "JURY"), Err(Refusal::InUse));
-    /// table.yield_(0)?;
+    /// table.yield_(&mut board, 0)?;
     /// assert_eq!(table.mark(0, Name::new("JURY")?), Ok(1));
     /// assert_eq!(table.mark(0, "JURY"), Err(Refusal::BadName));
     /// assert_eq!(table.mark(0, "jury"), Err(Refusal::BadName));
     /// assert_eq!(table.query(1, 1, 7), Err(Refusal::Marked));
     ///
     /// table.update(0, 0, Kind::Strike, 7, 0)?;
-    /// table.yield_(0)?;
+    /// table.yield_(&mut board, 0)?;
     /// let back = table.fork(1)?;
     /// assert_eq!(table.query(1, back, 7), Ok(Standing::Timed(60_000)));
-    /// table.yield_(1)?;
-    /// assert_eq!(table.join(0, back), Err(Refusal::NotJoinable));
+    /// table.yield_(&mut board, 1)?;
+    /// assert_eq!(table.join(&mut board, 0, back), Err(Refusal::NotJoinable));
     /// # Ok::<(), Refusal>(())
     /// ```
     ///
@@ -300,9 +331,10 @@ impl<B: AsMut<[u8]>> Table<B> {
     /// joins, syncs and drops; its name is free again. Boxes that were forked from it stay.
     ///
     /// ```
-    /// use silttongs::{Day, Refusal, Table, BYTES};
+    /// use silttongs::{Board, Day, Refusal, Table, BYTES};
     ///
-    /// let mut table = Table::fresh([0; BYTES], Day::Ordinary)?;
+    /// let mut board = Board::new();
+    /// let mut table = Table::fresh([0; BYTES], &mut board, Day::Ordinary)?;
     /// assert_eq!(table.mark(0, "JURY"), Ok(1));
     /// table.drop("JURY")?;
     /// assert_eq!(table.drop("JURY"), Err(Refusal::NoSuchMark));
@@ -320,46 +352,56 @@ impl<B: AsMut<[u8]>> Table<B> {
 
     /// Enters 1 to 64 updates on a box, and closes the tablet's transaction there: as
     /// [`update`](Table::update) one by one and then [`yield_`](Table::yield_), but all or none. The
-    /// first entry's number is the answer.
+    /// first entry's number is the answer. On box 0 the transaction is brought to the board, with what
+    /// was entered singly before.
     ///
     /// The records have 12 bytes each, laid out as a [`Line`](crate::Line); their tablet and number
     /// aren't looked at.
     ///
     /// ```
-    /// use silttongs::{Day, Entry, Kind, Refusal, Table, BYTES};
+    /// use silttongs::{Board, Day, Entry, Kind, Refusal, Table, BYTES};
     ///
-    /// let mut table = Table::fresh([0; BYTES], Day::Ordinary)?;
+    /// let mut board = Board::new();
+    /// let mut table = Table::fresh([0; BYTES], &mut board, Day::Ordinary)?;
     /// let time = Entry::new(Kind::Time, 7, 61_000).to_bytes();
     /// let strike = Entry::new(Kind::Strike, 8, 0).to_bytes();
-    /// assert_eq!(table.bundle(0, 0, &[time, strike].concat()), Ok(0));
-    /// assert_eq!(table.bundle(0, 0, &time), Ok(2));
-    /// assert_eq!(table.bundle(0, 0, &time[1..]), Err(Refusal::WrongBundle));
+    /// assert_eq!(table.bundle(&mut board, 0, 0, &[time, strike].concat()), Ok(0));
+    /// assert_eq!(table.bundle(&mut board, 0, 0, &time), Ok(2));
+    /// assert_eq!(table.bundle(&mut board, 0, 0, &time[1..]), Err(Refusal::WrongBundle));
     /// # Ok::<(), Refusal>(())
     /// ```
     ///
     /// # Errors
     ///
-    /// Code 1, then 14 if there are no records, more than 64, or bytes left over. Then that of the
-    /// earliest update that would be refused, 2 to 9 or 16; no byte of the table is changed.
-    pub fn bundle(&mut self, client: u8, revision: u8, records: &[u8]) -> Result<u32, Refusal> {
-        exports::bundle(self.0.as_mut(), client, revision, records)
+    /// Code 1, then 14 if there are no records, more than 64, or bytes left over, then 19. Then that of
+    /// the earliest update that would be refused, 2 to 9 or 16; no byte of table and board is changed.
+    pub fn bundle(
+        &mut self,
+        board: &mut Board<impl AsMut<[u8]>>,
+        client: u8,
+        revision: u8,
+        records: &[u8],
+    ) -> Result<u32, Refusal> {
+        exports::bundle(self.0.as_mut(), board.lent(), client, revision, records)
     }
 
     /// As [`bundle`](Table::bundle), of a list of entries.
     ///
     /// ```
-    /// use silttongs::{Day, Entry, Fill, Kind, Refusal, Standing, Table, BYTES};
+    /// use silttongs::{Board, Day, Entry, Fill, Kind, Refusal, Standing, Table, BYTES};
     ///
-    /// let mut table = Table::fresh([0; BYTES], Day::Ordinary)?;
+    /// let mut board = Board::new();
+    /// let mut table = Table::fresh([0; BYTES], &mut board, Day::Ordinary)?;
     /// let entries = [Entry::new(Kind::Time, 7, 61_000), Entry::new(Kind::Penalty, 7, 5_000)];
-    /// assert_eq!(table.bundle_entries(0, 0, &entries), Ok(0));
+    /// assert_eq!(table.bundle_entries(&mut board, 0, 0, &entries), Ok(0));
     /// assert_eq!(table.query(1, 0, 7), Ok(Standing::Timed(66_000)));
     ///
     /// let late = [entries[0], Entry::new(Kind::Strike, 1_000, 0)];
-    /// assert_eq!(table.bundle_entries(1, 0, &late), Err(Refusal::BadEntry));
+    /// assert_eq!(table.bundle_entries(&mut board, 1, 0, &late), Err(Refusal::BadEntry));
     /// assert_eq!(table.fill(0), Ok(Fill { own: 2, total: 2 }));
-    /// assert_eq!(table.bundle_entries(1, 0, &[]), Err(Refusal::WrongBundle));
-    /// assert_eq!(table.bundle_entries(1, 0, &[entries[0]; 65]), Err(Refusal::WrongBundle));
+    /// assert_eq!(table.bundle_entries(&mut board, 1, 0, &[]), Err(Refusal::WrongBundle));
+    /// let many = table.bundle_entries(&mut board, 1, 0, &[entries[0]; 65]);
+    /// assert_eq!(many, Err(Refusal::WrongBundle));
     /// # Ok::<(), Refusal>(())
     /// ```
     ///
@@ -368,12 +410,13 @@ impl<B: AsMut<[u8]>> Table<B> {
     /// As [`bundle`](Table::bundle); of 14, the count only.
     pub fn bundle_entries(
         &mut self,
+        board: &mut Board<impl AsMut<[u8]>>,
         client: u8,
         revision: u8,
         entries: &[Entry],
     ) -> Result<u32, Refusal> {
         let mut room = [[0; Entry::BYTES]; BUNDLE];
-        self.bundle(client, revision, records(entries, &mut room))
+        self.bundle(board, client, revision, records(entries, &mut room))
     }
 }
 
@@ -383,15 +426,16 @@ impl<B: AsRef<[u8]>> Table<B> {
     /// of the sheet behind them stay, and so does the table: a list is no event.
     ///
     /// ```
-    /// use silttongs::{lines, Day, Kind, Line, Refusal, Table, BYTES, SHEET};
+    /// use silttongs::{lines, Board, Day, Kind, Line, Refusal, Table, BYTES, SHEET};
     ///
-    /// let mut table = Table::fresh([0; BYTES], Day::Ordinary)?;
+    /// let mut board = Board::new();
+    /// let mut table = Table::fresh([0; BYTES], &mut board, Day::Ordinary)?;
     /// table.fork(0)?;
     /// table.update(3, 1, Kind::Penalty, 7, 5_000)?;
-    /// table.yield_(3)?;
+    /// table.yield_(&mut board, 3)?;
     /// table.update(2, 0, Kind::Time, 7, 60_000)?;
-    /// table.yield_(2)?;
-    /// table.join(0, 1)?;
+    /// table.yield_(&mut board, 2)?;
+    /// table.join(&mut board, 0, 1)?;
     ///
     /// let mut sheet = [0; SHEET];
     /// let count = table.list(0, &mut sheet)?;
@@ -416,19 +460,20 @@ impl<B: AsRef<[u8]>> Table<B> {
     /// table stays: a fill is no event.
     ///
     /// ```
-    /// use silttongs::{Day, Fill, Kind, Refusal, Table, BYTES};
+    /// use silttongs::{Board, Day, Fill, Kind, Refusal, Table, BYTES};
     ///
-    /// let mut table = Table::fresh([0; BYTES], Day::Ordinary)?;
+    /// let mut board = Board::new();
+    /// let mut table = Table::fresh([0; BYTES], &mut board, Day::Ordinary)?;
     /// table.update(2, 0, Kind::Time, 7, 61_000)?;
-    /// table.yield_(2)?;
+    /// table.yield_(&mut board, 2)?;
     /// table.fork(0)?;
     /// table.update(3, 1, Kind::Penalty, 7, 5_000)?;
     /// table.update(3, 1, Kind::Penalty, 8, 5_000)?;
     /// assert_eq!(table.fill(0), Ok(Fill { own: 1, total: 3 }));
     /// assert_eq!(table.fill(1), Ok(Fill { own: 2, total: 3 }));
     ///
-    /// table.yield_(3)?;
-    /// table.join(0, 1)?;
+    /// table.yield_(&mut board, 3)?;
+    /// table.join(&mut board, 0, 1)?;
     /// assert_eq!(table.fill(0), Ok(Fill { own: 3, total: 3 }));
     /// assert_eq!(table.fill(1), Err(Refusal::Joined));
     /// assert_eq!(table.fill(2), Err(Refusal::NeverGiven));
@@ -446,21 +491,22 @@ impl<B: AsRef<[u8]>> Table<B> {
     /// updates it will gain. The table stays: a preview is no event.
     ///
     /// ```
-    /// use silttongs::{Day, Kind, Preview, Refusal, Standing, Table, BYTES};
+    /// use silttongs::{Board, Day, Kind, Preview, Refusal, Standing, Table, BYTES};
     ///
-    /// let mut table = Table::fresh([0; BYTES], Day::Ordinary)?;
+    /// let mut board = Board::new();
+    /// let mut table = Table::fresh([0; BYTES], &mut board, Day::Ordinary)?;
     /// table.fork(0)?;
     /// table.update(3, 1, Kind::Penalty, 7, 5_000)?;
-    /// table.yield_(3)?;
+    /// table.yield_(&mut board, 3)?;
     /// table.update(2, 0, Kind::Time, 7, 60_000)?;
-    /// table.yield_(2)?;
+    /// table.yield_(&mut board, 2)?;
     ///
     /// let preview = Preview { standing: Standing::Timed(65_000), gain: 1 };
     /// assert_eq!(table.preview(0, 1, 7), Ok(preview));
     /// assert_eq!(table.preview(1, 0, 7), Err(Refusal::NotJoinable));
     /// assert_eq!(table.preview(0, 1, 1_000), Err(Refusal::BadEntry));
     ///
-    /// assert_eq!(table.join(0, 1), Ok(1));
+    /// assert_eq!(table.join(&mut board, 0, 1), Ok(1));
     /// assert_eq!(table.query(2, 0, 7), Ok(Standing::Timed(65_000)));
     /// # Ok::<(), Refusal>(())
     /// ```
@@ -480,15 +526,16 @@ impl<B: AsRef<[u8]>> Table<B> {
     /// numbers, 2 bytes each, all with the least significant byte first.
     ///
     /// ```
-    /// use silttongs::{Day, Kind, Refusal, Table, BYTES};
+    /// use silttongs::{Board, Day, Kind, Refusal, Table, BYTES};
     ///
-    /// let mut table = Table::fresh([0; BYTES], Day::Ordinary)?;
+    /// let mut board = Board::new();
+    /// let mut table = Table::fresh([0; BYTES], &mut board, Day::Ordinary)?;
     /// table.fork(0)?;
     /// table.update(3, 1, Kind::Penalty, 7, 5_000)?;
-    /// table.yield_(3)?;
+    /// table.yield_(&mut board, 3)?;
     /// table.update(2, 0, Kind::Time, 7, 60_000)?;
-    /// table.yield_(2)?;
-    /// table.join(0, 1)?;
+    /// table.yield_(&mut board, 2)?;
+    /// table.join(&mut board, 0, 1)?;
     ///
     /// let [wrong, right] = [[0, 1], [1, 0]].map(|[a, b]| [2, 0, 0, 0, 8, 0, 0, 0, a, 0, b, 0]);
     /// assert_eq!(table.verify(&wrong), Ok(false));
@@ -507,9 +554,10 @@ impl<B: AsRef<[u8]>> Table<B> {
     /// The marks that are out, in the order of their numbers, read from the table's cells.
     ///
     /// ```
-    /// use silttongs::{Day, Refusal, Table, BYTES};
+    /// use silttongs::{Board, Day, Refusal, Table, BYTES};
     ///
-    /// let mut table = Table::fresh([0; BYTES], Day::Ordinary)?;
+    /// let mut board = Board::new();
+    /// let mut table = Table::fresh([0; BYTES], &mut board, Day::Ordinary)?;
     /// table.mark(0, "NOON")?;
     /// table.fork(0)?;
     /// table.mark(0, "JURY")?;
@@ -545,10 +593,10 @@ impl<B> Table<B> {
     /// refuses what is no table.
     ///
     /// ```
-    /// use silttongs::{Refusal, Table, BYTES};
+    /// use silttongs::{Board, Refusal, Table, BYTES};
     ///
     /// let mut table = Table::from_bytes(vec![0; BYTES]);
-    /// assert_eq!(table.yield_(0), Err(Refusal::NoTable));
+    /// assert_eq!(table.yield_(&mut Board::new(), 0), Err(Refusal::NoTable));
     /// ```
     pub fn from_bytes(bytes: B) -> Self {
         Table(bytes)

@@ -5,6 +5,7 @@ use mathlib.Core.List.{List, [], _∷_}
 use lib.Dec.{eqb}
 use Rattle.lists.proofs.Cases.{cases}
 use Rattle.bundles.specs.declared.entry.Entry.{Entry}
+use Rattle.boards.specs.Board.{boardBytes}
 use Rattle.desk.specs.Calls.{Update, Bundle, Batch, Records, Entries, entriesOf}
 use Rattle.desk.proofs.Checks.{same-end}
 use Rattle.plain.specs.Record.{PlainDay}
@@ -32,7 +33,7 @@ goes-on u o more rest h f =
 
 sent-same : (es : List Entry) (p : PlainDay) (t : List ℕ) → Stands p t → (c n : ℕ) → Left (sentOut t c n es) (sent p c n es)
 unfolding sent sentOut called
-sent-same [] p t S c n = yield-same p t S c
+sent-same [] p t S c n = yield-same p t S c boardBytes
 sent-same (e ∷ es) p t S c n =
     goes-on (updateOut t c n (e .kind) (e .bib) (e .v)) (called p (Update c n (e .kind) (e .bib) (e .v))) (λ d. sentOut d c n es) (λ q. sent q c n es) (update-same p t S c n (e .kind) (e .bib) (e .v)) (λ s. sent-same es _ _ s c n)
 
@@ -41,16 +42,16 @@ settled-same p t S u o h =
     rw (same-code u o h)
     (cases (eqb (o .answer .code) 0) (λ q. rw q (record { reply = same-answer 0 0 refl (bytes-are p t S .follow .same-updates) refl refl; stands = h .stands })) (λ q. rw q (record { reply = refl; stands = S })))
 
-batch-same : (p : PlainDay) (t : List ℕ) (S : Stands p t) (c n : ℕ) (batch : Batch) → Left (batchOut t c n batch) (called p (Bundle c n batch))
+batch-same : (p : PlainDay) (t : List ℕ) (S : Stands p t) (c n : ℕ) (batch : Batch) (room : ℕ) → Left (batchOut t c n batch room) (called p (Bundle c n batch room))
 unfolding called
-batch-same p t S c n batch =
-    same-end Left (Table.refused t) (Plain.refused p) (refused-same p t S) _ _ (agree p t S (Bundle c n batch))
+batch-same p t S c n batch room =
+    same-end Left (Table.refused t) (Plain.refused p) (refused-same p t S) _ _ (agree p t S (Bundle c n batch room))
     (λ P. settled-same p t S (sentOut t c n (entriesOf batch)) (sent p c n (entriesOf batch)) (sent-same (entriesOf batch) p t S c n))
 
-pub bundle-same : (p : PlainDay) (t : List ℕ) (S : Stands p t) (c n : ℕ) (bytes : List ℕ) → Left (bundleOut t c n bytes) (called p (Bundle c n (Records bytes)))
+pub bundle-same : (p : PlainDay) (t : List ℕ) (S : Stands p t) (c n : ℕ) (bytes : List ℕ) (room : ℕ) → Left (bundleOut t c n bytes room) (called p (Bundle c n (Records bytes) room))
 unfolding bundleOut
-bundle-same p t S c n bytes = batch-same p t S c n (Records bytes)
+bundle-same p t S c n bytes room = batch-same p t S c n (Records bytes) room
 
-pub entries-same : (p : PlainDay) (t : List ℕ) (S : Stands p t) (c n : ℕ) (es : List Entry) → Left (entriesOut t c n es) (called p (Bundle c n (Entries es)))
+pub entries-same : (p : PlainDay) (t : List ℕ) (S : Stands p t) (c n : ℕ) (es : List Entry) (room : ℕ) → Left (entriesOut t c n es room) (called p (Bundle c n (Entries es) room))
 unfolding entriesOut
-entries-same p t S c n es = batch-same p t S c n (Entries es)
+entries-same p t S c n es room = batch-same p t S c n (Entries es) room

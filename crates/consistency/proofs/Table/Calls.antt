@@ -2,7 +2,7 @@
 use Prim.Native.Nat.{ℕ, _<_, suc}
 use mathlib.Core.Bool.{true, false, not}
 use mathlib.Core.Path.{_≡_, refl, sym, _∙_, ap, subst}
-use mathlib.Core.Option.{Option, none, some}
+use mathlib.Core.Option.{none, some}
 use mathlib.Core.List.{List, _++_, []}
 use native.Mathlib.Omega.{arith}
 use lib.Dec.{eqb}
@@ -41,8 +41,8 @@ use Rattle.entries.proofs.Entries.{entry-wrote, wrote-length}
 use Rattle.sheets.specs.Sheet.{sheet}
 use Rattle.plain.specs.Record.{PlainDay, noted}
 use Rattle.plain.specs.Answers as Plain
-use Rattle.plain.specs.Answers.{Outcome, called, ending, stepped}
-use Rattle.plain.proofs.Ends.{Passes, drop-accepts, fork-accepts, mark-accepts, join-passes, known-kind, means, query-accepts, update-accepts, yield-accepts}
+use Rattle.plain.specs.Answers.{Outcome, called, ending, joined, stepped}
+use Rattle.plain.proofs.Ends.{BoxesPass, Passes, boxes-pass, drop-accepts, fork-accepts, mark-accepts, join-passes, known-kind, means, query-accepts, update-accepts, yield-accepts}
 use Rattle.table.specs.Halves.{low, high, cellsOf}
 use Rattle.table.specs.Answers as Table
 use Rattle.table.specs.Out.{Out}
@@ -148,7 +148,7 @@ module _ (p : PlainDay) (t : List ℕ) (S : Stands p t) where
   borne : (name : Name) → isNamed y name ≡ true → bearer (cellsOf t) name ≡ numberOf y (markNamed y name)
   borne name e = let n = bearer (cellsOf t) name in sym (meant-number y n (markNamed y name) (found-means y n (markNamed y name) .1 (numbers-are p t S .same-bearer name e)))
 
-  marks : Marks y
+  pub marks : Marks y
   marks = subst Marks (sym (S .day-is)) (marks-run (S .steps) (S .ok))
 
   drop-end : (name : Name) → Passes p (Drop name) → OnTable (Table.taken (dropBytes (low t) (bearer (cellsOf t) name) ++ high t) 0) (ending p (Drop name))
@@ -156,10 +156,10 @@ module _ (p : PlainDay) (t : List ℕ) (S : Stands p t) where
   drop-end name (e1 also e18 also Checks.none) =
       by-step (Steps.Drop (markNamed y name)) (drop-accepts p marks name (e1 also e18 also Checks.none)) refl 0 0 refl _ (ap (dropBytes (low t)) (borne name (not-false _ e18)))
 
-  pub join-end : (n m : ℕ) → Passes p (Join n m) → OnTable (joinEnd t n m) (ending p (Join n m))
+  pub join-end : (n m : ℕ) → BoxesPass p n m → OnTable (joinEnd t n m) (joined p n m)
   unfolding stepBytes after
-  join-end n m (e1 also e3 also e4 also P) =
-      let J = join-passes p n m (e1 also e3 also e4 also P) in
+  join-end n m (e3 also e4 also P) =
+      let J = join-passes p n m (e3 also e4 also P) in
       let g = or-false (not (isGiven y n)) (not (isGiven y m)) e3 in
       let o = or-false (y .joined (meant y n)) (y .joined (meant y m)) e4 in
       let numbers = ap (λ z. joinBytes (low t) z m) (sym (numbered n (g .0))) ∙ ap (joinBytes (low t) (numberOf y (meant y n))) (sym (numbered m (g .1))) in
@@ -174,19 +174,19 @@ module _ (p : PlainDay) (t : List ℕ) (S : Stands p t) where
   unfolding called queryOut
   query-same c n bib = same-end OnTable (Table.refused t) (Plain.refused p) refused-same _ _ (agree p t S (Query c n bib)) (query-end c n bib)
 
-  pub yield-same : (c : ℕ) → OnTable (yieldOut t c) (called p (Yield c))
+  pub yield-same : (c room : ℕ) → OnTable (yieldOut t c room) (called p (Yield c room))
   unfolding called yieldOut stepBytes after
-  yield-same c =
-      same-end OnTable (Table.refused t) (Plain.refused p) refused-same _ _ (agree p t S (Yield c))
-      (λ P. by-step (Steps.Yield c) (yield-accepts p c P) (yield-updates y c (y .openBy c)) 0 0 refl _ refl)
+  yield-same c room =
+      same-end OnTable (Table.refused t) (Plain.refused p) refused-same _ _ (agree p t S (Yield c room))
+      (λ P. by-step (Steps.Yield c) (yield-accepts p c room P) (yield-updates y c (y .openBy c)) 0 0 refl _ refl)
 
   pub fork-same : (n : ℕ) → OnTable (forkOut t n) (called p (Fork n))
   unfolding called forkOut
   fork-same n = same-end OnTable (Table.refused t) (Plain.refused p) refused-same _ _ (agree p t S (Fork n)) (fork-end n)
 
-  pub join-same : (n m : ℕ) → OnTable (joinOut t n m) (called p (Join n m))
+  pub join-same : (n m room : ℕ) → OnTable (joinOut t n m room) (called p (Join n m room))
   unfolding called joinOut
-  join-same n m = same-end OnTable (Table.refused t) (Plain.refused p) refused-same _ _ (agree p t S (Join n m)) (join-end n m)
+  join-same n m room = same-end OnTable (Table.refused t) (Plain.refused p) refused-same _ _ (agree p t S (Join n m room)) (λ P. join-end n m (boxes-pass p n m room P))
 
   pub mark-same : (n : ℕ) (name : Name) → OnTable (markOut t n name) (called p (Mark n name))
   unfolding called markOut
@@ -198,7 +198,7 @@ module _ (p : PlainDay) (t : List ℕ) (S : Stands p t) where
 
   -- a list, which has a sheet lent; and a fill
   abbrev OnSheet : List ℕ → Out → Outcome → Type 0
-  OnSheet s u o = Same s (record { reply = outReply u (u .lent); table = t }) o
+  OnSheet s u o = Same s (record { reply = outReply u (u .lent); table = t; board = [] }) o
 
   pub list-same : (n : ℕ) (s : List ℕ) → OnSheet s (listOut t n s) (called p (Looks (Show n (length s))))
   unfolding called listOut
@@ -207,9 +207,9 @@ module _ (p : PlainDay) (t : List ℕ) (S : Stands p t) where
       by : Passes p (Looks (Show n (length s))) → OnSheet s (Table.taken (sheet (entryAt (high t)) (order (cellsOf t) n) s) (length (order (cellsOf t) n))) (ending p (Looks (Show n (length s))))
       by (e1 also e3 also e4 also P) = record { reply = same-answer 0 0 refl (ap length (same-order p t S n e3 e4)) refl (same-sheet p t S n e3 e4 s); stands = S }
 
-  pub fill-same : (n : ℕ) → Same [] (record { reply = levelReply (fillOut t n); table = t }) (called p (Looks (Fill n)))
+  pub fill-same : (n : ℕ) → Same [] (record { reply = levelReply (fillOut t n); table = t; board = [] }) (called p (Looks (Fill n)))
   unfolding called fillOut
-  fill-same n = same-end (λ f o. Same [] (record { reply = levelReply f; table = t }) o) noFill (Plain.refused p) (λ k. record { reply = refl; stands = S }) (told (cellsOf t) n) _ (agree p t S (Looks (Fill n))) by
+  fill-same n = same-end (λ f o. Same [] (record { reply = levelReply f; table = t; board = [] }) o) noFill (Plain.refused p) (λ k. record { reply = refl; stands = S }) (told (cellsOf t) n) _ (agree p t S (Looks (Fill n))) by
     where
-      by : Passes p (Looks (Fill n)) → Same [] (record { reply = levelReply (told (cellsOf t) n); table = t }) (ending p (Looks (Fill n)))
+      by : Passes p (Looks (Fill n)) → Same [] (record { reply = levelReply (told (cellsOf t) n); table = t; board = [] }) (ending p (Looks (Fill n)))
       by (e1 also e3 also e4 also Checks.none) = record { reply = rw (number p t S n e3 .out e4 .same-gain, bytes-are p t S .follow .same-updates); stands = S }

@@ -10,14 +10,15 @@ use Rattle.diagram.specs.Steps.{run, runFrom}
 use Rattle.cells.specs.Sizes as Lower
 use Rattle.cells.specs.Steps.{freshBytes}
 use Rattle.entries.specs.Sizes as Upper
+use Rattle.boards.specs.Board.{boardBytes}
 use Rattle.desk.specs.Calls.{Call, Update, Query, Yield, Fork, Join, Sync, Mark, Drop, Bundle, Looks, Show, Fill, Preview, Verify, Records, Entries, callOn}
 use Rattle.plain.specs.Record.{PlainDay, freshDay}
-use Rattle.plain.specs.Answers.{called, answers, answersFrom, dayFrom}
-use Rattle.table.specs.Out.{tableBytes}
+use Rattle.plain.specs.Answers.{Outcome, called, answers, answersFrom, dayFrom}
+use Rattle.table.specs.Out.{Out, tableBytes}
 use Rattle.table.specs.Calls.{freshOut}
 use Rattle.table.proofs.Halves.{low-of}
 use Rattle.following.specs.Reached.{bytesAfter, bytesFrom}
-use Rattle.consistency.specs.Table.{calls, served, sheetOf, repliesOn, tableAfter, replies}
+use Rattle.consistency.specs.Table.{calls, onBoard, onTable, served, sheetOf, repliesOn, tableAfter, replies}
 use Rattle.following.proofs.Follow.{bytes-follow}
 use Rattle.consistency.proofs.Table.Stands.{Stands}
 use Rattle.consistency.proofs.Table.Calls.{Same, update-same, query-same, yield-same, fork-same, join-same, mark-same, drop-same, list-same, fill-same}
@@ -27,17 +28,21 @@ use Rattle.consistency.proofs.Table.Orders.{verify-same}
 use Rattle.consistency.proofs.Table.Syncs.{sync-same}
 
 module _ (p : PlainDay) (t : List ℕ) (S : Stands p t) where
-  call-same : (q : Call (List ℕ)) → Same (sheetOf q) (served t q) (called p (callOn length q))
+  -- a board that is lent besides changes neither answer nor table
+  on-board : {u : Out} {o : Outcome} (board : List ℕ) → Same [] (onTable u) o → Same [] (onBoard t board u) o
+  on-board board h = record { reply = h .reply; stands = h .stands }
+
+  pub call-same : (q : Call (List ℕ)) → Same (sheetOf q) (served t q) (called p (callOn length q))
   call-same (Update c n k bib v) = update-same p t S c n k bib v
   call-same (Query c n bib) = query-same p t S c n bib
-  call-same (Yield c) = yield-same p t S c
+  call-same (Yield c board) = on-board board (yield-same p t S c (length board))
   call-same (Fork n) = fork-same p t S n
-  call-same (Join n m) = join-same p t S n m
-  call-same (Sync m) = sync-same p t S m
+  call-same (Join n m board) = on-board board (join-same p t S n m (length board))
+  call-same (Sync m board) = on-board board (sync-same p t S m (length board))
   call-same (Mark n name) = mark-same p t S n name
   call-same (Drop name) = drop-same p t S name
-  call-same (Bundle c n (Records tableBytes)) = bundle-same p t S c n tableBytes
-  call-same (Bundle c n (Entries es)) = entries-same p t S c n es
+  call-same (Bundle c n (Records bytes) board) = on-board board (bundle-same p t S c n bytes (length board))
+  call-same (Bundle c n (Entries es) board) = on-board board (entries-same p t S c n es (length board))
   call-same (Looks (Show n s)) = list-same p t S n s
   call-same (Looks (Fill n)) = fill-same p t S n
   call-same (Looks (Preview n m bib)) = preview-same p t S n m bib
@@ -47,7 +52,7 @@ filled : (a : List ℕ) (n m k : ℕ) → length a ≡ n → n + m ≡ k → len
 filled a n m k e f = length-append a (replicate m 0) ∙ rw (e, length-replicate {A = ℕ} m 0) f
 
 -- a fresh table stands for the fresh day
-pub fresh-stands : (t : List ℕ) → length t ≡ tableBytes → (single : Bool) → Stands (freshDay single) (freshOut t single .lent)
+pub fresh-stands : (t : List ℕ) → length t ≡ tableBytes → (single : Bool) → Stands (freshDay single) (freshOut t single boardBytes .lent)
 unfolding freshOut bytesAfter bytesFrom run runFrom
 fresh-stands t h single =
     rw (eq-eqb (length t) tableBytes h)
@@ -79,7 +84,7 @@ stands-after [] p t S = S
 stands-after (q ∷ qs) p t S = stands-after qs (called p (callOn length q) .next) (served t q .table) (call-same p t S q .stands)
 
 pub table-follows : (t : List ℕ) → length t ≡ tableBytes → (single : Bool)
-    → (freshOut t single .code ≡ 0) × (freshOut t single .value ≡ 0) × ((qs : List (Call (List ℕ))) → repliesOn (freshOut t single .lent) qs ≡ replies qs (answers single (calls qs)))
+    → (freshOut t single boardBytes .code ≡ 0) × (freshOut t single boardBytes .value ≡ 0) × ((qs : List (Call (List ℕ))) → repliesOn (freshOut t single boardBytes .lent) qs ≡ replies qs (answers single (calls qs)))
 unfolding answers freshOut
 table-follows t h single =
-    (rw (eq-eqb (length t) tableBytes h), rw (eq-eqb (length t) tableBytes h), λ qs. replies-from qs (freshDay single) (freshOut t single .lent) (fresh-stands t h single))
+    (rw (eq-eqb (length t) tableBytes h), rw (eq-eqb (length t) tableBytes h), λ qs. replies-from qs (freshDay single) (freshOut t single boardBytes .lent) (fresh-stands t h single))

@@ -85,8 +85,8 @@ module _ (p : PlainDay) (t : List ℕ) (S : Stands p t) where
           in-order = λ n b. let m = meaning n b in rw (m .1) (f .in-order (meant y n) (m .0));
         }
 
-  pub verify-same : (file : List ℕ) → Same [] (record { reply = verdictReply (verifyOut t file); table = t }) (called p (Looks (Verify file)))
+  pub verify-same : (file : List ℕ) → Same [] (record { reply = verdictReply (verifyOut t file); table = t; board = [] }) (called p (Looks (Verify file)))
   unfolding called verifyOut
   verify-same file =
-      same-end (λ a o. Same [] (record { reply = verdictReply a; table = t }) o) (λ code. verdict code false) (Plain.refused p) (λ k. record { reply = refl; stands = S }) _ _ (agree p t S (Looks (Verify file)))
+      same-end (λ a o. Same [] (record { reply = verdictReply a; table = t; board = [] }) o) (λ code. verdict code false) (Plain.refused p) (λ k. record { reply = refl; stands = S }) _ _ (agree p t S (Looks (Verify file)))
       (λ P. record { reply = same-answer 0 0 refl (ap (λ b. cond b 1 0) (same-fits (numbersIn file))) refl refl; stands = S })

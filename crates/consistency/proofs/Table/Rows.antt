@@ -53,7 +53,6 @@ module _ (p : PlainDay) (t : List ℕ) (S : Stands p t) where
 
   join-row : (n m : ℕ) → Agree (joinChecks (Table.asked t) n m) (joinChecks (Plain.asked p) n m)
   join-row n m =
-      row refl table λ e1.
       row refl (either (given n) (given m)) λ e3.
       let g = or-false (not (isGiven y n)) (not (isGiven y m)) e3 in
       let a = number n (g .0) in
@@ -90,7 +89,7 @@ module _ (p : PlainDay) (t : List ℕ) (S : Stands p t) where
       row refl (number n e3 .same-busyByOther c) λ e7.
       row refl (number n e3 .out e4 .same-stale c (known c e2)) λ e8.
       end
-  agree (Yield c) = row refl table λ e1. row refl (client c) λ e2. end
+  agree (Yield c room) = row refl table λ e1. row refl refl λ e19. row refl (client c) λ e2. end
   agree (Fork n) =
       row refl table λ e1.
       row refl (given n) λ e3.
@@ -99,8 +98,8 @@ module _ (p : PlainDay) (t : List ℕ) (S : Stands p t) where
       row refl (number n e3 .same-busy) λ e7.
       row refl (bytes-are p t S .follow .same-left) λ e10.
       end
-  agree (Join n m) = join-row n m
-  agree (Sync m) = join-row 0 m
+  agree (Join n m room) = row refl table λ e1. row refl refl λ e19. join-row n m
+  agree (Sync m room) = row refl table λ e1. row refl refl λ e19. join-row 0 m
   agree (Mark n name) =
       row refl table λ e1.
       row refl (given n) λ e3.
@@ -111,7 +110,7 @@ module _ (p : PlainDay) (t : List ℕ) (S : Stands p t) where
       row refl (numbers-are p t S .same-badName name) λ e17.
       end
   agree (Drop name) = row refl table λ e1. row refl (numbers-are p t S .same-noMark name) λ e18. end
-  agree (Bundle c n batch) = row refl table λ e1. row refl refl λ e14. end
+  agree (Bundle c n batch room) = row refl table λ e1. row refl refl λ e14. row refl refl λ e19. end
   agree (Looks (Show n room)) =
       row refl table λ e1.
       row refl (given n) λ e3.
@@ -120,5 +119,5 @@ module _ (p : PlainDay) (t : List ℕ) (S : Stands p t) where
       row refl (ap (λ z. ltb room (12 * length z)) (same-order p t S n e3 e4)) λ e12.
       end
   agree (Looks (Fill n)) = row refl table λ e1. row refl (given n) λ e3. row refl (number n e3 .same-joined) λ e4. end
-  agree (Looks (Preview n m bib)) = agree-more (join-row n m) _ _ (λ P. row refl refl λ e5. end)
+  agree (Looks (Preview n m bib)) = row refl table λ e1. agree-more (join-row n m) _ _ (λ P. row refl refl λ e5. end)
   agree (Looks (Verify file)) = row refl table λ e1. row refl refl λ e21. end

@@ -42,7 +42,7 @@ linesOf-length : (f : ℕ → Entry) (ns : List ℕ) → length (linesOf f ns) �
 linesOf-length f [] = refl
 linesOf-length f (n ∷ ns) = ap suc (linesOf-length f ns)
 
-shown-of : (ss : List Step) → Accepted ss → (y : Day) → y ≡ run ss → (r k : ℕ) → k ∈ view (y .diagram) (y .terminal r) → k < y .updates
+pub shown-of : (ss : List Step) → Accepted ss → (y : Day) → y ≡ run ss → (r k : ℕ) → k ∈ view (y .diagram) (y .terminal r) → k < y .updates
 shown-of ss A y e r k = rw e (λ i. view-low ss A _ k (fine-run ss A .sound .real .linked .bound r) i)
 
 module _ (p : PlainDay) (t : List ℕ) (S : Stands p t) (n : ℕ) (g : not (isGiven (p .day) n) ≡ false) (o : p .day .joined (meant (p .day) n) ≡ false) where

@@ -5,7 +5,7 @@ use Rattle.exports.proofs.silttongs_bundle.Statement.{statement}
 use Rattle.exports.proofs.silttongs_bundle.Tie as tie
 
 returns : tie.Need-returns
-returns c = gives _ (c .pack .ensures) (c .before .before .before .bundle .ensures)
+returns c = let at-call = c .before .before .before .before .before in (gives _ (c .pack .ensures) (at-call .bundle .ensures .0), at-call .bundle .ensures .1)
 
 pub silttongs-bundle-spec : {M : Type 1} → statement M
-silttongs-bundle-spec = tie.close (tie.spec (λ c κs. search needs) (λ c κs. search needs) (λ c. search needs) returns)
+silttongs-bundle-spec = tie.close (tie.spec (λ c κs. search needs) (λ c κs. search needs) (λ c. search needs) (λ c. search needs) returns)

@@ -57,6 +57,7 @@ withNames k state names = record {
   given = k .given;
   name = names;
   single = k .single;
+  settled = k .settled;
 }
 
 module _ (y : Day) (m : Machine) (k : Cells) (h : Represents y m k) (L : Laid y m) (p : ℕ) (i : p ∈ m .layout) (name : Option Name) (C : CanFork y p name) where

@@ -2,7 +2,7 @@
 use Prim.Native.Nat.{_<_, ℕ}
 use mathlib.Core.Bool.{Bool, false, not, true}
 use mathlib.Core.Path.{_∙_, _≡_, refl, sym}
-use mathlib.Core.Option.{Option}
+use mathlib.Core.Option.{Option, none}
 use mathlib.Core.List.{List, List·Memᴰ·head, [], _++_, _∷_}
 use native.Mathlib.Omega.{arith}
 use lib.Dec.{eqb}
@@ -22,6 +22,7 @@ use Rattle.diagram.specs.Accepted.{accepted, noneOf, notGiven}
 use Rattle.diagram.proofs.Days.Dropping as Drops
 use Rattle.diagram.proofs.Days.Moves.{CanDrop, CanFork, can-drop, can-enter, can-fork, can-join, step-moves}
 use Rattle.diagram.proofs.Days.Marking.{Marks, marks-fresh, marks-moves, none≢name}
+use Rattle.diagram.proofs.Days.Sound.{some≢none}
 use Rattle.diagram.proofs.Days.Naming.{Named, named-fresh, named-moves, next-apart, next-given}
 use Rattle.machine.proofs.Follow.Agrees.{Agree, agree-fresh}
 use Rattle.machine.proofs.Follow.Shown.{agree-after, follows}
@@ -30,17 +31,20 @@ use Rattle.cells.specs.Cells.{Cells, chain, nextNumber}
 use Rattle.cells.specs.CellSteps.{freshCells}
 use Rattle.following.specs.Reached.{byNumber, stepCells}
 use Rattle.following.proofs.Cells.Dropping.{drops}
+use Rattle.following.proofs.Cells.Closed.{settled-after}
 use Rattle.following.proofs.Cells.Entering.{queries, updates-on, yields}
 use Rattle.following.proofs.Cells.Forking.{forks}
 use Rattle.following.proofs.Cells.Joining.{joins}
 use Rattle.following.proofs.Cells.Laid.{Laid, apart, laid}
 use Rattle.following.proofs.Cells.Represents.{Represents, number-is, out-low}
+use Rattle.following.proofs.Cells.Settled.{Settled}
 
 pub record Kept (y : Day) (m : Machine) (k : Cells) : Type 0 where
   pub agree : Agree y m
   pub named : Named y
   pub marks : Marks y
   pub represents : Represents y m k
+  pub settled : Settled y (k .settled) (k .count main)
 
 fresh-represents : (single : Bool) → Represents fresh freshMachine (freshCells single)
 unfolding chain found
@@ -68,7 +72,7 @@ fresh-represents single = record {
 }
 
 pub fresh-kept : (single : Bool) → Kept fresh freshMachine (freshCells single)
-fresh-kept single = record { agree = agree-fresh; named = named-fresh; marks = marks-fresh; represents = fresh-represents single }
+fresh-kept single = record { agree = agree-fresh; named = named-fresh; marks = marks-fresh; represents = fresh-represents single; settled = record { idle = λ i. refl; busy = λ c t e on. absurd (some≢none none e refl) } }
 
 -- where no check has found anything, the last has not
 last-quiet : (bs : List Bool) (b : Bool) → noneOf (bs ++ (b ∷ [])) ≡ true → b ≡ false
@@ -136,4 +140,5 @@ module _ (y : Day) (m : Machine) (k : Cells) (K : Kept y m k) where
       let A′ = agree-after y m s e A in
       let N′ = named-moves y (K .named) (after y s) (step-moves y s e) in
       let M′ = marks-moves y (K .marks) (after y s) (step-moves y s e) in
-      record { agree = A′; named = N′; marks = M′; represents = represents-after s e (laid (after y s) (machineAfter m s) A′ N′ M′) }
+      let h′ = represents-after s e (laid (after y s) (machineAfter m s) A′ N′ M′) in
+      record { agree = A′; named = N′; marks = M′; represents = h′; settled = settled-after y m k A L h (K .settled) s e h′ }

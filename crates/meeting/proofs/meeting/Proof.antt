@@ -7,10 +7,10 @@ use Rattle.meeting.proofs.meeting.Statement.{statement}
 use Rattle.meeting.proofs.meeting.Tie as tie
 
 abbrev Inv-loop : tie.InvT-loop
-Inv-loop t₀ sheet₀ sent₀ nested₀ tally₀ i₀ t sheet sent nested tally i = (length t ≡ length t₀) × (length sheet ≡ length sheet₀) × (i ≤ 6700)
+Inv-loop t₀ board₀ sheet₀ sent₀ nested₀ tally₀ i₀ t board sheet sent nested tally i = (length t ≡ length t₀) × (length board ≡ length board₀) × (length sheet ≡ length sheet₀) × (i ≤ 6700)
 
 abbrev μ-loop : tie.MeasureT-loop
-μ-loop t₀ sheet₀ sent₀ nested₀ tally₀ i₀ t sheet sent nested tally i = 6700 - i
+μ-loop t₀ board₀ sheet₀ sent₀ nested₀ tally₀ i₀ t board sheet sent nested tally i = 6700 - i
 
 pub meeting-spec : {M : Type 1} → statement M
 meeting-spec = tie.close (tie.spec
@@ -29,6 +29,7 @@ meeting-spec = tie.close (tie.spec
     (λ c κs. search needs)
     (λ c. search needs)
     (λ c κs. search needs)
+    (λ c. search needs)
     (λ c. search needs)
     (λ c. search needs)
     (λ c. search needs)

@@ -155,9 +155,16 @@ fn draws_numbers_that_are_used_again() {
 #[test]
 fn help_goes_to_standard_output() {
     let help = String::from_utf8(output(&["--help"], b"")).unwrap();
-    for word in
-        ["pack", "unpack", "show", "print", "order", "verify", "update TABLET/BOX KIND bib BIB V"]
-    {
+    for word in [
+        "pack",
+        "unpack",
+        "show",
+        "print",
+        "board",
+        "order",
+        "verify",
+        "update TABLET/BOX KIND bib BIB V",
+    ] {
         assert!(help.contains(word), "{word}");
     }
 }

@@ -1,6 +1,6 @@
 //! The cells of marks, by the baseline, on contents that no day made too.
 
-use calls::{Call, Code};
+use calls::{Call, Code, BOARD};
 
 /// Where cells lie: docs/CELLS.md.
 const STATE: usize = 39_040;
@@ -21,7 +21,7 @@ fn two_marks() -> Vec<u8> {
 /// Makes a call by the baseline; a refused one leaves every byte.
 fn code(t: &mut [u8], call: &Call) -> Code {
     let before = t.to_vec();
-    match baseline::call(t, call) {
+    match baseline::call(t, &mut [0; BOARD], call) {
         Ok(_) => Code::Accepted,
         Err(code) => {
             assert!(*t == before, "`{call}` is refused and changes a byte");

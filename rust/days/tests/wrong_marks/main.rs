@@ -6,7 +6,7 @@ mod marks;
 mod names;
 mod refusals;
 
-use calls::{Answer, Call, Code};
+use calls::{Answer, Call, Code, BOARD};
 use days::{disagreement_by, must_find, Profile};
 
 /// Where the parts lie: docs/CELLS.md.
@@ -50,7 +50,8 @@ impl Table {
     fn right(&mut self, call: &Call) -> Answer {
         let marks: Vec<u8> = (1..64).filter(|&number| self.is_marked(number)).collect();
         let in_use = marks.into_iter().map(|number| self.name(number).to_vec()).collect();
-        let answer = baseline::call(&mut self.bytes, call).unwrap_or_else(Answer::refused);
+        let answer =
+            baseline::call(&mut self.bytes, &mut [0; BOARD], call).unwrap_or_else(Answer::refused);
         match *call {
             _ if answer.code != Code::Accepted => {}
             Call::Mark { revision, .. } => self.source[answer.value as usize] = revision,
@@ -118,6 +119,7 @@ fn named(call: &Call) -> Vec<u8> {
             vec![joiner, joinee]
         }
         Call::Yield { .. } | Call::Fresh { .. } | Call::Drop { .. } | Call::Verify { .. } => vec![],
+        Call::OnBoard { .. } => vec![],
     }
 }
 

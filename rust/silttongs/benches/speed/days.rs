@@ -105,6 +105,50 @@ pub(crate) fn verify(updates: usize) -> Call {
     Call::Verify { order: order_file(&numbers) }
 }
 
+/// A day of 4,096 updates in hundreds, of which box 0 takes fifty, in transactions of five, and a box
+/// that it sent off the others, in one transaction, and is then synced.
+pub(crate) fn announcing() -> Vec<Vec<Call>> {
+    let mut sent = 1;
+    let hundred = |first: usize| {
+        let mut calls = Vec::new();
+        if first == 0 {
+            calls.push(Call::Fork { revision: 0 });
+        }
+        for n in first..(first + 100).min(UPDATES) {
+            let on_main = n % 100 < 50;
+            calls.push(if on_main { update(0, 0, n) } else { update(1, sent, n) });
+            if on_main && n % 5 == 4 {
+                calls.push(Call::Yield { client: 0 });
+            }
+        }
+        calls.extend([Call::Yield { client: 1 }, Call::Sync { revision: sent }]);
+        sent += 1;
+        calls
+    };
+    (0..UPDATES).step_by(100).map(hundred).collect()
+}
+
+/// A query of every bib on box 0, and the yield.
+pub(crate) fn every_query() -> Vec<Call> {
+    let queries = (0..BIBS).map(|bib| Call::Query { client: 2, revision: 0, bib });
+    queries.chain([Call::Yield { client: 2 }]).collect()
+}
+
+/// So many updates on box 0, not yielded, behind a middling day.
+pub(crate) fn bringing(updates: usize) -> Vec<Call> {
+    let mut calls = chain(2_048, 1);
+    calls.extend((0..updates).map(|n| update(0, 0, n)));
+    calls
+}
+
+/// So many updates on a box that box 0 sent off.
+pub(crate) fn sent_off(updates: usize) -> Vec<Call> {
+    let mut calls = vec![Call::Fork { revision: 0 }];
+    calls.extend((0..updates).map(|n| update(0, 1, n)));
+    calls.push(Call::Yield { client: 0 });
+    calls
+}
+
 /// The name of the mark that is made or dropped.
 pub(crate) const NAME: &[u8] = b"JURY";
 

@@ -13,12 +13,12 @@ mod sqlite;
 use std::hint::black_box;
 use std::time::Instant;
 
-use calls::{Call, CLIENTS, UPDATES};
+use calls::{Call, BIBS, CLIENTS, UPDATES};
 use days::{
-    alike, bib, bundle, chain, handed_in, in_turn, mark, marked, of_one_bib, single_main, update,
-    verify, whole, NAME,
+    alike, announcing, bib, bringing, bundle, chain, every_query, handed_in, in_turn, mark, marked,
+    of_one_bib, sent_off, single_main, update, verify, whole, NAME,
 };
-use sides::{made, Side};
+use sides::{made, Lent, Side, Step};
 use silttongs::SHEET;
 
 /// Each case is timed in so many rounds, between which the others have their turn.
@@ -38,33 +38,31 @@ pub(crate) struct Times {
 struct Case {
     name: String,
     day: Vec<Call>,
-    table: Box<[u8]>,
-    calls: Vec<Call>,
+    lent: Lent,
+    steps: Vec<Step>,
     times: Times,
 }
 
 impl Case {
     fn of_calls(name: impl Into<String>, day: &[Call], calls: &[Call]) -> Self {
-        let times = Times { baseline: u64::MAX, library: u64::MAX };
-        Case {
-            name: name.into(),
-            day: day.to_vec(),
-            table: made(day),
-            calls: calls.to_vec(),
-            times,
-        }
+        Case::of_steps(name, day, calls.iter().cloned().map(Step::Made).collect())
     }
 
-    /// Both sides in turn, each sample on a copy of the table; they must leave the same bytes, of
+    fn of_steps(name: impl Into<String>, day: &[Call], steps: Vec<Step>) -> Self {
+        let times = Times { baseline: u64::MAX, library: u64::MAX };
+        Case { name: name.into(), day: day.to_vec(), lent: made(day), steps, times }
+    }
+
+    /// Both sides in turn, each sample on a copy of table and board; they must leave the same bytes, of
     /// the sheet too.
     fn round(&mut self) {
-        let mut a = (self.table.clone(), vec![0; SHEET]);
+        let mut a = self.lent.clone();
         let mut b = a.clone();
         let mut spent = 0;
         let mut samples = 0;
         while spent < 2 * ROUND || samples < 2 {
-            let baseline = sample(&self.table, &mut a, Side::Baseline, &self.calls);
-            let library = sample(&self.table, &mut b, Side::Library, &self.calls);
+            let baseline = sample(&self.lent, &mut a, Side::Baseline, &self.steps);
+            let library = sample(&self.lent, &mut b, Side::Library, &self.steps);
             assert!(a == b, "{}: the bytes differ", self.name);
             self.times.baseline = self.times.baseline.min(baseline);
             self.times.library = self.times.library.min(library);
@@ -75,10 +73,19 @@ impl Case {
 
     /// The value of the last call.
     fn value(&self) -> u64 {
-        let mut t = self.table.clone();
-        let mut sheet = vec![0; SHEET];
-        let values = self.calls.iter().map(|call| Side::Library.call(&mut t, &mut sheet, call).1);
+        let mut lent = self.lent.clone();
+        let calls = self.calls();
+        let values = calls.iter().map(|call| Side::Library.call(&mut lent, call).1);
         values.last().flatten().unwrap_or(0)
+    }
+
+    /// The calls of a case that has nothing else; none of another.
+    fn calls(&self) -> Vec<Call> {
+        let call = |step: &Step| match step {
+            Step::Made(call) => Some(call.clone()),
+            Step::Board | Step::Bib(_) => None,
+        };
+        self.steps.iter().map(call).collect::<Option<_>>().unwrap_or_default()
     }
 
     fn ratio(&self) -> f64 {
@@ -86,12 +93,11 @@ impl Case {
     }
 }
 
-/// One run of the calls on a copy of the table, in nanoseconds.
-fn sample(from: &[u8], to: &mut (Box<[u8]>, Vec<u8>), side: Side, calls: &[Call]) -> u64 {
-    let (t, sheet) = to;
-    t.copy_from_slice(from);
+/// One run of the steps on a copy of table and board, in nanoseconds.
+fn sample(from: &Lent, to: &mut Lent, side: Side, steps: &[Step]) -> u64 {
+    to.copy(from);
     let start = Instant::now();
-    side.run(black_box(t), black_box(sheet), calls);
+    side.run(black_box(to), steps);
     start.elapsed().as_nanos() as u64
 }
 
@@ -199,6 +205,32 @@ fn verified() -> Vec<Case> {
     ]
 }
 
+/// 02, U10: "a day of 4,096 updates with a full board read after each hundred"; the same day read by
+/// 1,000 queries each time; and what is read at its end, at once and bib by bib.
+fn announced() -> Vec<Case> {
+    let hundreds = announcing();
+    let day = hundreds.concat();
+    let made = |calls: &[Call]| calls.iter().cloned().map(Step::Made).collect::<Vec<_>>();
+    let with = |read: &[Step]| -> Vec<Step> {
+        hundreds.iter().flat_map(|hundred| [made(hundred), read.to_vec()].concat()).collect()
+    };
+    let queries = made(&every_query());
+    vec![
+        Case::of_calls("announced day of 4,096 updates, never read", &[], &day),
+        Case::of_steps("announced day, a full board read each hundred", &[], with(&[Step::Board])),
+        Case::of_steps("announced day, 1,000 queries each hundred", &[], with(&queries)),
+        Case::of_steps("full board read", &day, vec![Step::Board]),
+        Case::of_steps("1,000 bibs read from the board", &day, (0..BIBS).map(Step::Bib).collect()),
+        Case::of_steps("1,000 queries + yield", &day, queries),
+        Case::of_calls("yield on box 0 that brings 4", &bringing(4), &[Call::Yield { client: 0 }]),
+        Case::of_calls("join into box 0 that brings 512", &sent_off(512), &[JOIN]),
+        Case::of_calls("join into box 0 that brings 4,096", &sent_off(UPDATES), &[JOIN]),
+    ]
+}
+
+/// Of the box that [`sent_off`] makes.
+const JOIN: Call = Call::Join { joiner: 0, joinee: 1 };
+
 /// 02, U7: the same calls on a short day, and on one that has 20,000 forks and joins behind it.
 fn reused() -> Vec<Case> {
     let short = chain(2_048, 8);
@@ -262,6 +294,7 @@ fn main() {
     single.extend(synced());
     single.extend(marks());
     single.extend(verified());
+    single.extend(announced());
     single.extend(reused());
     let mut by_updates = growth(&[64, 1_024, 2_048, 3_072, 4_080], |updates| (updates, 8));
     let mut by_revisions = growth(&[2, 8, 16, 32, 48, 63], |revisions| (2_048, revisions));
@@ -298,7 +331,9 @@ fn print_growth(title: &str, cases: &[(usize, Case)]) {
 
 /// The times of the calls that a program on SQLite makes too, and answers alike.
 fn print_sqlite(cases: &[Case]) {
-    let days = cases.iter().map(|case| (&*case.name, &*case.day, &*case.calls));
+    let calls: Vec<Vec<Call>> = cases.iter().map(Case::calls).collect();
+    let days = cases.iter().zip(&calls).map(|(case, calls)| (&*case.name, &*case.day, &**calls));
+    let days = days.filter(|(_, _, calls)| !calls.is_empty());
     let Some(times) = sqlite::times(days) else {
         println!("\nSQLite is not installed, or cc is not: no figures of it");
         return;
@@ -306,7 +341,7 @@ fn print_sqlite(cases: &[Case]) {
     println!("\n{:<52} {:>10} {:>10}", "nanoseconds", "SQLite", "library");
     for case in cases {
         let Some(&(nanoseconds, value)) = times.get(&case.name) else { continue };
-        if !matches!(case.calls[..], [Call::Bundle { .. }]) {
+        if !matches!(case.steps[..], [Step::Made(Call::Bundle { .. })]) {
             assert_eq!(value, case.value(), "{}: SQLite answers otherwise", case.name);
         }
         println!("{:<52} {nanoseconds:>10} {:>10}", case.name, case.times.library);

@@ -4,19 +4,14 @@ use calls::{Line, BIBS, CLIENTS, REVISIONS, UPDATES};
 use silttongs::Kind::{Penalty, Strike, Time};
 use silttongs::{lines, Entry, Fill, Refusal, Standing, Table, BUNDLE, BYTES, SHEET};
 
-use super::fresh;
+use super::{fresh, Lent};
 
 fn records(entries: &[Entry]) -> Vec<u8> {
     entries.iter().flat_map(|entry| entry.to_bytes()).collect()
 }
 
 /// Both forms on copies of a table: the same answer and the same bytes.
-fn sent(
-    table: &mut Table<Vec<u8>>,
-    client: u8,
-    revision: u8,
-    entries: &[Entry],
-) -> Result<u32, Refusal> {
+fn sent(table: &mut Lent, client: u8, revision: u8, entries: &[Entry]) -> Result<u32, Refusal> {
     let mut other = table.clone();
     let answer = table.bundle(client, revision, &records(entries));
     assert_eq!(other.bundle_entries(client, revision, entries), answer, "{entries:?}");
@@ -88,7 +83,7 @@ fn a_wrong_bundle_is_checked_right_after_the_table() {
     let none = [Entry::new(0, BIBS, 1); BUNDLE + 1];
     for entries in [&none[..0], &none] {
         assert_eq!(sent(&mut fresh(), CLIENTS, REVISIONS, entries), Err(Refusal::WrongBundle));
-        let mut no_table = Table::from_bytes(vec![0; BYTES]);
+        let mut no_table = Lent { table: Table::from_bytes(vec![0; BYTES]), ..fresh() };
         assert_eq!(sent(&mut no_table, CLIENTS, REVISIONS, entries), Err(Refusal::NoTable));
     }
 }

@@ -1,19 +1,22 @@
-//! Buffers that no day made: every call returns, a refusal changes no byte of table and sheet, two
-//! runs give the same, code 1 is given exactly if docs/CELLS.md says so, and a table stays one.
+//! Buffers that no day made, and boards of any bytes: every call returns, a refusal changes no byte of
+//! table, board and sheet, two runs give the same, code 1 is given exactly if docs/CELLS.md says so, and a
+//! table stays one.
 
 use std::collections::BTreeMap;
 
 use calls::{order_file, Answer, Call, Code, Line, State, CLIENTS, REVISIONS};
 use days::{fault_of_bundles, fault_of_previews, fault_of_syncs, seeds, Heaviest, Rng};
-use silttongs::{Refusal, Table, BUNDLE, BYTES};
+use silttongs::{Board, Refusal, Table, BOARD, BUNDLE, BYTES};
 
 use super::cells::{cells, is_table, Cell};
 use super::fresh_for;
 use super::given::{
     answered, by_baseline, choice, difference, first_difference, fresh_bytes, library, only_reads,
-    sheet, Given,
+    sheet, Bytes, Given,
 };
-use super::random::{any_call, damaged, names, random_bytes, taken, MARKED, NAMES, SINGLE, STATE};
+use super::random::{
+    any_board, any_call, damaged, names, random_bytes, taken, MARKED, NAMES, SINGLE, STATE,
+};
 
 /// How many damaged buffers are tried.
 const BUFFERS: u64 = 8_000;
@@ -48,10 +51,10 @@ fn each_cell_at_its_limits() {
         values.extend((high < cell.most()).then(|| high + 1));
         values.push(cell.most());
         for value in values {
-            let mut t = fresh_bytes();
-            cell.set(&mut t, value);
+            let mut bytes = Bytes::fresh();
+            cell.set(&mut bytes.table, value);
             let mut made = |call: Call| {
-                judged(&cells, &mut t, &call)
+                judged(&cells, &mut bytes, &call)
                     .unwrap_or_else(|fault| panic!("{value} in {cell:?}, `{call}`: {fault}"))
             };
             // It may find revision 0 never forked or joined.
@@ -69,15 +72,15 @@ fn each_cell_at_its_limits() {
 #[test]
 fn counts_stop_at_their_range() {
     let cells = cells();
-    let mut t = fresh_bytes();
+    let mut bytes = Bytes::fresh();
     let full = 4_096_u16.to_le_bytes();
     let mut made = |call: Call| {
         let given =
-            judged(&cells, &mut t, &call).unwrap_or_else(|fault| panic!("`{call}`: {fault}"));
+            judged(&cells, &mut bytes, &call).unwrap_or_else(|fault| panic!("`{call}`: {fault}"));
         assert_eq!(given.answer.code, Code::Accepted, "`{call}`");
         // The counts of revisions 0 and 1, and of those out.
-        t[COUNT..COUNT + 4].copy_from_slice(&[full, full].concat());
-        t[OUT] = 1;
+        bytes.table[COUNT..COUNT + 4].copy_from_slice(&[full, full].concat());
+        bytes.table[OUT] = 1;
     };
     let record = Line { kind: 1, client: 0, bib: 7, v: 1, number: 0 }.to_bytes();
     made(Call::Fork { revision: 0 });
@@ -92,7 +95,7 @@ fn counts_stop_at_their_range() {
 /// Every other byte is in range, whatever it is.
 #[test]
 fn the_other_bytes_have_every_value_in_range() {
-    let mut t = fresh_bytes();
+    let Bytes { table: mut t, mut board } = Bytes::fresh();
     let mut ranged = vec![false; BYTES];
     for cell in cells() {
         ranged[cell.at..cell.at + cell.width].fill(true);
@@ -100,9 +103,9 @@ fn the_other_bytes_have_every_value_in_range() {
     let call = Call::Yield { client: 0 };
     for at in (0..BYTES).filter(|&at| !ranged[at]) {
         t[at] ^= 0xff;
-        let given = library(&mut t, &call);
+        let given = library(&mut t, &mut board, &call);
         assert_eq!(given.answer, Answer::accepted(0), "byte {at}");
-        assert_eq!(by_baseline(&mut t, &call), given, "byte {at}, by baseline");
+        assert_eq!(by_baseline(&mut t, &mut board, &call), given, "byte {at}, by baseline");
     }
 }
 
@@ -128,26 +131,32 @@ fn wrong_lengths() {
         Call::Verify { order: order_file(&[]) },
         // 1 comes before 21.
         Call::Verify { order: Vec::new() },
+        // 1 comes before 19.
+        Call::OnBoard { length: 4_999, call: Box::new(Call::Yield { client: 0 }) },
+        Call::OnBoard { length: 0, call: Box::new(Call::Sync { revision: 1 }) },
     ];
     let cells = cells();
     for length in [0, 1, 12, 40_959, 40_960, BYTES - 1, BYTES + 1, 2 * BYTES] {
-        let mut t = fresh_bytes();
-        t.resize(length, 0);
-        let before = t.clone();
+        let mut bytes = Bytes { board: vec![0xa5; BOARD], ..Bytes::fresh() };
+        bytes.table.resize(length, 0);
+        let before = bytes.clone();
         for call in &calls {
-            let given = judged(&cells, &mut t, call);
+            let given = judged(&cells, &mut bytes, call);
             assert_eq!(given, Ok(refused(call, Code::NoTable)), "{length} bytes, `{call}`");
         }
         for single_main in [false, true] {
-            let made = Table::fresh(&mut t[..], choice(single_main));
+            let Bytes { table, board } = &mut bytes;
+            let mut lent = Board::from_bytes(&mut board[..]);
+            let made = Table::fresh(&mut table[..], &mut lent, choice(single_main));
             assert_eq!(made.err(), Some(Refusal::NoTable), "{length} bytes");
-            assert_eq!(baseline::fresh(&mut t, single_main), Err(Code::NoTable), "{length} bytes");
+            let made = baseline::fresh(table, board, single_main);
+            assert_eq!(made, Err(Code::NoTable), "{length} bytes");
         }
-        assert!(t == before, "{length} bytes: changed");
+        assert!(bytes == before, "{length} bytes: changed");
     }
 }
 
-/// Fresh looks at the length only, and leaves the same bytes whatever they were, but for the choice.
+/// Fresh looks at the lengths only, and leaves the same bytes whatever they were, but for the choice.
 #[test]
 fn fresh_on_any_content() {
     for single_main in [false, true] {
@@ -155,11 +164,15 @@ fn fresh_on_any_content() {
         right[SINGLE] = u8::from(single_main);
         assert!(fresh_for(choice(single_main)).bytes() == right);
         for seed in seeds(100) {
-            let mut t = random_bytes(&mut Rng::new(seed));
-            let by_baseline = baseline::fresh(&mut t.clone(), single_main);
+            let mut rng = Rng::new(seed);
+            let (mut t, mut board) = (random_bytes(&mut rng), any_board(&mut rng));
+            let by_baseline = baseline::fresh(&mut t.clone(), &mut board.clone(), single_main);
             assert_eq!(by_baseline, Ok(0), "seed {seed}");
-            assert!(Table::fresh(&mut t[..], choice(single_main)).is_ok(), "seed {seed}");
+            let mut lent = Board::from_bytes(&mut board[..]);
+            let made = Table::fresh(&mut t[..], &mut lent, choice(single_main));
+            assert!(made.is_ok(), "seed {seed}");
             assert!(t == right, "seed {seed}");
+            assert!(board == [0; BOARD], "seed {seed}");
         }
     }
 }
@@ -171,12 +184,13 @@ fn a_sync_whose_counts_stop() {
     for (main, joinee, out) in
         [(4_096, 0, 2), (4_095, 1, 2), (4_096, 1, 2), (4_096, 4_096, 2), (0, 0, 1)]
     {
-        let mut t = fresh_bytes();
-        library(&mut t, &Call::Fork { revision: 0 });
+        let mut bytes = Bytes::fresh();
+        answered(&mut bytes, &Call::Fork { revision: 0 });
+        let t = &mut bytes.table;
         t[COUNT..COUNT + 2].copy_from_slice(&u16::to_le_bytes(main));
         t[COUNT + 2..COUNT + 4].copy_from_slice(&u16::to_le_bytes(joinee));
         t[OUT] = out;
-        let given = judged(&cells, &mut t, &sync).unwrap();
+        let given = judged(&cells, &mut bytes, &sync).unwrap();
         assert_eq!(given.answer.code, Code::Accepted, "{main} {joinee} {out}");
     }
 }
@@ -223,18 +237,21 @@ impl Met {
 fn random_calls_on_damaged_buffers() {
     let cells = cells();
     let mut met = Met::default();
-    let [mut reused, mut synced, mut marked, mut dropped, mut verified] = [0; 5];
+    let [mut reused, mut synced, mut marked, mut dropped, mut verified, mut shown] = [0; 6];
     for seed in seeds(BUFFERS) {
         let mut rng = Rng::new(seed);
-        let mut t = damaged(&cells, &mut rng);
-        let names = names(&t);
+        let table = damaged(&cells, &mut rng);
+        let names = names(&table);
+        let mut bytes = Bytes { table, board: any_board(&mut rng) };
         for step in 0..CALLS {
             let at = format!("seed {seed}, call {step}");
-            let taken = taken(&t);
+            let taken = taken(&bytes.table);
             met.calls(&at, &mut rng, (&names, taken), |call| {
-                let all_given = t.get(GIVEN) == Some(&REVISIONS);
-                let given = judged(&cells, &mut t, call)
+                let all_given = bytes.table.get(GIVEN) == Some(&REVISIONS);
+                let board = bytes.board.clone();
+                let given = judged(&cells, &mut bytes, call)
                     .unwrap_or_else(|fault| panic!("{at}, `{call}`: {fault}"));
+                shown += usize::from(bytes.board != board);
                 let accepted = given.answer.code == Code::Accepted;
                 reused += usize::from(all_given && accepted && call.name() == "fork");
                 synced += usize::from(accepted && call.name() == "sync");
@@ -250,28 +267,29 @@ fn random_calls_on_damaged_buffers() {
     assert!(marked >= 50, "{marked} marks");
     assert!(dropped >= 50, "{dropped} drops");
     assert!(verified >= 50, "{verified} orders that fit");
+    assert!(shown >= 50, "{shown} boards changed");
     let Met { codes, states } = met;
     // 13 is given by the program alone.
     let numbers: Vec<u8> = codes.keys().map(|code| code.number()).collect();
-    assert_eq!(numbers, [0, 1, 2, 3, 4, 5, 6, 7, 8, 9, 10, 11, 12, 14, 15, 16, 17, 18, 21]);
+    assert_eq!(numbers, [0, 1, 2, 3, 4, 5, 6, 7, 8, 9, 10, 11, 12, 14, 15, 16, 17, 18, 19, 21]);
     assert!(codes.values().all(|&times| times >= 10), "{codes:?}");
     assert_eq!(states.len(), 3, "{states:?}");
     assert!(states.values().all(|&times| times >= 30), "{states:?}");
 }
 
 /// Makes the call, or says what is wrong with it.
-fn judged(cells: &[Cell], t: &mut Vec<u8>, call: &Call) -> Result<Given, String> {
-    let [mut again, mut baseline, before] = [(); 3].map(|()| t.clone());
-    let given = library(t, call);
-    if library(&mut again, call) != given || again != *t {
+fn judged(cells: &[Cell], bytes: &mut Bytes, call: &Call) -> Result<Given, String> {
+    let [mut again, mut baseline, before] = [(); 3].map(|()| bytes.clone());
+    let given = library(&mut bytes.table, &mut bytes.board, call);
+    if library(&mut again.table, &mut again.board, call) != given || again != *bytes {
         return Err("a second run differs".to_string());
     }
     let code = given.answer.code;
-    let table = is_table(cells, &before);
+    let table = is_table(cells, &before.table);
     if (code == Code::NoTable) == table {
         return Err(format!("code {code}, against docs/CELLS.md"));
     }
-    if table && !is_table(cells, t) {
+    if table && !is_table(cells, &bytes.table) {
         return Err("it left no table".to_string());
     }
     let one = std::slice::from_ref(call);
@@ -280,34 +298,42 @@ fn judged(cells: &[Cell], t: &mut Vec<u8>, call: &Call) -> Result<Given, String>
         Call::Preview { .. } if table => fault_of_previews(before.clone(), one, answered),
         Call::Sync { .. } if table => fault_of_syncs(before.clone(), one, answered),
         Call::Mark { revision, name } if table => {
-            let (right, left) = forked_and_named(&before, *revision, name);
-            (right != given.answer || left != *t).then(|| format!("as a fork {right}"))
+            let (right, left) = forked_and_named(&before.table, *revision, name);
+            (right != given.answer || left != bytes.table).then(|| format!("as a fork {right}"))
         }
         _ => None,
     };
-    if let Some(fault) = fault.or_else(|| Heaviest::default().fault_of(call, &before, t)) {
+    let heaviest = Heaviest::default();
+    if let Some(fault) = fault.or_else(|| heaviest.fault_of(call, &before.table, &bytes.table)) {
         return Err(fault);
     }
-    if code != Code::Accepted && (given != refused(call, code) || *t != before) {
+    if code != Code::Accepted && (given != refused(call, code) || *bytes != before) {
         return Err(format!("refused with code {code}, but with an answer or bytes changed"));
     }
-    if only_reads(call) && *t != before {
+    if only_reads(call) && *bytes != before {
         return Err("a call that only reads changed the table".to_string());
     }
-    if let Some(fault) = difference(&given, &by_baseline(&mut baseline, call)) {
+    if !call.takes_a_board() && bytes.board != before.board {
+        return Err("a call without a board changed one".to_string());
+    }
+    let Bytes { table: t, board } = &mut baseline;
+    if let Some(fault) = difference(&given, &by_baseline(t, board, call)) {
         return Err(format!("against baseline: {fault}"));
     }
-    match first_difference(t, &baseline) {
-        Some(at) => Err(format!("byte {at} is {}, baseline has {}", t[at], baseline[at])),
-        None => Ok(given),
+    for (what, a, b) in [("table", &bytes.table, &*t), ("board", &bytes.board, &*board)] {
+        if let Some(at) = first_difference(a, b) {
+            return Err(format!("byte {at} of the {what} is {}, baseline has {}", a[at], b[at]));
+        }
     }
+    Ok(given)
 }
 
 /// What a mark answers and leaves, worked out from the fork: "Mark has fork's refusals and value".
 fn forked_and_named(before: &[u8], revision: u8, name: &[u8]) -> (Answer, Vec<u8>) {
     let mut t = before.to_vec();
     t[SINGLE] = 0;
-    let forked = library(&mut t, &Call::Fork { revision }).answer;
+    // A fork takes no board.
+    let forked = library(&mut t, &mut [], &Call::Fork { revision }).answer;
     let code = match forked.code {
         code @ (Code::NeverGiven | Code::Joined) => code,
         _ if before[SINGLE] == 1 => Code::OffTheLine,

@@ -1,5 +1,6 @@
 //! Random days: for every call the static library gives the code, state, value, total, gain and sheet
-//! of the literal replay, and leaves the bytes that the baseline leaves.
+//! of the literal replay, leaves the bytes that the baseline leaves, and the board that the literal replay
+//! works out afresh.
 
 use calls::{Answer, Call, Line, BIBS};
 use days::{
@@ -7,10 +8,10 @@ use days::{
     fault_of_fills, fault_of_marks, fault_of_numbers, fault_of_orders, fault_of_origins,
     fault_of_previews, fault_of_syncs, late_days, must_pass, one_in, seeds, Profile,
 };
-use silttongs::{lines, Entry, Table};
+use silttongs::{lines, Board, Entry, Table};
 
 use super::given::{
-    answered, as_given, difference, first_difference, fresh_bytes, library, only_reads, refused,
+    answered, as_given, difference, first_difference, library, only_reads, refused, Bytes,
 };
 
 #[test]
@@ -49,9 +50,9 @@ fn small_days_with_every_preview_after_every_step() {
 /// preview is the join on a copy, as a list and a query there have it; a sync is the join and the fork.
 #[test]
 fn bundles_previews_and_syncs_are_what_other_calls_come_to() {
-    let bundles = |calls: &[Call]| fault_of_bundles(fresh_bytes(), calls, answered);
-    let previews = |calls: &[Call]| fault_of_previews(fresh_bytes(), calls, answered);
-    let syncs = |calls: &[Call]| fault_of_syncs(fresh_bytes(), calls, answered);
+    let bundles = |calls: &[Call]| fault_of_bundles(Bytes::fresh(), calls, answered);
+    let previews = |calls: &[Call]| fault_of_previews(Bytes::fresh(), calls, answered);
+    let syncs = |calls: &[Call]| fault_of_syncs(Bytes::fresh(), calls, answered);
     must_pass(one_in(8), bundles);
     must_pass(one_in(8), previews);
     must_pass(one_in(8), syncs);
@@ -64,15 +65,15 @@ fn bundles_previews_and_syncs_are_what_other_calls_come_to() {
 fn both_forms_on_random_days() {
     let kinds = [(Profile::BUNDLES, 100), (Profile::NEARLY_FULL, 30), (Profile::STRANGE, 100)];
     must_pass(days_of(&kinds), |calls| {
-        let mut t = fresh_bytes();
-        calls.iter().find_map(|call| fault_of_entries(&mut t, call))
+        let mut bytes = Bytes::fresh();
+        calls.iter().find_map(|call| fault_of_entries(&mut bytes, call))
     });
 }
 
 /// 02, U7, by the library alone: which number a fork gives, and which numbers are out.
 #[test]
 fn numbers_go_by_the_order_of_the_hand_ins() {
-    let numbers = |calls: &[Call]| fault_of_numbers(fresh_bytes(), calls, answered);
+    let numbers = |calls: &[Call]| fault_of_numbers(Bytes::fresh(), calls, answered);
     must_pass(one_in(4), numbers);
     must_pass(Profile::SMALL_REUSED.days(seeds(60)), numbers);
 }
@@ -80,7 +81,7 @@ fn numbers_go_by_the_order_of_the_hand_ins() {
 /// 02, U13: the day's own line-up gets a yes, other orders what the literal replay says.
 #[test]
 fn orders_after_every_step() {
-    let orders = |calls: &[Call]| fault_of_orders(fresh_bytes(), calls, answered);
+    let orders = |calls: &[Call]| fault_of_orders(Bytes::fresh(), calls, answered);
     must_pass(Profile::SMALL.days(seeds(100)), orders);
     must_pass(Profile::SMALL_MARKED.days(seeds(60)), orders);
     must_pass(Profile::SMALL_SINGLE_MAIN.days(seeds(30)), orders);
@@ -99,8 +100,8 @@ fn marks_go_by_the_calls_before() {
         (Profile::SINGLE_MAIN, 60),
     ];
     must_pass(days_of(&kinds), |calls| {
-        fault_of_marks(fresh_bytes(), calls, answered)
-            .or_else(|| fault_of_origins(fresh_bytes(), calls, answered))
+        fault_of_marks(Bytes::fresh(), calls, answered)
+            .or_else(|| fault_of_origins(Bytes::fresh(), calls, answered))
     });
 }
 
@@ -135,12 +136,13 @@ fn fault_with_previews(calls: &[Call]) -> Option<String> {
 }
 
 fn fault_of_a_sum(calls: &[Call]) -> Option<String> {
-    fault_of_fills(fresh_bytes(), calls, answered)
+    fault_of_fills(Bytes::fresh(), calls, answered)
 }
 
-fn fault_of_entries(t: &mut Vec<u8>, call: &Call) -> Option<String> {
-    let mut other = Table::from_bytes(t.clone());
-    let by_records = answered(t, call);
+fn fault_of_entries(bytes: &mut Bytes, call: &Call) -> Option<String> {
+    let Bytes { table, board } = bytes.clone();
+    let (mut table, mut board) = (Table::from_bytes(table), Board::from_bytes(board));
+    let by_records = answered(bytes, call);
     let Call::Bundle { client, revision, ref records } = *call else { return None };
     let (whole, rest) = records.as_chunks();
     if !rest.is_empty() {
@@ -151,15 +153,16 @@ fn fault_of_entries(t: &mut Vec<u8>, call: &Call) -> Option<String> {
         Entry { kind, bib, v }
     };
     let entries: Vec<Entry> = whole.iter().map(entry).collect();
-    let answer = other.bundle_entries(client, revision, &entries);
+    let answer = table.bundle_entries(&mut board, client, revision, &entries);
     let by_entries = answer.map_or_else(refused, Answer::accepted);
-    let same = by_entries == by_records && other.bytes() == t;
+    let left = Bytes { table: table.into_bytes(), board: board.into_bytes() };
+    let same = by_entries == by_records && left == *bytes;
     (!same).then(|| format!("`{call}`: as entries {by_entries}, as records {by_records}"))
 }
 
 /// A day on all three.
 struct Day {
-    table: Vec<u8>,
+    bytes: Bytes,
     literal: literal::Day,
     baseline: baseline::Day,
 }
@@ -167,7 +170,7 @@ struct Day {
 impl Day {
     fn fresh() -> Self {
         Day {
-            table: fresh_bytes(),
+            bytes: Bytes::fresh(),
             literal: literal::Day::fresh(),
             baseline: baseline::Day::fresh(),
         }
@@ -185,7 +188,8 @@ impl Day {
 
     fn fault_of_answer(&mut self, call: &Call) -> Option<String> {
         let expected = self.literal.call(call);
-        let given = library(&mut self.table, call);
+        let Bytes { table, board } = &mut self.bytes;
+        let given = library(table, board, call);
         let read = lines(&given.sheet, given.answer.value).map(|line| {
             let silttongs::Line { kind, client, bib, v, number } = line;
             Line { kind, client, bib, v, number }
@@ -197,9 +201,13 @@ impl Day {
     }
 
     fn fault_of_bytes(&self) -> Option<String> {
-        let bytes = self.baseline.bytes();
-        let at = first_difference(&self.table, bytes)?;
-        Some(format!("byte {at} is {}, baseline has {}", self.table[at], bytes[at]))
+        let (Bytes { table, board }, bytes) = (&self.bytes, self.baseline.bytes());
+        if let Some(at) = first_difference(table, bytes) {
+            return Some(format!("byte {at} is {}, baseline has {}", table[at], bytes[at]));
+        }
+        let right = self.literal.board();
+        let at = first_difference(board, &right)?;
+        Some(format!("byte {at} of the board is {}, not {}", board[at], right[at]))
     }
 
     /// Makes these calls, which only read. The bytes are compared after the last: that takes most of

@@ -1,11 +1,11 @@
 //! The library's calls as values, and what they are compared with.
 
 use calls::{Answer, Call, Code, Line, State};
-use silttongs::{Day, Refusal, Standing, Table};
+use silttongs::{Board, Day, Refusal, Standing, Table, BOARD};
 
-use super::fresh;
+use super::{fresh, Lent};
 
-/// What a call left, but for the table.
+/// What a call left, but for the table and its board.
 #[derive(Clone, Debug, PartialEq, Eq)]
 pub(crate) struct Given {
     /// Without lines: those of a list are on its sheet.
@@ -14,9 +14,29 @@ pub(crate) struct Given {
     pub(crate) sheet: Vec<u8>,
 }
 
+/// The bytes of a table, and of the board that is lent to every call that takes one.
+#[derive(Clone, Debug, PartialEq, Eq)]
+pub(crate) struct Bytes {
+    pub(crate) table: Vec<u8>,
+    pub(crate) board: Vec<u8>,
+}
+
+impl Bytes {
+    pub(crate) fn fresh() -> Self {
+        let Lent { table, board } = fresh();
+        Bytes { table: table.into_bytes(), board: board.into_bytes() }
+    }
+}
+
+impl AsRef<[u8]> for Bytes {
+    fn as_ref(&self) -> &[u8] {
+        &self.table
+    }
+}
+
 /// The bytes of a fresh table.
 pub(crate) fn fresh_bytes() -> Vec<u8> {
-    fresh().into_bytes()
+    Bytes::fresh().table
 }
 
 /// The sheet of a list before the call: as long as the call says, up to more than any listing
@@ -30,9 +50,13 @@ pub(crate) fn sheet(call: &Call) -> Vec<u8> {
     }
 }
 
-/// What the library gives.
-pub(crate) fn library(bytes: &mut [u8], call: &Call) -> Given {
+/// What the library gives. A board is lent to the calls that take one.
+pub(crate) fn library(bytes: &mut [u8], board: &mut [u8], call: &Call) -> Given {
+    if let Call::OnBoard { length, call } = call {
+        return library_on(bytes, *length, call);
+    }
     let mut table = Table::from_bytes(&mut *bytes);
+    let mut board = Board::from_bytes(board);
     let mut sheet = sheet(call);
     let started = |number| Answer::accepted(u32::from(number));
     let answer = match *call {
@@ -40,21 +64,23 @@ pub(crate) fn library(bytes: &mut [u8], call: &Call) -> Given {
             table.update(client, revision, kind, bib, v).map(Answer::accepted)
         }
         Call::Query { client, revision, bib } => table.query(client, revision, bib).map(found),
-        Call::Yield { client } => table.yield_(client).map(|()| Answer::accepted(0)),
+        Call::Yield { client } => table.yield_(&mut board, client).map(|()| Answer::accepted(0)),
         Call::Fork { revision } => table.fork(revision).map(started),
-        Call::Sync { revision } => table.sync(revision).map(started),
+        Call::Sync { revision } => table.sync(&mut board, revision).map(started),
         Call::Mark { revision, ref name } => table.mark(revision, name).map(started),
         Call::Drop { ref name } => table.drop(name).map(|()| Answer::accepted(0)),
         Call::Fresh { single_main } => {
-            Table::fresh(bytes, choice(single_main)).map(|_| Answer::accepted(0))
+            Table::fresh(bytes, &mut board, choice(single_main)).map(|_| Answer::accepted(0))
         }
-        Call::Join { joiner, joinee } => table.join(joiner, joinee).map(Answer::accepted),
+        Call::Join { joiner, joinee } => {
+            table.join(&mut board, joiner, joinee).map(Answer::accepted)
+        }
         Call::List { revision, .. } => table.list(revision, &mut sheet).map(Answer::accepted),
         Call::Fill { revision } => table
             .fill(revision)
             .map(|fill| Answer::filled(u32::from(fill.own), u32::from(fill.total))),
         Call::Bundle { client, revision, ref records } => {
-            table.bundle(client, revision, records).map(Answer::accepted)
+            table.bundle(&mut board, client, revision, records).map(Answer::accepted)
         }
         Call::Preview { joiner, joinee, bib } => table
             .preview(joiner, joinee, bib)
@@ -62,8 +88,21 @@ pub(crate) fn library(bytes: &mut [u8], call: &Call) -> Given {
         Call::Verify { ref order } => {
             table.verify(order).map(|yes| Answer::accepted(u32::from(yes)))
         }
+        Call::OnBoard { .. } => unreachable!("made above"),
     };
     Given { answer: answer.unwrap_or_else(refused), sheet }
+}
+
+/// What the library gives, with a board of so many bytes lent. If it is refused, that board keeps every
+/// byte.
+fn library_on(bytes: &mut [u8], length: usize, call: &Call) -> Given {
+    let before: Vec<u8> = (0..length).map(|at| (at * 167 + at / 256) as u8).collect();
+    let mut board = before.clone();
+    let given = library(bytes, &mut board, call);
+    let refused = given.answer.code != Code::Accepted;
+    assert!(!refused || board == before, "`{call}`: a refusal changes a board of {length} bytes");
+    assert!(refused || length == BOARD, "`{call}` is taken with a board of {length} bytes");
+    given
 }
 
 /// The choice as the wrapper has it.
@@ -76,8 +115,8 @@ pub(crate) fn choice(single_main: bool) -> Day {
 }
 
 /// What the library answers; of a list, with the lines on its sheet.
-pub(crate) fn answered(t: &mut impl AsMut<[u8]>, call: &Call) -> Answer {
-    let Given { answer, sheet } = library(t.as_mut(), call);
+pub(crate) fn answered(Bytes { table, board }: &mut Bytes, call: &Call) -> Answer {
+    let Given { answer, sheet } = library(table, board, call);
     let (places, _) = sheet.as_chunks();
     let listed = places.iter().take(answer.value as usize);
     Answer { lines: listed.map(|&place| Line::from_bytes(place)).collect(), ..answer }
@@ -102,13 +141,13 @@ pub(crate) fn refused(refusal: Refusal) -> Answer {
 }
 
 /// What the baseline gives.
-pub(crate) fn by_baseline(bytes: &mut [u8], call: &Call) -> Given {
+pub(crate) fn by_baseline(bytes: &mut [u8], board: &mut [u8], call: &Call) -> Given {
     let mut sheet = sheet(call);
     let answer = match *call {
         Call::List { revision, .. } => {
             baseline::list(bytes, revision, &mut sheet).map(Answer::accepted)
         }
-        _ => baseline::call(bytes, call),
+        _ => baseline::call(bytes, board, call),
     };
     Given { answer: answer.unwrap_or_else(Answer::refused), sheet }
 }

@@ -5,13 +5,13 @@ use calls::{Answer, Call, Line};
 use days::{chains_of_joins, days_of, late_days, must_pass, one_in, seeds, Heaviest, Profile};
 use silttongs::BUNDLE;
 
-use super::given::{answered, fresh_bytes};
+use super::given::{answered, Bytes};
 
 /// The most places seen are printed with `--nocapture`.
 #[test]
 fn joins_and_syncs_of_random_days() {
     let heaviest = Heaviest::default();
-    let fault = |calls: &[Call]| heaviest.fault(fresh_bytes(), calls, answered);
+    let fault = |calls: &[Call]| heaviest.fault(Bytes::fresh(), calls, answered);
     let small = [
         (Profile::SMALL, 800),
         (Profile::SMALL_REUSED, 20),
@@ -30,7 +30,7 @@ fn joins_and_syncs_of_random_days() {
 fn joins_of_many_updates() {
     let record = Line { kind: 1, client: 0, bib: 7, v: 1, number: 0 }.to_bytes();
     for count in [0, 1, 4_096] {
-        let mut t = fresh_bytes();
+        let mut t = Bytes::fresh();
         answered(&mut t, &Call::Fork { revision: 0 });
         let records = record.repeat(count);
         for part in records.chunks(BUNDLE * Line::BYTES) {
@@ -39,7 +39,7 @@ fn joins_of_many_updates() {
         let (before, join) = (t.clone(), Call::Join { joiner: 0, joinee: 1 });
         assert_eq!(answered(&mut t, &join), Answer::accepted(count as u32));
         let heaviest = Heaviest::default();
-        assert_eq!(heaviest.fault_of(&join, &before, &t), None);
+        assert_eq!(heaviest.fault_of(&join, &before.table, &t.table), None);
         println!("{count} updates: {heaviest}");
     }
 }

@@ -3,7 +3,7 @@
 
 use silttongs::{lines, Day, Fill, Kind, Line, Mark, Name, Refusal, Standing, Table, BYTES, SHEET};
 
-use super::{fresh, fresh_for};
+use super::{fresh, fresh_for, Lent};
 
 /// Where some cells lie: docs/CELLS.md.
 const STATE: usize = 39_040;
@@ -11,7 +11,7 @@ const NAMES: usize = 39_828;
 
 /// Boxes 1, 2 and 3, of which 3 is handed in, and a mark, 4; box 2 is busy with tablet 2, and bib 7 has a
 /// time on box 0, entered before the mark, by tablet 0.
-fn busy() -> Table<Vec<u8>> {
+fn busy() -> Lent {
     let mut table = fresh();
     assert_eq!(table.update(0, 0, Kind::Time, 7, 60_000), Ok(0));
     table.yield_(0).unwrap();
@@ -22,7 +22,7 @@ fn busy() -> Table<Vec<u8>> {
 }
 
 /// The updates that a box lists, by number.
-fn listed(table: &Table<Vec<u8>>, revision: u8) -> Vec<u32> {
+fn listed(table: &Lent, revision: u8) -> Vec<u32> {
     let mut sheet = vec![0; SHEET];
     let count = table.list(revision, &mut sheet).unwrap();
     lines(&sheet, count).map(|Line { number, .. }| number).collect()
@@ -31,9 +31,9 @@ fn listed(table: &Table<Vec<u8>>, revision: u8) -> Vec<u32> {
 /// A call that is refused, and changes no byte.
 #[track_caller]
 fn refused<T: std::fmt::Debug + PartialEq>(
-    table: &Table<Vec<u8>>,
+    table: &Lent,
     refusal: Refusal,
-    call: impl Fn(&mut Table<Vec<u8>>) -> Result<T, Refusal>,
+    call: impl Fn(&mut Lent) -> Result<T, Refusal>,
 ) {
     let mut copy = table.clone();
     assert_eq!(call(&mut copy), Err(refusal));
@@ -85,10 +85,10 @@ fn a_mark_is_a_fork_with_a_name() {
     for revision in [0, 1, 4] {
         let [mut forked, mut marked] = [table.clone(), table.clone()];
         assert_eq!((forked.fork(revision), marked.mark(revision, "NOON")), (Ok(5), Ok(5)));
-        let mut bytes = forked.into_bytes();
+        let mut bytes = forked.table.into_bytes();
         bytes[STATE + 5] = 3;
         bytes[NAMES + 20..NAMES + 24].copy_from_slice(b"NOON");
-        assert!(marked.into_bytes() == bytes, "box {revision}");
+        assert!(marked.table.into_bytes() == bytes, "box {revision}");
     }
 }
 
@@ -210,7 +210,7 @@ fn the_marks_that_are_out() {
     assert_eq!(marks(&table), [Mark { revision: 6, name: noon }]);
     assert!(marks(&fresh()).is_empty());
     // On bytes that no day made: box 0 is no mark, and four bytes may be no name.
-    let mut bytes = table.into_bytes();
+    let mut bytes = table.table.into_bytes();
     (bytes[STATE], bytes[STATE + 1]) = (3, 3);
     bytes[NAMES..NAMES + 4].copy_from_slice(b"MAIN");
     assert_eq!(marks(&Table::from_bytes(bytes)), [Mark { revision: 6, name: noon }]);

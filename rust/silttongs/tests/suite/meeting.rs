@@ -3,11 +3,11 @@
 
 use days::meeting;
 
-use super::given::{answered, fresh_bytes};
+use super::given::{answered, Bytes};
 
 #[test]
 fn the_meeting_by_the_library() {
-    let mut table = fresh_bytes();
+    let mut bytes = Bytes::fresh();
     let printed = include_str!("../../../../crates/meeting/stdout");
-    assert_eq!(meeting(|call| answered(&mut table, call)), printed);
+    assert_eq!(meeting(|call| answered(&mut bytes, call)), printed);
 }

@@ -1,11 +1,11 @@
 //! 02, U7, "Sixty-four out, not sixty-four ever", on the library.
 
-use silttongs::{Fill, Kind, Refusal, Standing, Table};
+use silttongs::{Fill, Kind, Refusal, Standing};
 
-use super::fresh;
+use super::{fresh, Lent};
 
 /// All 63 forks of box 0.
-fn sixty_four() -> Table<Vec<u8>> {
+fn sixty_four() -> Lent {
     let mut table = fresh();
     assert!((1..64).all(|number| table.fork(0) == Ok(number)));
     table

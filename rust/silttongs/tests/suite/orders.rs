@@ -3,14 +3,14 @@
 use calls::{order_file, UPDATES};
 use silttongs::{Kind, Refusal, Table, BYTES};
 
-use super::fresh;
 use super::random::STATE;
+use super::{fresh, Lent};
 
 /// The state of a box that was handed in: docs/CELLS.md.
 const HANDED_IN: u8 = 2;
 
 /// Box 0 lists updates 0 and 2, box 1, which is busy, 0 and 1.
-fn two_boxes() -> Result<Table<Vec<u8>>, Refusal> {
+fn two_boxes() -> Result<Lent, Refusal> {
     let mut table = fresh();
     table.update(0, 0, Kind::Time, 7, 61_000)?;
     table.yield_(0)?;
@@ -88,7 +88,7 @@ fn a_marked_box_counts() -> Result<(), Refusal> {
     table.update(0, 1, Kind::Time, 7, 2)?;
     table.yield_(0)?;
     table.mark(1, "JURY")?;
-    let mut bytes = table.into_bytes();
+    let mut bytes = table.table.into_bytes();
     bytes[STATE + 1] = HANDED_IN;
     let said = |bytes: &[u8]| Table::from_bytes(bytes).verify(&order_file(&[1, 0]));
     assert_eq!(said(&bytes), Ok(false));

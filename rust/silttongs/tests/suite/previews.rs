@@ -5,10 +5,10 @@ use silttongs::Kind::{Earliest, Penalty, Strike, Time};
 use silttongs::Standing::{Neither, Struck, Timed};
 use silttongs::{Kind, Preview, Refusal, Standing, Table};
 
-use super::fresh;
+use super::{fresh, Lent};
 
 /// Compares a preview, leaves every byte, and finds the same by a join and a query on a copy.
-fn shows(table: &Table<Vec<u8>>, joiner: u8, joinee: u8, bib: u16, standing: Standing, gain: u32) {
+fn shows(table: &Lent, joiner: u8, joinee: u8, bib: u16, standing: Standing, gain: u32) {
     let mut copy = table.clone();
     assert_eq!(table.preview(joiner, joinee, bib), Ok(Preview { standing, gain }));
     assert!(copy == *table, "the table is only read");
@@ -17,7 +17,7 @@ fn shows(table: &Table<Vec<u8>>, joiner: u8, joinee: u8, bib: u16, standing: Sta
 }
 
 /// A box with an update of bib 7, and then one of the box that sent it.
-fn late(late: (Kind, u32), first: (Kind, u32)) -> Result<Table<Vec<u8>>, Refusal> {
+fn late(late: (Kind, u32), first: (Kind, u32)) -> Result<Lent, Refusal> {
     let mut table = fresh();
     table.fork(0)?;
     table.update(1, 1, late.0, 7, late.1)?;
@@ -106,7 +106,7 @@ fn refusals_are_those_of_the_join_and_then_5() -> Result<(), Refusal> {
 /// A table on bytes that are lent to be read alone.
 #[test]
 fn a_preview_reads_alone() -> Result<(), Refusal> {
-    let bytes = late((Time, 5), (Time, 6))?.into_bytes();
+    let bytes = late((Time, 5), (Time, 6))?.table.into_bytes();
     let preview = Table::from_bytes(&bytes[..]).preview(0, 1, 7);
     assert_eq!(preview, Ok(Preview { standing: Timed(5), gain: 1 }));
     assert_eq!(Table::from_bytes(&bytes[1..]).preview(0, 1, BIBS), Err(Refusal::NoTable));

@@ -1,11 +1,11 @@
 //! Buffers that no day made, and calls for them, at random.
 
-use calls::{order_file, Call, Line, BIBS, CLIENTS, REVISIONS};
+use calls::{order_file, Call, Line, BIBS, BOARD, CLIENTS, REVISIONS};
 use days::{random_day, Profile, Rng};
 use silttongs::{BUNDLE, BYTES, SHEET};
 
 use super::cells::{is_table, Cell};
-use super::given::{fresh_bytes, library};
+use super::given::{answered, fresh_bytes, Bytes};
 
 /// Where some cells lie, and the state of a mark: docs/CELLS.md.
 pub(crate) const STATE: usize = 39_040;
@@ -33,6 +33,14 @@ pub(crate) fn random_bytes(rng: &mut Rng) -> Vec<u8> {
     (0..BYTES / 8).flat_map(|_| rng.bits().to_le_bytes()).collect()
 }
 
+/// A board of random bytes, of which the first of an entry is 0 or 1 for most bibs.
+pub(crate) fn any_board(rng: &mut Rng) -> Vec<u8> {
+    let mut board = random_bytes(rng);
+    board.truncate(BOARD);
+    board.iter_mut().step_by(5).for_each(|first| *first = [0, 1, 0, 1, *first][rng.below(5)]);
+    board
+}
+
 /// Random bytes, a fresh table or the table of a random day, each with random cells; most are in
 /// range, so that the calls get past code 1.
 pub(crate) fn damaged(cells: &[Cell], rng: &mut Rng) -> Vec<u8> {
@@ -40,13 +48,13 @@ pub(crate) fn damaged(cells: &[Cell], rng: &mut Rng) -> Vec<u8> {
         0 => fresh_bytes(),
         1 => random_bytes(rng),
         _ => {
-            let mut t = fresh_bytes();
+            let mut bytes = Bytes::fresh();
             let (many, few) = (Profile::MIXED, Profile::SMALL_REUSED);
             let kind = rng.pick(&[many, many, Profile::MARKED, Profile::SINGLE_MAIN, few]);
             for call in random_day(&kind, rng.bits()) {
-                library(&mut t, &call);
+                answered(&mut bytes, &call);
             }
-            t
+            bytes.table
         }
     };
     // Random bytes are no table until each cell is put in range.
@@ -98,8 +106,18 @@ fn any_name(rng: &mut Rng, names: &[Vec<u8>]) -> Vec<u8> {
     name
 }
 
-/// Mostly numbers in range.
+/// Mostly numbers in range; a call that takes a board has now and then one of a wrong length.
 pub(crate) fn any_call(rng: &mut Rng, names: &[Vec<u8>], taken: u16) -> Call {
+    let call = likely_call(rng, names, taken);
+    if call.takes_a_board() && rng.percent(3) {
+        let any = rng.below(2 * BOARD);
+        let length = rng.pick(&[0, 1, BOARD - 1, BOARD + 1, any]);
+        return Call::OnBoard { length, call: Box::new(call) };
+    }
+    call
+}
+
+fn likely_call(rng: &mut Rng, names: &[Vec<u8>], taken: u16) -> Call {
     let mut below = |n: usize| if rng.percent(3) { rng.below(256) } else { rng.below(n) };
     let [client, revision, other] = [CLIENTS, REVISIONS, REVISIONS].map(|n| below(n.into()) as u8);
     let kind = (1 + below(4)) as u8;

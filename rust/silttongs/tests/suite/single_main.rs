@@ -3,23 +3,29 @@
 
 #![allow(unsafe_code)]
 
-use silttongs::{Day, Fill, Kind, Refusal, Standing, Table, BYTES};
+use silttongs::{Day, Fill, Kind, Refusal, Standing, Table, BOARD, BYTES};
 
-use super::{fresh, fresh_for};
+use super::{fresh, fresh_for, Lent};
 
 extern "C" {
-    fn silttongs_fresh(table: *mut u8, length: usize, single_main: u8) -> u64;
+    fn silttongs_fresh(
+        table: *mut u8,
+        length: usize,
+        board: *mut u8,
+        board_length: usize,
+        single_main: u8,
+    ) -> u64;
 }
 
 /// A single-main day with boxes 1, 2 and 3.
-fn three() -> Table<Vec<u8>> {
+fn three() -> Lent {
     let mut table = fresh_for(Day::SingleMain);
     assert_eq!([(); 3].map(|()| table.fork(0)), [Ok(1), Ok(2), Ok(3)]);
     table
 }
 
 /// Then box 3 is handed in, and box 2 is busy.
-fn busy() -> Table<Vec<u8>> {
+fn busy() -> Lent {
     let mut table = three();
     assert_eq!(table.join(0, 3), Ok(0));
     assert_eq!(table.update(2, 2, Kind::Time, 7, 50), Ok(0));
@@ -30,18 +36,20 @@ fn busy() -> Table<Vec<u8>> {
 #[test]
 fn the_choice_as_a_byte() {
     for byte in 0..=u8::MAX {
-        let mut t = vec![0x5a; BYTES];
-        // SAFETY: the slice is lent to the call alone, which takes any bytes and any numbers.
-        assert_eq!(unsafe { silttongs_fresh(t.as_mut_ptr(), t.len(), byte) }, 0);
+        let (mut t, mut board) = (vec![0x5a; BYTES], vec![0xa5; BOARD]);
+        let (at, length) = (board.as_mut_ptr(), board.len());
+        // SAFETY: the slices are lent to the call alone, which takes any bytes and any numbers.
+        assert_eq!(unsafe { silttongs_fresh(t.as_mut_ptr(), t.len(), at, length, byte) }, 0);
         let day = if byte == 0 { Day::Ordinary } else { Day::SingleMain };
-        assert!(t == fresh_for(day).into_bytes(), "{byte}");
+        assert!(t == fresh_for(day).table.into_bytes(), "{byte}");
     }
 }
 
 /// The tables of the two choices differ in one byte.
 #[test]
 fn the_choice_is_a_cell() {
-    let [ordinary, single] = [Day::Ordinary, Day::SingleMain].map(|d| fresh_for(d).into_bytes());
+    let [ordinary, single] =
+        [Day::Ordinary, Day::SingleMain].map(|d| fresh_for(d).table.into_bytes());
     let differ: Vec<usize> = (0..BYTES).filter(|&at| ordinary[at] != single[at]).collect();
     assert_eq!(differ, [40_084]);
     assert_eq!((ordinary[40_084], single[40_084]), (0, 1));
@@ -99,16 +107,19 @@ fn with_64_boxes_out() {
 /// A fresh that is refused leaves the day and its choice; one that is taken has its own.
 #[test]
 fn a_choice_lasts_until_the_next_fresh() {
-    let mut bytes = three().into_bytes();
+    let Lent { table, mut board } = three();
+    let mut bytes = table.into_bytes();
     bytes.push(0);
     let before = bytes.clone();
-    assert_eq!(Table::fresh(&mut bytes[..], Day::Ordinary).err(), Some(Refusal::NoTable));
+    let long = Table::fresh(&mut bytes[..], &mut board, Day::Ordinary);
+    assert_eq!(long.err(), Some(Refusal::NoTable));
     assert!(bytes == before);
     bytes.pop();
     assert_eq!(Table::from_bytes(&mut bytes[..]).fork(1), Err(Refusal::OffTheLine));
-    let mut table = Table::fresh(&mut bytes[..], Day::Ordinary).unwrap();
-    assert_eq!((table.fork(0), table.fork(1), table.join(1, 2)), (Ok(1), Ok(2), Ok(0)));
-    let mut table = Table::fresh(&mut bytes[..], Day::SingleMain).unwrap();
+    let mut table = Table::fresh(&mut bytes[..], &mut board, Day::Ordinary).unwrap();
+    assert_eq!((table.fork(0), table.fork(1)), (Ok(1), Ok(2)));
+    assert_eq!(table.join(&mut board, 1, 2), Ok(0));
+    let mut table = Table::fresh(&mut bytes[..], &mut board, Day::SingleMain).unwrap();
     assert_eq!((table.fork(0), table.fork(1)), (Ok(1), Err(Refusal::OffTheLine)));
 }
 
@@ -136,7 +147,7 @@ fn a_sync_is_the_join_and_the_fork() {
 /// "has join's refusals for joiner 0"; a refused one changes no byte.
 #[test]
 fn the_refusals_of_a_sync() {
-    let refused = |table: &Table<Vec<u8>>, revision, refusal| {
+    let refused = |table: &Lent, revision, refusal| {
         let mut copy = table.clone();
         assert_eq!(copy.sync(revision), Err(refusal), "sync {revision}");
         assert!(copy == *table, "sync {revision}: {refusal:?}");
@@ -166,7 +177,7 @@ fn what_was_synced_is_visible_to_boxes_that_start_later() {
     table.update(1, 1, Kind::Time, 7, 50).unwrap();
     table.yield_(1).unwrap();
     assert_eq!((table.sync(1), table.fork(0), table.sync(3)), (Ok(4), Ok(5), Ok(6)));
-    let listed = |table: &Table<Vec<u8>>, revision| table.list(revision, &mut [0; 12]);
+    let listed = |table: &Lent, revision| table.list(revision, &mut [0; 12]);
     assert_eq!([4, 5, 6].map(|revision| listed(&table, revision)), [Ok(1); 3]);
     assert_eq!(listed(&table, 2), Ok(0));
     assert_eq!(table.sync(2), Ok(7));

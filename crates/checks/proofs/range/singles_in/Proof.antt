@@ -8,12 +8,12 @@ use Rattle.checks.proofs.range.singles_in.Tie as tie
 returns : tie.Need-returns
 unfolding offset size split
 returns c =
-    let at-closed = c .before in
-    let at-single = at-closed .before in
+    let at-settled = c .before in
+    let at-single = at-settled .before in
     let at-counters = at-single .before in
     both (at-counters .counters-in .ensures)
     (both (at-single .bytes-below .ensures)
-    (both (at-closed .words-below .ensures)
+    (both (at-settled .words-below .ensures)
     (c .is-signed .ensures)))
 
 pub singles-in-spec : {M : Type 1} → statement M

@@ -6,10 +6,10 @@ use Rattle.edges.proofs.say.bytes.Statement.{statement}
 use Rattle.edges.proofs.say.bytes.Tie as tie
 
 abbrev Inv-loop : tie.InvT-loop
-Inv-loop p i₀ t3 i = i ≤ length p
+Inv-loop name p i₀ t3 i = i ≤ length p
 
 abbrev μ-loop : tie.MeasureT-loop
-μ-loop p i₀ t3 i = length p - i
+μ-loop name p i₀ t3 i = length p - i
 
 pub bytes-spec : {M : Type 1} → statement M
 bytes-spec =
@@ -17,7 +17,6 @@ bytes-spec =
     (tie.spec
     Inv-loop
     μ-loop
-    (λ c. search needs)
     (λ c κs. search needs)
     (λ c. search needs)
     (λ c. search needs)

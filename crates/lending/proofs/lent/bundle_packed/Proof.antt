@@ -12,26 +12,26 @@ use Rattle.lending.proofs.lent.bundle_packed.Statement.{statement}
 use Rattle.lending.proofs.lent.bundle_packed.Tie as tie
 
 mul-end : tie.Need-mul-end
-mul-end c = let most = among-most (c .before .before .before .args .p .count) in record { fits = omega (arith, c .among .ensures) }
+mul-end c = let most = among-most (c .before .before .before .before .args .p .count) in record { fits = omega (arith, c .among .ensures) }
 
 slice-aggregate-all : tie.Need-slice-aggregate-all
 slice-aggregate-all c = search needs
 
 slice-aggregate-bundle : tie.Need-slice-aggregate-bundle
 slice-aggregate-bundle c =
-    let at-end = c .before .before .before in
-    let p = at-end .before .before .before .args .p in
-    let room : 768 ≡ length (p .bytes) = slice-aggregate-all (c .before .before) in
+    let at-end = c .before .before .before .before in
+    let p = at-end .before .before .before .before .args .p in
+    let room : 768 ≡ length (p .bytes) = slice-aggregate-all (c .before .before .before) in
     let most = among-most (p .count) in
     sym (length-take-le _ (p .bytes) (omega (arith, at-end .among .ensures)))
 
 returns : tie.Need-returns
 unfolding recordsIn
 returns c =
-    let at-call = c .before .before in
-    let at-end = at-call .before .before .before .before in
-    let s = at-end .before .before .before .args in
-    at-call .bundle .ensures ∙ ap (λ k. bundleOut (s .t .now) (s .client) (s .revision) (take (12 * k) (s .p .bytes))) (at-end .among .ensures)
+    let at-call = c .before .before .before .before in
+    let at-end = at-call .before .before .before .before .before in
+    let s = at-end .before .before .before .before .args in
+    (at-call .bundle .ensures .0 ∙ ap (λ k. bundleOut (s .t .now) (s .client) (s .revision) (take (12 * k) (s .p .bytes)) (length (s .board .now))) (at-end .among .ensures), at-call .bundle .ensures .1)
 
 pub bundle-packed-spec : {M : Type 1} → statement M
 bundle-packed-spec =
@@ -42,5 +42,6 @@ bundle-packed-spec =
     slice-aggregate-all
     slice-aggregate-bundle
     (λ c κs. search needs)
+    (λ c. search needs)
     (λ c. search needs)
     returns)

@@ -16,27 +16,33 @@ use Rattle.report.proofs.lines.lines.Statement.{statement}
 use Rattle.report.proofs.lines.lines.Tie as tie
 
 abbrev Inv-loop : tie.InvT-loop
-Inv-loop f n t₀ out₀ at end₀ i₀ t out end i =
+Inv-loop f n t₀ board₀ out₀ at end₀ i₀ t board out end i =
     (i ≤ n) × (end ≤ at + 20 * i) × (length t ≡ length t₀) × (length out ≡ length out₀)
-    × (t ≡ tableAfter t₀ f i) × (end ≡ at + length (linesOf t₀ f i)) × (out ≡ placed out₀ at (linesOf t₀ f i))
+    × (t ≡ tableAfter t₀ f i) × (end ≡ at + length (linesOf t₀ f i)) × (out ≡ placed out₀ at (linesOf t₀ f i)) × (length board ≡ length board₀)
 
 abbrev μ-loop : tie.MeasureT-loop
-μ-loop f n t₀ out₀ at end₀ i₀ t out end i = n - i
+μ-loop f n t₀ board₀ out₀ at end₀ i₀ t board out end i = n - i
 
 loop-holds : tie.Need-loop-holds Inv-loop μ-loop
 loop-holds c =
-    let s = c .before .before .before .args in
+    let s = c .before .before .before .before .args in
     let t = s .t .now in
     let f = s .f .now in
     let none = lines-none t f in
-    (omega arith, omega arith, refl, refl, sym (table-none t f), rw none (omega arith), rw none (sym (placed-none (s .out .now) (s .at))))
+    (omega arith, omega arith, refl, refl, sym (table-none t f), rw none (omega arith), rw none (sym (placed-none (s .out .now) (s .at))), refl)
+
+run-requires : tie.Need-run-requires Inv-loop μ-loop
+run-requires c κs =
+    let at-loop = c .before .before .before .before in
+    let start = at-loop .before .before .before .before .before in
+    at-loop .loop .inv .7 ∙ start .pre .2
 
 line-requires : tie.Need-line-requires Inv-loop μ-loop
 line-requires c κs =
-    let at-run = c .before .before .before in
-    let at-test = at-run .before .before .before in
+    let at-run = c .before .before .before .before .before in
+    let at-test = at-run .before .before .before .before in
     let at-loop = at-test .before in
-    let start = at-loop .before .before .before .before in
+    let start = at-loop .before .before .before .before .before in
     let turn = at-test .loop-test .taken in
     let inv = at-loop .loop .inv in
     (omega (arith, start .pre .0, turn), omega (arith, start .pre .1, inv .1, inv .3, turn))
@@ -44,10 +50,10 @@ line-requires c κs =
 loop-again : tie.Need-loop-again Inv-loop μ-loop
 loop-again c =
     let at-line = c .before .before in
-    let at-run = at-line .before .before .before .before in
-    let at-test = at-run .before .before .before in
+    let at-run = at-line .before .before .before .before .before .before in
+    let at-test = at-run .before .before .before .before in
     let at-loop = at-test .before in
-    let start = at-loop .before .before .before .before in
+    let start = at-loop .before .before .before .before .before in
     let t = start .args .t .now in
     let f = start .args .f .now in
     let out = start .args .out .now in
@@ -71,11 +77,12 @@ loop-again c =
       table-more t f (l .i) (ran .result) (ran .last .0) made,
       both′ .0,
       both′ .1,
+      ran .kept .1 .0 ∙ l .inv .7,
     )
 
 returns : tie.Need-returns Inv-loop μ-loop
 returns c =
-    let s = c .before .before .before .before .before .args in
+    let s = c .before .before .before .before .before .before .args in
     let l = c .before .loop in
     let e : l .i ≡ s .n = omega arith in
     let text = linesOf (s .t .now) (s .f .now) in
@@ -89,11 +96,12 @@ lines-spec =
     μ-loop
     loop-holds
     (λ c κs. search needs)
-    (λ c κs. search needs)
+    run-requires
     line-requires
     (λ c. search needs)
     (λ c. search needs)
     loop-again
+    (λ c. search needs)
     (λ c. search needs)
     (λ c. search needs)
     returns)

@@ -8,6 +8,7 @@ use Rattle.table.specs.declared.answer.Answer.{Answer}
 use Rattle.table.specs.declared.answer.Reading.{Reading}
 use Rattle.table.specs.Answers.{left, leftRead}
 use Rattle.table.specs.Out.{Out}
+use Rattle.table.specs.Calls.{joinOut, yieldOut}
 use Rattle.report.proofs.step.run.Statement.{statement}
 use Rattle.report.proofs.step.run.Tie as tie
 
@@ -26,9 +27,9 @@ returns-2 c = let q = c .before .before in rw (q .before .before .before .step2 
 
 returns-3 : tie.Need-returns-3
 returns-3 c =
-    let at-yields = c .before .before .before in
-    let told = at-yields .before .before .before .step3 .given .1 in
-    rw told (plain _ _ _ _ (c .without-state2 .ensures) (at-yields .yields .ensures))
+    let at-yields = c .before .before .before .before .before in
+    let told = at-yields .before .before .before .before in
+    rw (told .step3 .given .1) (plain _ _ _ _ (c .without-state2 .ensures) (at-yields .yields .ensures .0 ∙ ap (yieldOut _ _) (told .before .before .before .before .pre)))
 
 returns-4 : tie.Need-returns-4
 returns-4 c =
@@ -38,9 +39,9 @@ returns-4 c =
 
 returns-5 : tie.Need-returns-5
 returns-5 c =
-    let at-join = c .before .before .before in
-    let told = at-join .before .before .before .step5 .given .1 in
-    rw told (plain _ _ _ _ (c .without-state4 .ensures) (at-join .join .ensures .0))
+    let at-join = c .before .before .before .before .before in
+    let told = at-join .before .before .before .before in
+    rw (told .step5 .given .1) (plain _ _ _ _ (c .without-state4 .ensures) (at-join .join .ensures .0 ∙ ap (joinOut _ _ _) (told .before .before .before .before .pre)))
 
 returns-6 : tie.Need-returns-6
 returns-6 c = rw (c .enum-told .given .1)
@@ -67,9 +68,11 @@ run-spec = tie.close (tie.spec
     (λ c. search needs)
     returns-2
     (λ c. search needs)
+    (λ c. search needs)
     returns-3
     (λ c. search needs)
     returns-4
+    (λ c. search needs)
     (λ c. search needs)
     returns-5
     returns-6)

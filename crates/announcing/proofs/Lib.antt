@@ -1,0 +1,3 @@
+-- Laws of the calls that a board is lent to.
+pub mod Calls
+pub mod Sends

@@ -1,0 +1,2 @@
+-- What a call leaves of a lent board.
+pub mod Brought
