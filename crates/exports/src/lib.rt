@@ -124,7 +124,7 @@ pub extern "C" fn silttongs_sync(t: &mut [u8], board: &mut [u8], joinee: u8) -> 
 pub extern "C" fn silttongs_mark(t: &mut [u8], revision: u8, name: &[u8]) -> u64
     ensures { λ r. ⌜ returned r (now (t .exit)) ≡ exported (markOut (now (t .entry)) revision (now (name .entry))) ⌝ }
 {
-    let a = forking::mark::mark(t, revision, name);
+    let a = marking::mark::mark(t, revision, name);
     pack(a.code, a.value)
 }
 
@@ -132,7 +132,7 @@ pub extern "C" fn silttongs_mark(t: &mut [u8], revision: u8, name: &[u8]) -> u64
 pub extern "C" fn silttongs_drop(t: &mut [u8], name: &[u8]) -> u64
     ensures { λ r. ⌜ returned r (now (t .exit)) ≡ exported (dropOut (now (t .entry)) (now (name .entry))) ⌝ }
 {
-    let a = forking::drop::drop(t, name);
+    let a = marking::drop::drop(t, name);
     pack(a.code, a.value)
 }
 

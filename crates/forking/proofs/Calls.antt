@@ -1,25 +1,24 @@
--- A fork, a mark and a drop from what their checks find.
+-- A fork from what its checks find.
 use Prim.Native.Nat.{ℕ}
 use mathlib.Core.Bool.{true, false, cond}
 use mathlib.Core.Path.{_≡_}
 use mathlib.Core.List.{List, _++_}
-use Rattle.lists.specs.Names.{Name}
 use Rattle.cells.specs.Cells.{nextNumber}
 use Rattle.cells.specs.Decode.{cells}
-use Rattle.cells.specs.Steps.{dropBytes, forkBytes, markBytes}
-use Rattle.cells.specs.Checks.{bearer, noneLeft, noSuchMark}
+use Rattle.cells.specs.Steps.{forkBytes}
+use Rattle.cells.specs.Checks.{noneLeft}
 use Rattle.sizes.specs.declared.numbers.Revision.{Revision}
 use Rattle.checks.specs.Answers.{nextCheck}
-use Rattle.table.specs.Halves.{cellsOf, high, isTable, low}
+use Rattle.table.specs.Halves.{high, isTable, low}
 use Rattle.table.specs.Answers.{refused, taken}
-use Rattle.table.specs.Calls.{dropOut, forkOut, markOut}
+use Rattle.table.specs.Calls.{forkOut}
 use Rattle.table.specs.Found.{onNext, onPair}
 use Rattle.table.specs.declared.pair.PairCheck.{PairCheck}
 use Rattle.table.proofs.Calls.{over, given-is, pair-cond}
-use Rattle.forking.specs.Checks.{forkCheck, markCheck}
+use Rattle.forking.specs.Checks.{forkCheck}
 
 -- the check's answer taken apart is a test
-next-is : {A : Type 0} (d : List ℕ) (end : A) (rest : Revision → A)
+pub next-is : {A : Type 0} (d : List ℕ) (end : A) (rest : Revision → A)
     → onNext (nextCheck d) end rest ≡ cond (noneLeft (cells d)) end (rest (record { 0 = nextNumber (cells d) }))
 unfolding nextCheck onNext
 next-is d end rest = over (λ z. onNext z end rest) (noneLeft (cells d)) _ _
@@ -34,27 +33,6 @@ pub fork-by : (t : List ℕ) → isTable t ≡ true → (n : ℕ) (z : PairCheck
     → onPair z (refused t) (λ p c. taken (forkBytes (low t) (p .0) (c .0) ++ high t) (c .0)) ≡ forkOut t n
 unfolding forkCheck forkOut onPair
 fork-by t h n z e = rw (← e) (simp (given-is, next-is, pair-cond, h))
-
-pub no-mark : (t : List ℕ) → isTable t ≡ false → (n : ℕ) (name : Name) → refused t 1 ≡ markOut t n name
-unfolding markOut
-no-mark t h n name = rw h
-
-pub mark-by : (t : List ℕ) → isTable t ≡ true → (n : ℕ) (name : Name) (z : PairCheck) → markCheck (low t) n name ≡ z
-    → onPair z (refused t) (λ p c. taken (markBytes (low t) (p .0) (c .0) name ++ high t) (c .0)) ≡ markOut t n name
-unfolding markCheck markOut onPair
-mark-by t h n name z e = rw (← e) (simp (given-is, next-is, pair-cond, h))
-
-pub no-drop : (t : List ℕ) → isTable t ≡ false → (name : Name) → refused t 1 ≡ dropOut t name
-unfolding dropOut
-no-drop t h name = rw h
-
-pub drop-missing : (t : List ℕ) → isTable t ≡ true → (name : Name) → noSuchMark (cellsOf t) name ≡ true → refused t 18 ≡ dropOut t name
-unfolding dropOut
-drop-missing t h name e = rw (h, e)
-
-pub drop-found : (t : List ℕ) → isTable t ≡ true → (name : Name) → noSuchMark (cellsOf t) name ≡ false → taken (dropBytes (low t) (bearer (cellsOf t) name) ++ high t) 0 ≡ dropOut t name
-unfolding dropOut
-drop-found t h name e = rw (h, e)
 
 pub same-taken : (a b : List ℕ) (v w : ℕ) → a ≡ b → v ≡ w → taken a v ≡ taken b w
 same-taken a b v w e f = rw (e, f)

@@ -1,12 +1,13 @@
--- `forking::mark::mark_sound` meets its contract: the checks, then the work. Assumes nothing.
+-- `marking::mark::mark_sound` meets its contract: the checks, then the work. Assumes nothing.
 use mathlib.Core.Path.{refl, sym, _∙_, ap}
 use borrow.Author.Needs.{needs}
 use Rattle.table.specs.Halves.{low}
 use Rattle.table.specs.Found.{onPair, pairCode}
 use Rattle.table.proofs.Halves.{low-length}
-use Rattle.forking.proofs.Calls.{mark-by, same-taken}
-use Rattle.forking.proofs.mark.mark_sound.Statement.{statement}
-use Rattle.forking.proofs.mark.mark_sound.Tie as tie
+use Rattle.forking.proofs.Calls.{same-taken}
+use Rattle.marking.proofs.Calls.{mark-by}
+use Rattle.marking.proofs.mark.mark_sound.Statement.{statement}
+use Rattle.marking.proofs.mark.mark_sound.Tie as tie
 
 returns : tie.Need-returns
 unfolding low onPair

@@ -1,12 +1,13 @@
--- `forking::drop::drop_sound` meets its contract: the check, then the work. Assumes nothing.
+-- `marking::drop::drop_sound` meets its contract: the check, then the work. Assumes nothing.
 use mathlib.Core.Path.{_∙_, refl, sym, subst}
 use borrow.Author.Needs.{needs}
 use Rattle.cells.specs.Steps.{dropBytes}
 use Rattle.table.specs.Halves.{high, low}
-use Rattle.forking.proofs.Calls.{drop-found, drop-missing, same-taken}
-use Rattle.forking.proofs.Checks.{found, missing}
-use Rattle.forking.proofs.drop.drop_sound.Statement.{statement}
-use Rattle.forking.proofs.drop.drop_sound.Tie as tie
+use Rattle.forking.proofs.Calls.{same-taken}
+use Rattle.marking.proofs.Calls.{drop-found, drop-missing}
+use Rattle.marking.proofs.Checks.{found, missing}
+use Rattle.marking.proofs.drop.drop_sound.Statement.{statement}
+use Rattle.marking.proofs.drop.drop_sound.Tie as tie
 
 returns : tie.Need-returns
 unfolding low

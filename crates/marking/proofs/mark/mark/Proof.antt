@@ -1,10 +1,10 @@
--- `forking::mark::mark` meets its contract: code 1, then the other checks and the work. Assumes nothing.
+-- `marking::mark::mark` meets its contract: code 1, then the other checks and the work. Assumes nothing.
 use mathlib.Core.Path.{_∙_, sym}
 use borrow.Author.Needs.{needs}
 use Rattle.table.proofs.Buffer.{is-table, no-table}
-use Rattle.forking.proofs.Calls.{no-mark}
-use Rattle.forking.proofs.mark.mark.Statement.{statement}
-use Rattle.forking.proofs.mark.mark.Tie as tie
+use Rattle.marking.proofs.Calls.{no-mark}
+use Rattle.marking.proofs.mark.mark.Statement.{statement}
+use Rattle.marking.proofs.mark.mark.Tie as tie
 
 returns : tie.Need-returns
 returns c = no-mark _ (no-table _ (sym (c .before .before .check-table .ensures) ∙ c .enum-told2 .given .1)) _ _

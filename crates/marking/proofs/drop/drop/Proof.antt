@@ -1,10 +1,10 @@
--- `forking::drop::drop` meets its contract: code 1, then the other checks and the work. Assumes nothing.
+-- `marking::drop::drop` meets its contract: code 1, then the other checks and the work. Assumes nothing.
 use mathlib.Core.Path.{_∙_, sym}
 use borrow.Author.Needs.{needs}
 use Rattle.table.proofs.Buffer.{is-table, no-table}
-use Rattle.forking.proofs.Calls.{no-drop}
-use Rattle.forking.proofs.drop.drop.Statement.{statement}
-use Rattle.forking.proofs.drop.drop.Tie as tie
+use Rattle.marking.proofs.Calls.{no-drop}
+use Rattle.marking.proofs.drop.drop.Statement.{statement}
+use Rattle.marking.proofs.drop.drop.Tie as tie
 
 returns : tie.Need-returns
 returns c = no-drop _ (no-table _ (sym (c .before .before .check-table .ensures) ∙ c .enum-told2 .given .1)) _

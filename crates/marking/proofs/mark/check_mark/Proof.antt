@@ -1,4 +1,4 @@
--- `forking::mark::check_mark` meets its contract: the first check that applies decides. Assumes nothing.
+-- `marking::mark::check_mark` meets its contract: the first check that applies decides. Assumes nothing.
 use Prim.{tt}
 use mathlib.Core.Path.{sym, _∙_}
 use borrow.Author.Needs.{needs}
@@ -7,10 +7,11 @@ use Rattle.cells.specs.Decode.{cells}
 use Rattle.cells.specs.Checks.{bearerBelow}
 use Rattle.table.specs.Found.{onGiven, onNext}
 use Rattle.table.proofs.Checks.{joined-told, use-told, was-given}
-use Rattle.forking.specs.Checks.{markCheck}
-use Rattle.forking.proofs.Checks.{four-long-name, mark-line-told, name-told, next}
-use Rattle.forking.proofs.mark.check_mark.Statement.{statement}
-use Rattle.forking.proofs.mark.check_mark.Tie as tie
+use Rattle.marking.specs.Checks.{markCheck}
+use Rattle.forking.proofs.Checks.{next}
+use Rattle.marking.proofs.Checks.{four-long-name, mark-line-told, name-told}
+use Rattle.marking.proofs.mark.check_mark.Statement.{statement}
+use Rattle.marking.proofs.mark.check_mark.Tie as tie
 
 returns : tie.Need-returns
 unfolding markCheck onGiven onNext

@@ -1,10 +1,10 @@
--- `forking::drop::drop_lower` meets its contract: the lower half is lent and comes back written. Assumes nothing.
+-- `marking::drop::drop_lower` meets its contract: the lower half is lent and comes back written. Assumes nothing.
 use borrow.Author.Needs.{needs}
 use Rattle.cells.specs.Steps.{dropBytes}
 use Rattle.table.specs.Halves.{low}
 use Rattle.table.proofs.Halves.{low-lent}
-use Rattle.forking.proofs.drop.drop_lower.Statement.{statement}
-use Rattle.forking.proofs.drop.drop_lower.Tie as tie
+use Rattle.marking.proofs.drop.drop_lower.Statement.{statement}
+use Rattle.marking.proofs.drop.drop_lower.Tie as tie
 
 drop-requires : tie.Need-drop-requires
 unfolding low

@@ -1,10 +1,10 @@
--- `forking::mark::start_marked` meets its contract: the lower half is lent and comes back written. Assumes nothing.
+-- `marking::mark::start_marked` meets its contract: the lower half is lent and comes back written. Assumes nothing.
 use borrow.Author.Needs.{needs}
 use Rattle.cells.specs.Steps.{markBytes}
 use Rattle.table.specs.Halves.{low}
 use Rattle.table.proofs.Halves.{low-lent}
-use Rattle.forking.proofs.mark.start_marked.Statement.{statement}
-use Rattle.forking.proofs.mark.start_marked.Tie as tie
+use Rattle.marking.proofs.mark.start_marked.Statement.{statement}
+use Rattle.marking.proofs.mark.start_marked.Tie as tie
 
 mark-requires : tie.Need-mark-requires
 unfolding low

@@ -12,7 +12,7 @@ ghost use Rattle.table.specs.Halves.{high, isTable, low};
 ghost use Rattle.table.specs.Out.{tableBytes};
 ghost use Rattle.table.specs.Answers.{left};
 ghost use Rattle.table.specs.Calls.{markOut};
-ghost use Rattle.forking.specs.Checks.{markCheck, markIn};
+ghost use Rattle.marking.specs.Checks.{markCheck, markIn};
 use checks::busy::UseCheck;
 use checks::busy::check_use;
 use checks::given::GivenCheck;

@@ -1,0 +1,3 @@
+-- Laws of the checks of marks, and the calls from what their checks find.
+pub mod Checks
+pub mod Calls

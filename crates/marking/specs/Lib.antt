@@ -1,0 +1,2 @@
+-- What the checks of a mark find.
+pub mod Checks
