@@ -108,11 +108,30 @@ fn prints_and_shows_struck() {
     assert_eq!(drawn.matches(">query: struck<").count(), 4);
 }
 
-/// The committed picture is what the tool makes.
+/// The committed pictures are what the tool makes.
 #[test]
-fn draws_the_day() {
+fn draws_the_days() {
     let drawn = String::from_utf8(output(&["draw"], FILE)).unwrap();
     assert_eq!(drawn, include_str!("../../../../docs/crossing.svg"));
+
+    let file = output(&["pack"], include_bytes!("../../../../examples/takeover.txt"));
+    let drawn = String::from_utf8(output(&["draw"], &file)).unwrap();
+    assert_eq!(drawn, include_str!("../../../../docs/takeover.svg"));
+}
+
+/// The order that docs/WHY.md reads off its day, before the join and after it.
+#[test]
+fn orders_the_day_of_why() {
+    let text = include_str!("../../../../examples/takeover.txt");
+    let before: String = text.lines().take(12).map(|line| format!("{line}\n")).collect();
+    for (day, order) in [(before.as_str(), [0, 4, 3, 1, 2]), (text, [0, 4, 1, 3, 2])] {
+        let file = output(&["pack"], day.as_bytes());
+        let numbers: Vec<u16> = output(&["order"], &file)[8..]
+            .chunks(2)
+            .map(|two| u16::from_le_bytes([two[0], two[1]]))
+            .collect();
+        assert_eq!(numbers, order);
+    }
 }
 
 /// A day on which box 1 is borne twice, and the step behind the second fork is on the later one.
