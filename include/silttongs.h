@@ -237,6 +237,15 @@ uint64_t silttongs_preview(const uint8_t *table, size_t length, uint8_t joiner, 
 uint64_t silttongs_verify(const uint8_t *table, size_t length, const uint8_t *order,
                           size_t order_length);
 
+/* Tells what the day costs until now, in cents: 350 for each box ever started, box 0 included, and 45
+ * for each started hundred of updates; a member has 15 percent off that sum, the discount rounded down;
+ * 2,000 at least. Any byte but 0 is a member's. Code 1. Value: the bill.
+ *
+ * A number that is used again counts again; a mark does not count, but a fork of it does, and so does a
+ * sync. The count of boxes stops at 65,535. No further call of the day lowers a bill; fresh begins anew.
+ * The table is only read. */
+uint64_t silttongs_bill(const uint8_t *table, size_t length, uint8_t member);
+
 #ifdef __cplusplus
 }
 #endif

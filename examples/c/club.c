@@ -69,5 +69,9 @@ int main(void) {
     }
     show("fork box 0, 64 out", silttongs_fork(table, n, 0));
     show("sync the finish", silttongs_sync(table, n, board, m, finish));
+
+    /* What the day costs: each box ever started, and the updates. */
+    printf("the bill: %" PRIu32 " cents, of a member %" PRIu32 "\n",
+           silttongs_value(silttongs_bill(table, n, 0)), silttongs_value(silttongs_bill(table, n, 1)));
     return 0;
 }

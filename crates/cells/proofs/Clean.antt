@@ -65,6 +65,7 @@ module _ (c : ℕ) (k k′ : Cells) (S : SameBut c k k′) (p : ℕ) (np : p ≡
     name = new-name;
     single = S .single;
     settled = S .settled;
+    started = rw (S .started);
   }
 
   clean-mark : (n : Name) → ShowsSame (markCells k p c n) (markCells k′ p c n)
@@ -87,6 +88,7 @@ module _ (c : ℕ) (k k′ : Cells) (S : SameBut c k k′) (p : ℕ) (np : p ≡
         name = λ r m. changed-alike (k .name) (k′ .name) c n n refl (S .name) r;
         single = f .single;
         settled = f .settled;
+        started = S .started;
       }
 
 pub starts-clean : StartsClean

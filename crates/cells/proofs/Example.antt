@@ -98,6 +98,7 @@ made updates out given = record {
   name = λ r. [];
   single = false;
   settled = 0;
+  started = 1;
 }
 
 -- 01: "Update 4,096 is taken, the next gives 9"; 02, U7: "Code 10 is given exactly if 64 boxes are out", whatever was given

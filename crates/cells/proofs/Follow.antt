@@ -60,6 +60,7 @@ module _ (p : Parts) (h : Sized p) (c r : ℕ) (cl : c < clients) (rl : r < revi
     name = decode p .name;
     single = decode p .single;
     settled = decode p .settled;
+    started = decode p .started;
   }
 
   settled-put : (v : ℕ) → word (putWord (p settledPart) 0 v) 0 ≡ v
@@ -87,6 +88,7 @@ module _ (p : Parts) (h : Sized p) (c r : ℕ) (cl : c < clients) (rl : r < revi
     name = decode p .name;
     single = decode p .single;
     settled = settled-put (closeSettled (decode p) c) i;
+    started = decode p .started;
   }
 
   module _ (ul : decode p .updates < updates) (ll : decode p .last r < updates) where
@@ -122,6 +124,7 @@ module _ (p : Parts) (h : Sized p) (c r : ℕ) (cl : c < clients) (rl : r < revi
           name = decode p .name;
           single = decode p .single;
           settled = decode p .settled;
+          started = decode p .started;
         }
 
 -- a column of flags changed, inside the rows
@@ -169,6 +172,7 @@ module _ (p : Parts) (h : Sized p) (r : ℕ) (rl : r < revisions) where
         name = decode p .name;
         single = decode p .single;
         settled = decode p .settled;
+        started = decode p .started;
       }
 
 module _ (p : Parts) (h : Sized p) (a b : ℕ) (al : a < revisions) (bl : b < revisions) (fl : decode p .first b < updates) (ll : decode p .last a < updates) where
@@ -229,6 +233,7 @@ module _ (p : Parts) (h : Sized p) (a b : ℕ) (al : a < revisions) (bl : b < re
         name = decode p .name;
         single = decode p .single;
         settled = word-put (p settledPart) 0 (joinSettled k a b) 0 (omega arith) i;
+        started = decode p .started;
       }
 
   pub join-follows : decode (joinParts p a b) ≡ joinCells k a b

@@ -12,11 +12,11 @@ use Rattle.lists.specs.Lists.{changed}
 use Rattle.lists.specs.Names.{Name}
 use Rattle.lists.proofs.Cases.{cases}
 use Rattle.cells.specs.Sizes.{revisions, clients, updates, main, stateOut, stateMarked}
-use Rattle.cells.specs.Parts.{Parts, Sized, size, rowsPart, seenPart, caughtPart, statePart, usedPart, countPart, basePart, countersPart, namesPart}
+use Rattle.cells.specs.Parts.{Parts, Sized, size, rowsPart, seenPart, caughtPart, statePart, usedPart, countPart, basePart, countersPart, namesPart, startedPart}
 use Rattle.cells.specs.Cells.{Cells}
 use Rattle.cells.specs.Decode.{decode, rowOf}
 use Rattle.lists.specs.Pool.{forkPool}
-use Rattle.cells.specs.CellSteps.{forkCaught, forkRow, forkGiven, forkQueue, forkCells, markCells}
+use Rattle.cells.specs.CellSteps.{forkCaught, forkRow, forkGiven, forkQueue, forkStarted, forkCells, markCells}
 use Rattle.cells.specs.Steps.{putRowOf, forkParts, markParts}
 use Rattle.cells.proofs.Tables.{getD-changed}
 use Rattle.cells.proofs.Words.{name-put, word-put, word-set-other}
@@ -78,6 +78,7 @@ module _ (p : Parts) (h : Sized p) (q c : ℕ) (ql : q < revisions) (cl : c < re
       let n = h .of countPart in
       let o = h .of basePart in
       let r = h .of countersPart in
+      let t = h .of startedPart in
       let two = set (p countersPart) 2 (suc (k .out)) in
       λ i. record {
         state = fun-ext (λ x. getD-changed (p statePart) c stateOut 0 x (omega arith)) i;
@@ -99,6 +100,7 @@ module _ (p : Parts) (h : Sized p) (q c : ℕ) (ql : q < revisions) (cl : c < re
         name = k .name;
         single = k .single;
         settled = k .settled;
+        started = word-put (p startedPart) 0 (forkStarted k) 0 (omega arith) i;
       }
 
   -- 02, U9: a fork with a name
@@ -129,4 +131,5 @@ module _ (p : Parts) (h : Sized p) (q c : ℕ) (ql : q < revisions) (cl : c < re
         name = fun-ext (λ x. name-put (p namesPart) c n x (omega arith) l) i;
         single = f .single;
         settled = f .settled;
+        started = k .started;
       }

@@ -84,4 +84,5 @@ fresh-follows single = λ i. record {
   name = fun-ext (zero-name (size namesPart)) i;
   single = choice single i;
   settled = 0;
+  started = 1;
 }

@@ -15,11 +15,11 @@ use Rattle.lists.proofs.Replaced.{next-row}
 use Rattle.lists.proofs.Sums.{sum-both, sum-ends, sum-one}
 use Rattle.cells.specs.Sizes.{lowerBytes, revisions, clients, main, stateOut, stateJoined}
 use Rattle.cells.specs.Parts.{Parts, Sized, size, parts, inRow, glue, split, _⟨_≔_⟩}
-use Rattle.cells.specs.Parts.{rowsPart, lowPart, highPart, seenPart, caughtPart, statePart, usedPart, lastPart, firstPart, countPart, basePart, layoutPart, queuePart, countersPart, settledPart}
+use Rattle.cells.specs.Parts.{rowsPart, lowPart, highPart, seenPart, caughtPart, statePart, usedPart, lastPart, firstPart, countPart, basePart, layoutPart, queuePart, countersPart, settledPart, startedPart}
 use Rattle.cells.specs.Words.{Bytes, putWord, putHalf}
 use Rattle.cells.specs.Flags.{putRow, rowBytes}
 use Rattle.cells.specs.Decode.{decode}
-use Rattle.cells.specs.CellSteps.{oneFewer}
+use Rattle.cells.specs.CellSteps.{forkStarted, oneFewer}
 use Rattle.cells.specs.Steps.{forkParts, spliceParts, mergeParts, dropParts, joinParts, forkBytes, joinBytes}
 use Rattle.cells.proofs.Parts.{row-length, split-sized, glue-length, glue-split, split-glue}
 use Rattle.cells.proofs.Flags.{rowBytes-length}
@@ -39,7 +39,7 @@ joinPlaces = mergePlaces + dropPlaces
 
 -- of the main revision
 abbrev pub forkPlaces : ℕ
-forkPlaces = 224
+forkPlaces = 226
 
 -- parts q differ from the parts p at n places at most
 record Light (p q : Parts) (n : ℕ) : Type 0 where
@@ -152,7 +152,8 @@ module _ {p : Parts} (h : Sized p) (f : FlagBytes p) where
       let state = byte-light caught statePart c stateOut in
       let layout = whole-light state layoutPart (q layoutPart) revisions (h .of layoutPart) (s .of layoutPart) in
       let queue = whole-light layout queuePart (q queuePart) revisions (h .of queuePart) (s .of queuePart) in
-      light-with queue countersPart (q countersPart) 2 (two-sets (p countersPart) 2 _ 3 _)
+      let counters = light-with queue countersPart (q countersPart) 2 (two-sets (p countersPart) 2 _ 3 _) in
+      word-light counters startedPart 0 (forkStarted k)
 
 -- 02, U8: a join into the main revision, and then a fork of it
 sync-light : {p : Parts} → Sized p → FlagBytes p → (b c : ℕ) → c < revisions → Light p (forkParts (joinParts p main b) main c) (joinPlaces + forkPlaces)

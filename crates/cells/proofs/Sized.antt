@@ -12,15 +12,15 @@ use Rattle.lists.specs.Arranged.{insertBefore, remove}
 use Rattle.lists.specs.Names.{Name}
 use Rattle.cells.specs.Sizes.{revisions, clients, main, closed, stateOut, stateJoined, stateMarked}
 use Rattle.cells.specs.Parts.{Parts, Sized, size, _⟨_≔_⟩, rowsPart, lowPart, highPart, seenPart, caughtPart, statePart, usedPart, lastPart, firstPart}
-use Rattle.cells.specs.Parts.{countPart, basePart, layoutPart, queuePart, openedPart, countersPart, namesPart, singlePart, settledPart, signaturePart}
+use Rattle.cells.specs.Parts.{countPart, basePart, layoutPart, queuePart, openedPart, countersPart, namesPart, singlePart, settledPart, startedPart, signaturePart}
 use Rattle.cells.specs.Words.{putWord, putHalf, putName}
 use Rattle.cells.specs.Flags.{pack, putRow}
 use Rattle.cells.specs.Decode.{decode}
 use Rattle.cells.specs.Range.{signature}
 use Rattle.lists.specs.Pool.{forkPool, joinPool}
-use Rattle.cells.specs.CellSteps.{oneFewer, closeSettled, forkRow, forkCaught, forkGiven, forkQueue, spliced, joinCaught, joinCount, joinSettled}
+use Rattle.cells.specs.CellSteps.{oneFewer, closeSettled, forkRow, forkCaught, forkGiven, forkQueue, forkStarted, spliced, joinCaught, joinCount, joinSettled}
 use Rattle.cells.specs.Steps.{freshParts, queryParts, linkParts, appendParts, updateParts, closeParts, putRowOf}
-use Rattle.cells.specs.Steps.{inheritParts, forkParts, markParts, spliceParts, mergeParts, dropParts, joinParts}
+use Rattle.cells.specs.Steps.{inheritParts, branchParts, forkParts, markParts, spliceParts, mergeParts, dropParts, joinParts}
 use Rattle.cells.proofs.Parts.{sized-with}
 use Rattle.cells.proofs.Words.{putWord-length, putHalf-length, putName-length}
 use Rattle.cells.proofs.Flags.{putRow-length, pack-length}
@@ -89,9 +89,9 @@ inherit-sized {p} h q c l =
     let a = byte-sized (row-sized h (eqb q main) c (forkRow k q) l) usedPart c (cond (eqb q main) 0 1) in
     word-sized (word-sized a basePart c (cond (eqb q main) (k .count main) (k .base q))) countPart c 0
 
-pub fork-sized : {p : Parts} → Sized p → (q c : ℕ) → c < revisions → Sized (forkParts p q c)
+pub branch-sized : {p : Parts} → Sized p → (q c : ℕ) → c < revisions → Sized (branchParts p q c)
 unfolding size
-fork-sized {p} h q c l =
+branch-sized {p} h q c l =
     let k = decode p in
     let a = caught-sized (seen-sized (inherit-sized h q c l) (forkPool (k .seen) q c)) (forkCaught (k .caught) q c) in
     let b = layout-sized (byte-sized a statePart c stateOut) (insertBefore q c (p layoutPart)) (insert-length q c (p layoutPart)) in
@@ -102,9 +102,12 @@ fork-sized {p} h q c l =
     shifted true = h .of queuePart
     shifted false = let s = h .of queuePart in shift-length (p queuePart) (omega arith) ∙ s
 
+pub fork-sized : {p : Parts} → Sized p → (q c : ℕ) → c < revisions → Sized (forkParts p q c)
+fork-sized {p} h q c l = word-sized (branch-sized h q c l) startedPart 0 (forkStarted (decode p))
+
 pub mark-sized : {p : Parts} → Sized p → (q c : ℕ) (n : Name) → c < revisions → Sized (markParts p q c n)
 mark-sized {p} h q c n l =
-    let s = sized-with (fork-sized h q c l) statePart (set (p statePart) c stateMarked) (length-set (p statePart) c _ ∙ h .of statePart) in
+    let s = sized-with (branch-sized h q c l) statePart (set (p statePart) c stateMarked) (length-set (p statePart) c _ ∙ h .of statePart) in
     sized-with s namesPart (putName (p namesPart) c n) (putName-length (p namesPart) c n ∙ h .of namesPart)
 
 pub splice-sized : {p : Parts} → Sized p → (a b : ℕ) → Sized (spliceParts p a b)
@@ -141,4 +144,5 @@ fresh-sized single =
     let f = sized-with (caught-sized z (λ c r. true)) statePart (set (replicate revisions 0) main stateOut) refl in
     let a = sized-with f layoutPart (replicate revisions main) refl in
     let b = sized-with (sized-with (sized-with a queuePart (replicate 64 1) refl) openedPart (replicate 16 closed) refl) countersPart (0 ∷ 0 ∷ 1 ∷ 1 ∷ []) refl in
-    sized-with (sized-with b singlePart (cond single 1 0 ∷ []) refl) signaturePart signature refl
+    let d = sized-with (sized-with b singlePart (cond single 1 0 ∷ []) refl) startedPart (1 ∷ 0 ∷ []) refl in
+    sized-with d signaturePart signature refl

@@ -18,7 +18,7 @@ use Rattle.lists.proofs.Places.{getD-in, insert-back, place, remove-back, rest-
 use Rattle.cells.specs.Sizes.{lowerBytes, revisions, clients, updates, main, closed, stateOut, stateJoined, stateMarked}
 use Rattle.cells.specs.Tables.{every}
 use Rattle.cells.specs.Parts.{Parts, Sized, glue, size, split, rowsPart, lowPart, highPart, seenPart, caughtPart, statePart, usedPart, lastPart, firstPart}
-use Rattle.cells.specs.Parts.{countPart, basePart, layoutPart, queuePart, openedPart, countersPart, namesPart, settledPart}
+use Rattle.cells.specs.Parts.{countPart, basePart, layoutPart, queuePart, openedPart, countersPart, namesPart, settledPart, startedPart}
 use Rattle.cells.specs.Words.{byte, word, putWord, putHalf, putName}
 use Rattle.cells.specs.Flags.{pack, putRow}
 use Rattle.cells.specs.Cells.{Cells}
@@ -26,9 +26,9 @@ use Rattle.cells.specs.Checks.{joinable}
 use Rattle.cells.specs.Decode.{decode, cells}
 use Rattle.cells.specs.Range.{countersIn, inRange, partsIn, signature, wordsBelow}
 use Rattle.lists.specs.Pool.{forkPool, joinPool}
-use Rattle.cells.specs.CellSteps.{counted, oneFewer, closeSettled, forkCaught, forkGiven, forkQueue, forkRow, joinCaught, joinCount, joinSettled, spliced}
+use Rattle.cells.specs.CellSteps.{counted, oneFewer, closeSettled, forkCaught, forkGiven, forkQueue, forkRow, forkStarted, joinCaught, joinCount, joinSettled, spliced}
 use Rattle.cells.specs.Steps.{freshParts, queryParts, appendParts, updateParts, closeParts, putRowOf}
-use Rattle.cells.specs.Steps.{inheritParts, forkParts, markParts, spliceParts, mergeParts, dropParts, joinParts}
+use Rattle.cells.specs.Steps.{inheritParts, branchParts, forkParts, markParts, spliceParts, mergeParts, dropParts, joinParts}
 use Rattle.cells.specs.Steps.{freshBytes, queryBytes, updateBytes, closeBytes, forkBytes, markBytes, joinBytes, dropBytes}
 use Rattle.cells.proofs.Tables.{every-all, every-at}
 use Rattle.cells.proofs.Words.{byte-put-other, word-put, word-set-other}
@@ -167,9 +167,9 @@ module _ {p : Parts} (s : Sized p) (h : Ranged p) where
       let most = R .most-given in
       cases (ltb (k .given) revisions) (λ e. let l = ltb-true (k .given) revisions e in rw e (omega arith, omega arith)) (λ e. rw e (some, omega arith))
 
-  pub fork-ranged : (q c : ℕ) → q < revisions → c < revisions → k .out < revisions → Ranged (forkParts p q c)
+  pub branch-ranged : (q c : ℕ) → q < revisions → c < revisions → k .out < revisions → Ranged (branchParts p q c)
   unfolding partIn size
-  fork-ranged q c ql cl room =
+  branch-ranged q c ql cl room =
       let t = p countersPart in
       let l = s .of countersPart in
       let out = out-set t l (h .of countersPart) (suc (k .out)) (omega arith) (omega arith) in
@@ -178,10 +178,14 @@ module _ {p : Parts} (s : Sized p) (h : Ranged p) where
       let d = ranged-with (ranged-with b layoutPart _ (fork-layout q c cl)) queuePart _ fork-queue in
       ranged-with d countersPart _ (given-set (set t 2 (suc (k .out))) (length-set t 2 (suc (k .out)) ∙ l) out (forkGiven k) (fork-given .0) (fork-given .1))
 
+  pub fork-ranged : (q c : ℕ) → q < revisions → c < revisions → k .out < revisions → Ranged (forkParts p q c)
+  unfolding partIn size
+  fork-ranged q c ql cl room = ranged-with (branch-ranged q c ql cl room) startedPart (putWord (p startedPart) 0 (forkStarted k)) refl
+
   pub mark-ranged : (q c : ℕ) (n : Name) → q < revisions → c < revisions → k .out < revisions → Ranged (markParts p q c n)
   unfolding partIn size
   mark-ranged q c n ql cl room =
-      let a = ranged-with (fork-ranged q c ql cl room) statePart _ (byte-ranged statePart revisions (λ b. ltb b 4) refl (λ t. refl) c stateMarked refl) in
+      let a = ranged-with (branch-ranged q c ql cl room) statePart _ (byte-ranged statePart revisions (λ b. ltb b 4) refl (λ t. refl) c stateMarked refl) in
       ranged-with a namesPart (putName (p namesPart) c n) refl
 
   pub splice-ranged : (a b : ℕ) → a < revisions → b < revisions → Ranged (spliceParts p a b)

@@ -34,6 +34,7 @@ freshCells single = record {
   name = λ r. 0 ∷ 0 ∷ 0 ∷ 0 ∷ [];
   single = single;
   settled = 0;
+  started = 1;
 }
 
 -- after its event a client has caught up with that revision alone
@@ -62,6 +63,7 @@ queryCells k c r = record {
   name = k .name;
   single = k .single;
   settled = k .settled;
+  started = k .started;
 }
 
 -- a count stops at its range. On a day none would pass it: the log is full first
@@ -94,6 +96,7 @@ updateCells k c r = record {
   name = k .name;
   single = k .single;
   settled = k .settled;
+  started = k .started;
 }
 
 -- where c's transaction is on the main revision, a close leaves none open there: a revision is busy with one at most
@@ -122,6 +125,7 @@ closeCells k c = record {
   name = k .name;
   single = k .single;
   settled = closeSettled k c;
+  started = k .started;
 }
 
 -- who has caught up with p has caught up with c
@@ -138,6 +142,10 @@ forkGiven k = cond (ltb (k .given) revisions) (suc (k .given)) (k .given)
 
 abbrev pub forkQueue : Cells → List ℕ
 forkQueue k = cond (ltb (k .given) revisions) (k .queue) (restOf (k .queue) ++ (1 ∷ []))
+
+-- 02, U14: "the count stops at 65,535 and stays there"
+abbrev pub forkStarted : Cells → ℕ
+forkStarted k = cond (ltb (k .started) 65535) (suc (k .started)) (k .started)
 
 -- p forks c. From the main revision c inherits by count alone; else p's count, p's row and p's own list
 abbrev pub forkCells : Cells → ℕ → ℕ → Cells
@@ -161,9 +169,10 @@ forkCells k p c = record {
   name = k .name;
   single = k .single;
   settled = k .settled;
+  started = forkStarted k;
 }
 
--- 02, U9: "A mark forks an idle box .. and gives the new box a name"
+-- 02, U9: "A mark forks an idle box .. and gives the new box a name"; U14: "marks not counted"
 abbrev pub markCells : Cells → ℕ → ℕ → Name → Cells
 markCells k p c n =
     let f = forkCells k p c in
@@ -187,6 +196,7 @@ markCells k p c n =
       name = changed (k .name) c n;
       single = f .single;
       settled = f .settled;
+      started = k .started;
     }
 
 -- where b has updates of its own they go to the end of a's list
@@ -225,6 +235,7 @@ mergeCells k a b = record {
   name = k .name;
   single = k .single;
   settled = joinSettled k a b;
+  started = k .started;
 }
 
 -- r's number goes to the end of the queue
@@ -253,6 +264,7 @@ dropCells k r = record {
   name = k .name;
   single = k .single;
   settled = k .settled;
+  started = k .started;
 }
 
 -- a joins b, which is handed in

@@ -46,6 +46,8 @@ pub record Cells : Type 0 where
   pub single : Bool
   -- 02, U10: how many of the main revision's own updates, from the first, are of closed transactions
   pub settled : ℕ
+  -- 02, U14: the boxes ever started, marks not counted, at most 65,535
+  pub started : ℕ
 
 -- n updates that end at `at`, along the links; the first one's link is not looked at
 unfoldable pub chain : (ℕ → ℕ) → ℕ → ℕ → List ℕ

@@ -29,6 +29,7 @@ pub record SameBut (c : ℕ) (k k′ : Cells) : Type 0 where
   pub name : (r : ℕ) → (r ≡ c → ⊥) → k .name r ≡ k′ .name r
   pub single : k .single ≡ k′ .single
   pub settled : k .settled ≡ k′ .settled
+  pub started : k .started ≡ k′ .started
 
 -- the same in all that a check, an order or a further step goes by: `first` and `last` of an empty own list, and the name of a
 -- number that is no mark, are not among it
@@ -49,6 +50,7 @@ pub record ShowsSame (k k′ : Cells) : Type 0 where
   pub name : (r : ℕ) → isMark k r ≡ true → k .name r ≡ k′ .name r
   pub single : k .single ≡ k′ .single
   pub settled : k .settled ≡ k′ .settled
+  pub started : k .started ≡ k′ .started
 
 abbrev pub StartsClean : Type 0
 StartsClean = (c : ℕ) (k k′ : Cells) → SameBut c k k′ → (p : ℕ) → (p ≡ c → ⊥) → (main ≡ c → ⊥)

@@ -6,7 +6,7 @@ use mathlib.Core.List.{List}
 use lib.Dec.{eqb}
 use Rattle.cells.specs.Sizes.{revisions, clients}
 use Rattle.cells.specs.Parts.{Parts, split, rowsPart, lowPart, highPart, seenPart, caughtPart, statePart, usedPart, lastPart, firstPart}
-use Rattle.cells.specs.Parts.{countPart, basePart, layoutPart, queuePart, openedPart, countersPart, namesPart, singlePart, settledPart}
+use Rattle.cells.specs.Parts.{countPart, basePart, layoutPart, queuePart, openedPart, countersPart, namesPart, singlePart, settledPart, startedPart}
 use Rattle.cells.specs.Words.{byte, word, linkIn, nameIn}
 use Rattle.cells.specs.Flags.{flagIn}
 use Rattle.cells.specs.Cells.{Cells}
@@ -37,6 +37,7 @@ decode p = record {
   name = nameIn (p namesPart);
   single = eqb (byte (p singlePart) 0) 1;
   settled = word (p settledPart) 0;
+  started = word (p startedPart) 0;
 }
 
 -- the cells of the bytes

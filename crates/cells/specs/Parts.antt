@@ -64,7 +64,6 @@ singlePart = 16
 abbrev pub settledPart : ℕ
 settledPart = 17
 
--- 0 until a request uses it
 abbrev pub startedPart : ℕ
 startedPart = 18
 

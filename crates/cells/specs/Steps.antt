@@ -9,13 +9,13 @@ use Rattle.lists.specs.Arranged.{insertBefore, remove}
 use Rattle.lists.specs.Names.{Name}
 use Rattle.cells.specs.Sizes.{revisions, clients, main, closed, stateOut, stateJoined, stateMarked}
 use Rattle.cells.specs.Parts.{Parts, split, glue, size, _⟨_≔_⟩, rowsPart, lowPart, highPart, seenPart, caughtPart, statePart, usedPart, lastPart, firstPart}
-use Rattle.cells.specs.Parts.{countPart, basePart, layoutPart, queuePart, openedPart, countersPart, namesPart, singlePart, settledPart, signaturePart}
+use Rattle.cells.specs.Parts.{countPart, basePart, layoutPart, queuePart, openedPart, countersPart, namesPart, singlePart, settledPart, startedPart, signaturePart}
 use Rattle.cells.specs.Words.{putWord, putHalf, putName}
 use Rattle.cells.specs.Flags.{pack, putRow}
 use Rattle.cells.specs.Decode.{decode}
 use Rattle.cells.specs.Range.{signature}
 use Rattle.lists.specs.Pool.{forkPool, joinPool}
-use Rattle.cells.specs.CellSteps.{counted, oneFewer, closeSettled, forkCaught, forkRow, forkGiven, forkQueue, spliced, joinCaught, joinCount, joinSettled, dropQueue}
+use Rattle.cells.specs.CellSteps.{counted, oneFewer, closeSettled, forkCaught, forkRow, forkGiven, forkQueue, forkStarted, spliced, joinCaught, joinCount, joinSettled, dropQueue}
 
 -- all bytes 0 but these
 abbrev pub freshParts : Bool → Parts
@@ -28,6 +28,7 @@ freshParts single =
     ⟨ openedPart ≔ replicate clients closed ⟩
     ⟨ countersPart ≔ 0 ∷ 0 ∷ 1 ∷ 1 ∷ [] ⟩
     ⟨ singlePart ≔ cond single 1 0 ∷ [] ⟩
+    ⟨ startedPart ≔ 1 ∷ 0 ∷ [] ⟩
     ⟨ signaturePart ≔ signature ⟩
 
 -- client c's row of caught-up flags has r alone; its open transaction is on r
@@ -77,9 +78,9 @@ inheritParts p q c =
     ⟨ basePart ≔ putWord (p basePart) c (cond (eqb q main) (k .count main) (k .base q)) ⟩
     ⟨ countPart ≔ putWord (p countPart) c 0 ⟩
 
--- q forks c, which stands right of q in the day's sense: in front of it in the layout
-abbrev pub forkParts : Parts → ℕ → ℕ → Parts
-forkParts p q c =
+-- q forks c, which stands right of q in the day's sense: in front of it in the layout. Marks and other forks alike
+abbrev pub branchParts : Parts → ℕ → ℕ → Parts
+branchParts p q c =
     let k = decode p in
     inheritParts p q c
     ⟨ seenPart ≔ pack revisions (forkPool (k .seen) q c) ⟩
@@ -89,10 +90,14 @@ forkParts p q c =
     ⟨ queuePart ≔ forkQueue k ⟩
     ⟨ countersPart ≔ set (set (p countersPart) 2 (suc (k .out))) 3 (forkGiven k) ⟩
 
+-- 02, U14: a box is started
+abbrev pub forkParts : Parts → ℕ → ℕ → Parts
+forkParts p q c = branchParts p q c ⟨ startedPart ≔ putWord (p startedPart) 0 (forkStarted (decode p)) ⟩
+
 -- 02, U9: "A mark forks an idle box .. and gives the new box a name"
 abbrev pub markParts : Parts → ℕ → ℕ → Name → Parts
 markParts p q c n =
-    forkParts p q c
+    branchParts p q c
     ⟨ statePart ≔ set (p statePart) c stateMarked ⟩
     ⟨ namesPart ≔ putName (p namesPart) c n ⟩
 

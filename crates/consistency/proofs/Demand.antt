@@ -5,12 +5,12 @@ use mathlib.Core.Path.{_≡_, refl, sym, _∙_, ap, subst}
 use mathlib.Core.List.{List, [], _∷_}
 use lib.ListN.{length, length-replicate, replicate}
 use Rattle.boards.specs.Board.{boardBytes}
-use Rattle.desk.specs.Calls.{Call, Update, Query, Yield, Fork, Join, Sync, Mark, Drop, Bundle, Looks, Show, Fill, Preview, Verify, answerOn, callOn, callsOn}
+use Rattle.desk.specs.Calls.{Call, Update, Query, Yield, Fork, Join, Sync, Mark, Drop, Bundle, Looks, Show, Fill, Preview, Verify, Bill, answerOn, callOn, callsOn}
 use Rattle.plain.specs.Record.{PlainDay, freshDay}
 use Rattle.plain.specs.Answers.{called, answers, answersFrom, dayAfter}
 use Rattle.plain.specs.Edges as Edges
 use Rattle.plain.specs.Edges.{Edge, computed}
-use Rattle.plain.proofs.Edges.{edges-hold, codes-hold, reused-hold, marks-hold, on-line-hold, orders-hold, boards-hold}
+use Rattle.plain.proofs.Edges.{edges-hold, codes-hold, reused-hold, marks-hold, on-line-hold, orders-hold, boards-hold, bills-hold}
 use Rattle.plain.proofs.LineUp.{lined-up}
 use Rattle.plain.proofs.Steps.{never-one}
 use Rattle.table.specs.Out.{tableBytes}
@@ -57,6 +57,7 @@ same-call (Looks (Show n room)) = ap (λ l. Looks (Show n l)) (length-replicate 
 same-call (Looks (Fill n)) = refl
 same-call (Looks (Preview n m bib)) = refl
 same-call (Looks (Verify file)) = refl
+same-call (Looks (Bill member)) = refl
 
 same-calls : (cs : List (Call ℕ)) → calls (callsOn zeros cs) ≡ cs
 same-calls [] = refl
@@ -85,4 +86,5 @@ edges-at-table t h = (
   same-computed t h true Edges.onLine ∙ on-line-hold,
   same-computed t h false Edges.orders ∙ orders-hold,
   same-computed t h false Edges.boards ∙ boards-hold,
+  same-computed t h false Edges.bills ∙ bills-hold,
 )

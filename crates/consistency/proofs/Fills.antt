@@ -24,7 +24,7 @@ use Rattle.consistency.proofs.Table.Calls.{fill-same}
 use Rattle.consistency.proofs.Table.Follows.{fresh-stands, stands-after, table-follows}
 
 -- the same codes, at the table and on paper
-same-codes : (qs : List (Call (List ℕ))) (p : PlainDay) → codesOf (replies qs (answersFrom p (calls qs))) ≡ codesOf (answersFrom p (calls qs))
+pub same-codes : (qs : List (Call (List ℕ))) (p : PlainDay) → codesOf (replies qs (answersFrom p (calls qs))) ≡ codesOf (answersFrom p (calls qs))
 unfolding replies answersFrom
 same-codes [] p = refl
 same-codes (q ∷ qs) p = ap (λ codes. called p (callOn length q) .answer .code ∷ codes) (same-codes qs (called p (callOn length q) .next))

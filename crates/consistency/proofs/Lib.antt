@@ -1,5 +1,5 @@
 -- From a fresh table, through every run of accepted steps, cells and bytes agree with the day; through every list of
--- calls the replies do, demand 3 holds, own updates add up, previews follow joins, syncs are joins and forks, and right boards stay right.
+-- calls the replies do, demand 3 holds, own updates add up, previews follow joins, syncs are joins and forks, bills are those of the history, and right boards stay right.
 pub mod Table
 pub mod Refusals
 pub mod Stays
@@ -8,5 +8,6 @@ pub mod Fills
 pub mod Previews
 pub mod Syncs
 pub mod Orders
+pub mod Bills
 pub mod Boards
 mod Examples

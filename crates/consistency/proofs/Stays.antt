@@ -13,7 +13,7 @@ use Rattle.lists.specs.Names.{Name}
 use Rattle.bundles.specs.declared.entry.Entry.{Entry}
 use Rattle.updates.specs.Kinds.{kindOf}
 use Rattle.boards.specs.Board.{boardBytes}
-use Rattle.desk.specs.Calls.{Call, Update, Query, Yield, Fork, Join, Sync, Mark, Drop, Bundle, Looks, Show, Fill, Preview, Verify, Batch, Records, Entries, entriesOf}
+use Rattle.desk.specs.Calls.{Call, Update, Query, Yield, Fork, Join, Sync, Mark, Drop, Bundle, Looks, Show, Fill, Preview, Verify, Bill, Batch, Records, Entries, entriesOf}
 use Rattle.desk.specs.Checks.{checks, settle}
 use Rattle.desk.proofs.Checks.{Ends, Passed, _also_, ends, no, no-table-first, yes}
 use Rattle.cells.specs.Sizes.{clients, revisions, updates}
@@ -30,7 +30,7 @@ use Rattle.entries.proofs.Entries.{wrote-length}
 use Rattle.table.specs.Halves.{low, high, cellsOf, isTable}
 use Rattle.table.specs.Answers.{afterTaken, refused}
 use Rattle.table.specs.Out.{Out, tableBytes}
-use Rattle.table.specs.Calls.{asOne, asked, batchOut, bundleOut, dropOut, entriesOut, fillOut, forkOut, freshOut, joinEnd, joinOut, listOut, markOut, noFill, noProspect, previewOut, queryOut, sentOut, settled, syncOut, updateOut, verdict, verifyOut, yieldOut}
+use Rattle.table.specs.Calls.{asOne, asked, batchOut, billOut, bundleOut, dropOut, entriesOut, fillOut, forkOut, freshOut, joinEnd, joinOut, listOut, markOut, noBill, noFill, noProspect, previewOut, queryOut, sentOut, settled, syncOut, updateOut, verdict, verifyOut, yieldOut}
 use Rattle.table.proofs.Halves.{lower-of, table-of, upper-length}
 use Rattle.table.proofs.Syncs.{joins}
 use Rattle.table.specs.declared.answer.Answer.{Answer}
@@ -154,7 +154,7 @@ sync-kept t h m room P = by _ (kept _ (join-end t h 0 m room P) (Fork 0) (fork-l
     by o K = cases (eqb (o .code) 0) (λ q. rw q K) (λ q. rw q (h, K .1))
 
 pub stays-table : StaysTable
-unfolding queryOut joinOut syncOut markOut dropOut listOut fillOut bundleOut entriesOut previewOut verifyOut
+unfolding queryOut joinOut syncOut markOut dropOut listOut fillOut bundleOut entriesOut previewOut verifyOut billOut
 stays-table t (Update c n k bib v) = update-leaves t c n k bib v
 stays-table t (Query c n bib) = record { stays = λ h. out-stays t h (Query c n bib) _ (query-end t h c n bib); one = out-one t t (Query c n bib) _ (λ h P e. omega arith) }
 stays-table t (Yield c board) = let K = yield-leaves t c (length board) in record { stays = K .0; one = K .1 }
@@ -173,6 +173,7 @@ stays-table t (Looks (Show n s)) = record { stays = λ h. h; one = out-one t s (
 stays-table t (Looks (Fill n)) = record { stays = λ h. h; one = one-exactly (λ (f : Level). f .code) noFill (λ k. refl) t (Looks (Fill n)) _ (λ h P e. omega arith) }
 stays-table t (Looks (Preview n m bib)) = record { stays = λ h. h; one = one-exactly (λ (f : Prospect). f .code) noProspect (λ k. refl) t (Looks (Preview n m bib)) _ (λ h P e. omega arith) }
 stays-table t (Looks (Verify file)) = record { stays = λ h. h; one = one-exactly (λ (a : Answer). a .code) (λ code. verdict code false) (λ k. refl) t (Looks (Verify file)) _ (λ h P e. omega arith) }
+stays-table t (Looks (Bill member)) = record { stays = λ h. h; one = one-exactly (λ (a : Answer). a .code) noBill (λ k. refl) t (Looks (Bill member)) _ (λ h P e. omega arith) }
 
 pub fresh-makes-table : FreshMakesTable
 unfolding freshOut

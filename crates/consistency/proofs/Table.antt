@@ -7,4 +7,5 @@ pub mod Bundles
 pub mod Previews
 pub mod Syncs
 pub mod Orders
+pub mod Bills
 pub mod Follows

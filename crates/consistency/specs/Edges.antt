@@ -5,7 +5,7 @@ use mathlib.Core.Path.{_≡_}
 use mathlib.Core.List.{List, [], _∷_}
 use lib.ListN.{length, replicate}
 use Rattle.desk.specs.Calls.{callsOn}
-use Rattle.plain.specs.Edges.{Edge, Said, edges, codes, reused, marks, onLine, orders, boards, expected, said}
+use Rattle.plain.specs.Edges.{Edge, Said, edges, codes, reused, marks, onLine, orders, boards, bills, expected, said}
 use Rattle.boards.specs.Board.{boardBytes}
 use Rattle.table.specs.Out.{tableBytes}
 use Rattle.table.specs.Calls.{freshOut}
@@ -21,3 +21,4 @@ EdgesHold =
     (t : List ℕ) → length t ≡ tableBytes
     → (computedOn t false edges ≡ expected edges) × (computedOn t false codes ≡ expected codes) × (computedOn t false reused ≡ expected reused) × (computedOn t false marks ≡ expected marks)
     × (computedOn t true onLine ≡ expected onLine) × (computedOn t false orders ≡ expected orders) × (computedOn t false boards ≡ expected boards)
+    × (computedOn t false bills ≡ expected bills)

@@ -9,4 +9,5 @@ pub mod Fills
 pub mod Previews
 pub mod Syncs
 pub mod Orders
+pub mod Bills
 pub mod Boards

@@ -3,11 +3,11 @@ use Prim.Native.Nat.{ℕ, _*_}
 use mathlib.Core.List.{List, [], _∷_, _++_}
 use lib.ListN.{length, drop}
 use Rattle.updates.specs.declared.standing.State.the-variants.{Neither}
-use Rattle.desk.specs.Calls.{Call, Update, Query, Yield, Fork, Join, Sync, Mark, Drop, Bundle, Looks, Look, Show, Fill, Preview, Verify, Records, Entries, Answer, answerOn, callsOn}
+use Rattle.desk.specs.Calls.{Call, Update, Query, Yield, Fork, Join, Sync, Mark, Drop, Bundle, Looks, Look, Show, Fill, Preview, Verify, Bill, Records, Entries, Answer, plainly, answerOn, callsOn}
 use Rattle.sheets.specs.Lines.{line}
 use Rattle.plain.specs.Record.{Line}
 use Rattle.table.specs.Out.{Out}
-use Rattle.table.specs.Calls.{boardOut, updateOut, queryOut, yieldOut, forkOut, joinOut, syncOut, markOut, dropOut, listOut, fillOut, bundleOut, entriesOut, previewOut, verifyOut}
+use Rattle.table.specs.Calls.{boardOut, updateOut, queryOut, yieldOut, forkOut, joinOut, syncOut, markOut, dropOut, listOut, fillOut, bundleOut, entriesOut, previewOut, verifyOut, billOut}
 
 -- at a table a sheet or a board is bytes; on paper "only the length" is told
 abbrev pub calls : List (Call (List ℕ)) → List (Call ℕ)
@@ -29,6 +29,7 @@ looked t (Show n sheet) = let u = listOut t n sheet in outReply u (u .lent)
 looked t (Fill n) = let f = fillOut t n in record { code = f .code; state = Neither; value = f .own; total = f .total; gain = 0; sheet = [] }
 looked t (Preview n m bib) = let f = previewOut t n m bib in record { code = f .code; state = f .state; value = f .value; total = 0; gain = f .gain; sheet = [] }
 looked t (Verify file) = let a = verifyOut t file in record { code = a .code; state = Neither; value = a .value; total = 0; gain = 0; sheet = [] }
+looked t (Bill member) = let a = billOut t member in plainly (a .code) (a .value) []
 
 abbrev pub onTable : Out → Served
 onTable u = record { reply = outReply u []; table = u .lent; board = [] }
@@ -80,6 +81,7 @@ sheetOf (Looks (Show n sheet)) = sheet
 sheetOf (Looks (Fill n)) = []
 sheetOf (Looks (Preview n m bib)) = []
 sheetOf (Looks (Verify file)) = []
+sheetOf (Looks (Bill member)) = []
 
 -- the board that a call is lent, if any
 abbrev pub boardLent : Call (List ℕ) → List ℕ

@@ -12,7 +12,7 @@ use Rattle.lists.specs.Lists.{_∈_}
 use Rattle.lists.specs.Arranged.{member}
 use Rattle.lists.proofs.Cases.{and-true, cases, either, or-false}
 use Rattle.lists.proofs.Keep.{in-member, member-in}
-use Rattle.desk.specs.Calls.{Call, Update, Query, Yield, Fork, Join, Sync, Mark, Drop, Bundle, Looks, Show, Fill, Preview, Verify}
+use Rattle.desk.specs.Calls.{Call, Update, Query, Yield, Fork, Join, Sync, Mark, Drop, Bundle, Looks, Show, Fill, Preview, Verify, Bill}
 use Rattle.desk.specs.Checks.{Check, Tests, _if_, checks, settle, codesFor}
 
 -- no check of a row applies
@@ -103,6 +103,7 @@ rows q (Looks (Show n room)) = begins _ [] refl refl
 rows q (Looks (Fill n)) = begins _ [] refl refl
 rows q (Looks (Preview n m bib)) = begins _ [] refl refl
 rows q (Looks (Verify file)) = begins _ [] refl refl
+rows q (Looks (Bill member)) = begins _ [] refl refl
 
 later-in : (ks : List Check) → later ks ≡ true → (k : ℕ) → k ∈ numbersOf ks → 1 < k
 later-in [] h k i = absurd (List·Memᴰ·not-nil i)

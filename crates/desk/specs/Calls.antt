@@ -1,4 +1,4 @@
--- The calls and what they answer with: 01, "Codes of the desk" and "Listing a box"; 02, U1, U2, U4, U6, U8, U9, U10 and U13. On paper a sheet or a board
+-- The calls and what they answer with: 01, "Codes of the desk" and "Listing a box"; 02, U1, U2, U4, U6, U8, U9, U10, U13 and U14. On paper a sheet or a board
 -- is told by its length, at a table it is bytes.
 use Prim.Native.Nat.{ℕ}
 use mathlib.Core.Bool.{Bool, _||_}
@@ -35,6 +35,8 @@ pub data Look (Sheet : Type 0) : Type 0 where
   Preview : (joiner joinee bib : ℕ) → Look Sheet
   -- 02, U13: "Check a file against a table"
   Verify : (file : List ℕ) → Look Sheet
+  -- 02, U14: "The bill comes from the table", for a club member or another
+  Bill : (member : Bool) → Look Sheet
 
 pub data Call (Sheet : Type 0) : Type 0 where
   Update : (client revision kind bib v : ℕ) → Call Sheet
@@ -66,6 +68,7 @@ callOn f (Looks (Show n sheet)) = Looks (Show n (f sheet))
 callOn f (Looks (Fill n)) = Looks (Fill n)
 callOn f (Looks (Preview n m bib)) = Looks (Preview n m bib)
 callOn f (Looks (Verify file)) = Looks (Verify file)
+callOn f (Looks (Bill member)) = Looks (Bill member)
 
 abbrev pub callsOn : {S R : Type 0} → (S → R) → List (Call S) → List (Call R)
 callsOn f [] = []

@@ -7,7 +7,7 @@ use Rattle.lists.specs.Names.{Name}
 use Rattle.updates.specs.Kinds.{badBib, badKind}
 use Rattle.orderfile.specs.File.{isBadList}
 use Rattle.boards.specs.Board.{isWrongBoard}
-use Rattle.desk.specs.Calls.{Call, Update, Query, Yield, Fork, Join, Sync, Mark, Drop, Bundle, Looks, Show, Fill, Preview, Verify, isWrongBatch}
+use Rattle.desk.specs.Calls.{Call, Update, Query, Yield, Fork, Join, Sync, Mark, Drop, Bundle, Looks, Show, Fill, Preview, Verify, Bill, isWrongBatch}
 
 -- a code, and whether it applies
 pub record Check : Type 0 where
@@ -86,6 +86,8 @@ checks q (Looks (Fill n)) = 1 if q .noTable ∷ 3 if q .never n ∷ 4 if q .join
 checks q (Looks (Preview n m bib)) = 1 if q .noTable ∷ joinChecks q n m ++ (5 if badBib bib ∷ [])
 -- 02, U13: 21 "checked after 1"
 checks q (Looks (Verify file)) = 1 if q .noTable ∷ 21 if isBadList file ∷ []
+-- 02, U14: "(checks: 1)"
+checks q (Looks (Bill member)) = 1 if q .noTable ∷ []
 
 -- the first check that applies ends the call with its refusal; where none does, the call ends as it does when taken
 abbrev pub settle : {A : Type 0} → List Check → (ℕ → A) → A → A
@@ -107,3 +109,4 @@ codesFor (Looks (Show n sheet)) = 1 ∷ 3 ∷ 4 ∷ 7 ∷ 12 ∷ []
 codesFor (Looks (Fill n)) = 1 ∷ 3 ∷ 4 ∷ []
 codesFor (Looks (Preview n m bib)) = 1 ∷ 3 ∷ 4 ∷ 15 ∷ 16 ∷ 7 ∷ 11 ∷ 5 ∷ []
 codesFor (Looks (Verify file)) = 1 ∷ 21 ∷ []
+codesFor (Looks (Bill member)) = 1 ∷ []

@@ -5,7 +5,7 @@ use crate::calls::join;
 use crate::say;
 
 // Each revision from 0 on forks the next.
-fn chain(t: &mut [u8], many: u8) {
+pub fn chain(t: &mut [u8], many: u8) {
     let mut i: u8 = 0;
     while i < many {
         fork(t, i);

@@ -16,7 +16,7 @@ fn one_if_taken(code: u8) -> u32
 }
 
 // How many of so many updates of client r on revision r are taken.
-fn fill(t: &mut [u8], r: u8, many: u32) -> u32 {
+pub fn fill(t: &mut [u8], r: u8, many: u32) -> u32 {
     let mut taken: u32 = 0;
     let mut i: u32 = 0;
     while i < many {

@@ -1,10 +1,11 @@
-// The edges of a race day that are not starred, run on the table: 01, "Edges of a race day"; and those of the board (02, U10). What it writes is compared.
+// The edges of a race day that are not starred, run on the table: 01, "Edges of a race day"; and those of the board and of bills (02, U10 and U14). What it writes is compared.
 mod announced; // announced.rt: the board, and boards of a wrong length
 mod calls; // calls.rt: the calls, each with a line
 mod codes; // codes.rt: each code
 mod forks; // forks.rt: 64 revisions out, and no more; numbers used again
 mod listings; // listings.rt: lists before and after joins
 mod log; // log.rt: 4,096 updates, and no more
+mod rents; // rents.rt: bills
 mod sent; // sent.rt: bundles of entries
 mod say; // say.rt: lines on standard output
 
@@ -70,6 +71,15 @@ fn on_the_board() {
     announced::after_fourteen(&mut t, &mut short, &mut long);
 }
 
+fn bills() {
+    let mut t = io::large_buffer();
+    let mut board = [0u8; Board::BYTES];
+    let short = io::buffer();
+    rents::eight(&mut t, &mut board);
+    rents::three(&mut t, &mut board);
+    rents::none(&short);
+}
+
 fn main() {
     log_full();
     all_forks();
@@ -77,4 +87,5 @@ fn main() {
     each_code();
     bundles_of_entries();
     on_the_board();
+    bills();
 }

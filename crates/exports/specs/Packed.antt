@@ -38,7 +38,7 @@ returned result lent = record { result = result; lent = lent }
 unfoldable pub exported : Out → Returned
 exported o = returned (packedState (o .code) (o .state) (o .value)) (o .lent)
 
--- a verify's code and value: nothing is lent to be written
+-- the code and value of a verify and of a bill: nothing is lent to be written
 unfoldable pub exportedAnswer : Answer → ℕ
 exportedAnswer a = packed (a .code) (a .value)
 

@@ -6,7 +6,7 @@ ghost use lib.Dec.{eqb};
 ghost use Prim.Native.Nat.{_≤_};
 ghost use lib.ListN.{length};
 ghost use Rattle.lists.specs.Differences.{differences};
-ghost use Rattle.table.specs.Calls.{boardOut, bundleOut, dropOut, fillOut, forkOut, freshBoard, freshOut, joinOut, listOut, markOut, previewOut, queryOut, syncOut, updateOut, verifyOut, yieldOut};
+ghost use Rattle.table.specs.Calls.{billOut, boardOut, bundleOut, dropOut, fillOut, forkOut, freshBoard, freshOut, joinOut, listOut, markOut, previewOut, queryOut, syncOut, updateOut, verifyOut, yieldOut};
 ghost use Rattle.exports.specs.Packed.{exported, exportedAnswer, exportedLevel, exportedProspect, returned, packed, packedGain, packedState, stateNumber};
 use updates::standing::State;
 
@@ -166,5 +166,13 @@ pub extern "C" fn silttongs_verify(t: &[u8], order: &[u8]) -> u64
     ensures { λ r. ⌜ r ≡ exportedAnswer (verifyOut (now (t .entry)) (now (order .entry))) ⌝ }
 {
     let a = verifying::verify::verify(t, order);
+    pack(a.code, a.value)
+}
+
+#[no_mangle]
+pub extern "C" fn silttongs_bill(t: &[u8], member: u8) -> u64
+    ensures { λ r. ⌜ r ≡ exportedAnswer (billOut (now (t .entry)) (not (eqb member 0))) ⌝ }
+{
+    let a = billing::bill::bill(t, member != 0);
     pack(a.code, a.value)
 }

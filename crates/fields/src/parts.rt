@@ -35,7 +35,6 @@ pub const SINGLE: usize = 40084;
 
 pub const SETTLED: usize = 40085;
 
-// 0 until a request uses it.
 pub const STARTED: usize = 40087;
 
 pub const KEPT: usize = 40089;

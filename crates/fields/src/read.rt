@@ -17,6 +17,7 @@ use crate::parts::COUNT;
 use crate::parts::COUNTERS;
 use crate::parts::FIRST;
 use crate::parts::HIGH;
+use crate::parts::KEPT;
 use crate::parts::LAST;
 use crate::parts::LAYOUT;
 use crate::parts::LOW;
@@ -197,4 +198,12 @@ pub fn settled(d: &[u8]) -> usize
     ensures { λ v. ⌜ (v ≡ cells (now (d .entry)) .settled) × (v < 65536) ⌝ }
 {
     word_at(&d[SETTLED..STARTED], 0)
+}
+
+// The boxes ever started, marks not counted, at most 65,535 (02, U14).
+pub fn started(d: &[u8]) -> usize
+    requires { ⌜ length (now d) ≡ lowerBytes ⌝ }
+    ensures { λ v. ⌜ (v ≡ cells (now (d .entry)) .started) × (v < 65536) ⌝ }
+{
+    word_at(&d[STARTED..KEPT], 0)
 }

@@ -8,7 +8,7 @@ ghost use Rattle.lists.specs.Lists.{restOf};
 ghost use Rattle.lists.specs.Arranged.{insertBefore, remove};
 ghost use Rattle.cells.specs.Sizes.{lowerBytes, clients, revisions, updates};
 ghost use Rattle.cells.specs.Parts.{split, wrote, lowPart, highPart, seenPart, caughtPart, statePart, usedPart, lastPart, firstPart};
-ghost use Rattle.cells.specs.Parts.{countPart, basePart, layoutPart, queuePart, openedPart, countersPart, namesPart, rowsPart, settledPart};
+ghost use Rattle.cells.specs.Parts.{countPart, basePart, layoutPart, queuePart, openedPart, countersPart, namesPart, rowsPart, settledPart, startedPart};
 ghost use Rattle.cells.specs.Words.{putHalf, putName, putWord};
 ghost use Rattle.cells.specs.Flags.{flagAt, pack, putRow};
 ghost use Rattle.cells.specs.Decode.{cells};
@@ -27,6 +27,7 @@ use crate::parts::COUNT;
 use crate::parts::COUNTERS;
 use crate::parts::FIRST;
 use crate::parts::HIGH;
+use crate::parts::KEPT;
 use crate::parts::LAST;
 use crate::parts::LAYOUT;
 use crate::parts::LOW;
@@ -144,6 +145,14 @@ pub fn settled(d: &mut [u8], v: usize)
     ensures { λ _. ⌜ now (d .exit) ≡ wrote (now (d .entry)) settledPart (putWord (split (now (d .entry)) settledPart) 0 v) ⌝ }
 {
     put_word(&mut d[SETTLED..STARTED], 0, v);
+}
+
+// So many boxes were started (02, U14).
+pub fn started(d: &mut [u8], v: usize)
+    requires { ⌜ (length (now d) ≡ lowerBytes) × (v < 65536) ⌝ }
+    ensures { λ _. ⌜ now (d .exit) ≡ wrote (now (d .entry)) startedPart (putWord (split (now (d .entry)) startedPart) 0 v) ⌝ }
+{
+    put_word(&mut d[STARTED..KEPT], 0, v);
 }
 
 // Client c has caught up with r alone.

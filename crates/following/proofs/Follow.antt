@@ -13,7 +13,7 @@ use Rattle.cells.specs.Cells.{Cells}
 use Rattle.cells.specs.CellSteps.{freshCells}
 use Rattle.cells.specs.Decode.{cells}
 use Rattle.cells.specs.Steps.{freshBytes}
-use Rattle.following.specs.Follow.{BytesFollowDays, CellsFollow, CellsFollowDays, ChoiceIsKept}
+use Rattle.following.specs.Follow.{BytesFollowDays, CellsFollow, CellsFollowDays, ChoiceIsKept, StartedIsKept, oneMore, startedAfter}
 use Rattle.following.specs.Reached.{byNumber, bytesAfter, bytesFrom, cellsAfter, cellsFrom, stepBytes, stepCells}
 use Rattle.following.proofs.Cells.Answers.{answers}
 use Rattle.following.proofs.Cells.Kept.{Kept, fresh-kept, kept-after}
@@ -85,3 +85,23 @@ choice-from (s ∷ ss) y k = choice-from ss (after y s) (stepCells k (byNumber y
 pub choice-is-kept : ChoiceIsKept
 unfolding cellsAfter
 choice-is-kept single ss P = ap (λ k. k .single) (same-cells single ss P) ∙ choice-from ss fresh (freshCells single)
+
+-- only a fork that gives no name writes the count of boxes
+started-step : (y : Day) (k : Cells) (s : Step) → stepCells k (byNumber y s) .started ≡ oneMore (k .started) s
+unfolding stepCells
+started-step y k (Event c r true) = refl
+started-step y k (Event c r false) = refl
+started-step y k (Yield c) = refl
+started-step y k (Fork n none) = refl
+started-step y k (Fork n (some w)) = refl
+started-step y k (Join a b) = refl
+started-step y k (Drop n) = refl
+
+started-from : (ss : List Step) (y : Day) (k : Cells) → cellsFrom y k ss .started ≡ startedAfter (k .started) ss
+unfolding cellsFrom
+started-from [] y k = refl
+started-from (s ∷ ss) y k = started-from ss (after y s) (stepCells k (byNumber y s)) ∙ ap (λ n. startedAfter n ss) (started-step y k s)
+
+pub started-is-kept : StartedIsKept
+unfolding cellsAfter
+started-is-kept single ss P = ap (λ k. k .started) (same-cells single ss P) ∙ started-from ss fresh (freshCells single)

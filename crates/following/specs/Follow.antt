@@ -1,16 +1,18 @@
 -- No claim rests on this file: it serves the proof of the agreement (crate consistency).
 -- The cells agree with the plain day: each check answers as the day's, each order is the day's, each value is the day's.
 -- The day's diagram decides; the cells have no diagram. Codes and values are those of 01, "Codes of the desk".
-use Prim.Native.Nat.{ℕ, _<_, _≤_}
-use mathlib.Core.Bool.{Bool, true, false, not}
+use Prim.Native.Nat.{ℕ, suc, _<_, _≤_}
+use mathlib.Core.Bool.{Bool, true, false, cond, not}
 use mathlib.Core.Path.{_≡_}
-use mathlib.Core.List.{List}
+use mathlib.Core.Option.{none, some}
+use mathlib.Core.List.{List, [], _∷_}
+use lib.Dec.{ltb}
 use lib.ListN.{length}
 use Rattle.diagram.specs.Effects
 use Rattle.lists.specs.Names.{Name}
 use Rattle.diagram.specs.Day.{Day, IsOut, Means, isGiven, isNamed, markNamed, nextNumber, numberOf}
 use Rattle.diagram.specs.Checks
-use Rattle.diagram.specs.Steps.{Step, run}
+use Rattle.diagram.specs.Steps.{Step, Event, Yield, Fork, Join, Drop, run}
 use Rattle.diagram.specs.Accepted.{Accepted}
 use Rattle.cells.specs.Sizes.{clients, updates, lowerBytes}
 use Rattle.cells.specs.Cells
@@ -75,3 +77,20 @@ BytesFollowDays = (single : Bool) (ss : List Step) → Accepted ss → BytesFoll
 -- 02, U8: the choice given to fresh is kept, so that 15 is `Asked.offLine` of the bytes
 abbrev pub ChoiceIsKept : Type 0
 ChoiceIsKept = (single : Bool) (ss : List Step) → Accepted ss → cells (bytesAfter single ss) .single ≡ single
+
+-- 02, U14: a fork that gives no name starts a box, and the count stops
+abbrev pub oneMore : ℕ → Step → ℕ
+oneMore n (Event c r u) = n
+oneMore n (Yield c) = n
+oneMore n (Fork r none) = cond (ltb n 65535) (suc n) n
+oneMore n (Fork r (some name)) = n
+oneMore n (Join a b) = n
+oneMore n (Drop r) = n
+
+abbrev pub startedAfter : ℕ → List Step → ℕ
+startedAfter n [] = n
+startedAfter n (s ∷ ss) = startedAfter (oneMore n s) ss
+
+-- the boxes started are in their cell
+abbrev pub StartedIsKept : Type 0
+StartedIsKept = (single : Bool) (ss : List Step) → Accepted ss → cells (bytesAfter single ss) .started ≡ startedAfter 1 ss

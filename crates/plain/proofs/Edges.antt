@@ -13,6 +13,7 @@ use Rattle.updates.specs.Effect.{earliest, penalized, effect, stateOf, valueIn}
 use Rattle.updates.specs.Applied.{applied}
 use Rattle.buffers.specs.Numbers.{number}
 use Rattle.bundles.specs.Records.{entriesIn, entriesFrom, isWrong}
+use Rattle.bills.specs.Bill.{bill}
 use Rattle.orderfile.specs.File.{isBadList, numbersOf, numbersIn, fileOf}
 use Rattle.orderfile.specs.Test.{noOther, noneTwice, isComplete, placeFrom, rises, inOrder, fits}
 use Rattle.diagram.specs.Sizes.{revisionLimit, clientLimit, updateLimit}
@@ -26,7 +27,7 @@ use Rattle.desk.specs.Calls.{Call, Update, Query, Fork, level}
 use Rattle.entries.specs.declared.entry.Entry.{Entry}
 use Rattle.plain.specs.Record.{Line, PlainDay, freshDay}
 use Rattle.plain.specs.Answers.{called, sent, dayFrom, dayAfter, answersFrom, answers}
-use Rattle.plain.specs.Edges.{edges, codes, reused, marks, onLine, orders, boards, said, expected, computed, ok, refusal, neither, filled, list, fill, yield, join, lent, sends, lends, small, unknownBib}
+use Rattle.plain.specs.Edges.{edges, codes, reused, marks, onLine, orders, boards, bills, said, expected, computed, ok, refusal, neither, filled, list, fill, yield, join, lent, sends, lends, small, unknownBib}
 
 pub edges-hold : computed false edges ≡ expected edges
 unfolding called answersFrom answers after leads tabulate isGiven meant isNamed markNamed nextNumber fourLetters unknownClient marked badName openElsewhere busyByOther busy anyBelow stale logFull noneLeft notJoinable revisionLimit clientLimit updateLimit kindCheck effect earliest penalized stateOf valueIn applied sent entriesIn entriesFrom isWrong number
@@ -57,9 +58,13 @@ pub boards-hold : computed false boards ≡ expected boards
 unfolding called answersFrom answers after leads tabulate isGiven meant isNamed markNamed nextNumber fourLetters unknownClient marked badName openElsewhere busyByOther busy anyBelow stale logFull noneLeft notJoinable revisionLimit clientLimit updateLimit kindCheck effect earliest penalized stateOf valueIn applied sent entriesIn entriesFrom isWrong number
 boards-hold = refl
 
+pub bills-hold : computed false bills ≡ expected bills
+unfolding called answersFrom answers after leads tabulate isGiven meant isNamed markNamed nextNumber fourLetters unknownClient marked badName openElsewhere busyByOther busy anyBelow stale logFull noneLeft notJoinable revisionLimit clientLimit updateLimit kindCheck effect earliest penalized stateOf valueIn applied sent entriesIn entriesFrom isWrong number bill
+bills-hold = refl
+
 -- the fresh day, but with this many updates taken and boxes sent
 abbrev counted : ℕ → ℕ → PlainDay
-counted updates revisions = record { single = false; day = withCounts updates revisions; entries = freshDay false .entries }
+counted updates revisions = record { single = false; day = withCounts updates revisions; entries = freshDay false .entries; started = revisions }
 
 -- 9 once 4,096 updates are taken, after 8; and not before
 log-full : said (answersFrom (counted 4095 1) (Fork 0 ∷ Update 0 0 1 7 5 ∷ yield 0 ∷ Update 0 1 1 7 5 ∷ Update 0 0 1 7 5 ∷ Query 0 0 8 ∷ []))

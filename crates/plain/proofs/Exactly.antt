@@ -19,7 +19,7 @@ use Rattle.bundles.specs.Records.{isWrong}
 use Rattle.orderfile.specs.File.{count, offset, isBadList}
 use Rattle.orderfile.proofs.Numbers.{good-fits}
 use Rattle.boards.specs.Board.{boardBytes, isWrongBoard}
-use Rattle.desk.specs.Calls.{Batch, Call, Update, Query, Yield, Fork, Join, Sync, Mark, Drop, Bundle, Looks, Show, Fill, Preview, Verify, Entries, Records, entriesOf, isWrongBatch}
+use Rattle.desk.specs.Calls.{Batch, Call, Update, Query, Yield, Fork, Join, Sync, Mark, Drop, Bundle, Looks, Show, Fill, Preview, Verify, Bill, Entries, Records, entriesOf, isWrongBatch}
 use Rattle.desk.specs.Checks.{checks}
 use Rattle.desk.proofs.Checks as Rows
 use Rattle.desk.proofs.Checks.{_also_, goes-on, passed-both}
@@ -223,6 +223,7 @@ module _ (single : Bool) (before : List (Call ℕ)) where
   passed-allowed (Looks (Fill n)) (e1 also e3 also e4 also Rows.none) z = meaning n e3 (is-out n e3, e4)
   passed-allowed (Looks (Preview n m bib)) P z = let q = preview-passes p n m bib P in (join-means n m (join-passes p n m (q .0)), good-bib bib (q .1))
   passed-allowed (Looks (Verify file)) (e1 also e21 also Rows.none) z = good-list file e21
+  passed-allowed (Looks (Bill member)) P z = tt
 
   taken-allowed : (c : Call ℕ) → called p c .answer .code ≡ 0 → Allowed single before c
   taken-allowed c e = let w = was-taken p c e in passed-allowed c (w .0) (rw (w .1) at e)
@@ -281,6 +282,7 @@ module _ (single : Bool) (before : List (Call ℕ)) where
   allowed-taken (Looks (Fill n)) A = passed-on p (Looks (Fill n)) (refl also given A also A .holds .1 also Rows.none)
   allowed-taken (Looks (Preview n m bib)) A = passed-on p (Looks (Preview n m bib)) (refl also passed-both (join-row n m (A .0)) (bib-good bib (A .1) also Rows.none))
   allowed-taken (Looks (Verify file)) A = passed-on p (Looks (Verify file)) (refl also list-good file A also Rows.none)
+  allowed-taken (Looks (Bill member)) A = passed-on p (Looks (Bill member)) (refl also Rows.none)
 
   pub exactly : (c : Call ℕ) → (called p c .answer .code ≡ 0) ↔ Allowed single before c
   exactly c = (taken-allowed c, allowed-taken c)

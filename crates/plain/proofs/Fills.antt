@@ -25,10 +25,10 @@ use Rattle.diagram.proofs.Days.Naming.{Named, countFor, earlier-in, not-meant, 
 use Rattle.diagram.proofs.Order.Counted.{own-adds-up}
 use Rattle.plain.specs.Record.{PlainDay, freshDay}
 use Rattle.plain.specs.Answers.{answers, answersFrom, called, dayAfter, dayFrom, ownAt, refused}
-use Rattle.plain.specs.Fills.{FillsAddUp, acceptedIn, codesOf, enters}
+use Rattle.plain.specs.Fills.{FillsAddUp, acceptedIn, codesOf, enters, tally}
 use Rattle.plain.specs.Taken.{bundleSteps, stepOf, stepsAfter, stepsOf}
 use Rattle.plain.proofs.Ends.{was-taken}
-use Rattle.plain.proofs.Steps.{all-accepted, did, marks-next, named, same-day}
+use Rattle.plain.proofs.Steps.{RanTo, all-accepted, did, marks-next, named, same-day, sumOver}
 
 -- the updates among some steps
 abbrev one : Step → ℕ
@@ -40,8 +40,7 @@ one (Steps.Join a b) = 0
 one (Steps.Drop r) = 0
 
 abbrev updatesIn : List Step → ℕ
-updatesIn [] = 0
-updatesIn (s ∷ ss) = one s + updatesIn ss
+updatesIn ss = sumOver one ss
 
 after-one : (y : Day) (s : Step) → after y s .updates ≡ y .updates + one s
 unfolding after
@@ -74,26 +73,30 @@ steps-enter p (Drop name) = refl
 steps-enter p (Bundle c n batch room) = bundle-enters c _ (entriesOf batch)
 steps-enter p (Looks l) = refl
 
-if-taken : (b : Bool) (ss : List Step) → updatesIn (cond b ss []) ≡ cond b (updatesIn ss) 0
-if-taken true ss = refl
-if-taken false ss = refl
+-- a number of the day that each call taken raises by what `counts` says of it is a tally of the history
+module _ (f : PlainDay → ℕ) (g : Step → ℕ) (counts : Call ℕ → ℕ) (raised : (p q : PlainDay) (ss : List Step) → RanTo p q ss → f q ≡ f p + sumOver g ss) (each : (p : PlainDay) (c : Call ℕ) → sumOver g (stepOf p c) ≡ counts c) where
+  if-taken : (b : Bool) (ss : List Step) → sumOver g (cond b ss []) ≡ cond b (sumOver g ss) 0
+  if-taken true ss = refl
+  if-taken false ss = refl
 
-adds : (p : PlainDay) → Marks (p .day) → (c : Call ℕ) → called p c .next .day .updates ≡ p .day .updates + cond (eqb (called p c .answer .code) 0) (enters c) 0
-adds p M c =
-    ap (λ y. y .updates) (did p M c .same) ∙ run-updates (stepsOf p c) (p .day)
-    ∙ ap (λ k. p .day .updates + k) (if-taken (eqb (called p c .answer .code) 0) (stepOf p c) ∙ ap (λ k. cond (eqb (called p c .answer .code) 0) k 0) (steps-enter p c))
+  raises : (p : PlainDay) → Marks (p .day) → (c : Call ℕ) → f (called p c .next) ≡ f p + cond (eqb (called p c .answer .code) 0) (counts c) 0
+  raises p M c =
+      raised p (called p c .next) (stepsOf p c) (did p M c)
+      ∙ ap (λ k. f p + k) (if-taken (eqb (called p c .answer .code) 0) (stepOf p c) ∙ ap (λ k. cond (eqb (called p c .answer .code) 0) k 0) (each p c))
 
-counted-from : (cs : List (Call ℕ)) (p : PlainDay) → Marks (p .day) → dayFrom p cs .day .updates ≡ p .day .updates + acceptedIn cs (codesOf (answersFrom p cs))
-unfolding dayFrom answersFrom acceptedIn
-counted-from [] p M = omega arith
-counted-from (c ∷ cs) p M = let a = adds p M c in let b = counted-from cs (called p c .next) (marks-next p M c) in omega arith
+  pub tallied : (cs : List (Call ℕ)) (p : PlainDay) → Marks (p .day) → f (dayFrom p cs) ≡ f p + tally counts cs (codesOf (answersFrom p cs))
+  unfolding dayFrom answersFrom tally
+  tallied [] p M = omega arith
+  tallied (c ∷ cs) p M = let a = raises p M c in let b = tallied cs (called p c .next) (marks-next p M c) in omega arith
 
 nothing-before : (n : ℕ) → 0 + n ≡ n
 nothing-before n = omega arith
 
-counted : (single : Bool) (cs : List (Call ℕ)) → dayAfter single cs .day .updates ≡ acceptedIn cs (codesOf (answers single cs))
+pub counted : (single : Bool) (cs : List (Call ℕ)) → dayAfter single cs .day .updates ≡ acceptedIn cs (codesOf (answers single cs))
 unfolding dayAfter answers
-counted single cs = counted-from cs (freshDay single) marks-fresh ∙ nothing-before (acceptedIn cs (codesOf (answersFrom (freshDay single) cs)))
+counted single cs =
+    tallied (λ p. p .day .updates) one enters (λ p q ss R. ap (λ y. y .updates) (R .same) ∙ run-updates ss (p .day)) steps-enter cs (freshDay single) marks-fresh
+    ∙ nothing-before (acceptedIn cs (codesOf (answersFrom (freshDay single) cs)))
 
 -- a fill tells what the revision that the number means, if it is out, has of its own; of a number not given out nothing
 abbrev toldBy : PlainDay → Bool → ℕ → ℕ

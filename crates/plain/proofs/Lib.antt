@@ -1,4 +1,4 @@
--- The starred edges by computing, code 1, which does not arise, one line-up for every list of calls, previews, syncs, orders, own updates that add up, and right boards.
+-- The starred edges by computing, code 1, which does not arise, one line-up for every list of calls, previews, syncs, orders, own updates that add up, bills, and right boards.
 pub mod Edges
 pub mod Ends
 pub mod Bundles
@@ -9,7 +9,8 @@ pub mod Previews
 pub mod Syncs
 pub mod Marks
 pub mod Orders
-pub mod LineUp
 pub mod Fills
+pub mod Bills
+pub mod LineUp
 pub mod Boards
 mod Announced

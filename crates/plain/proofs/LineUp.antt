@@ -37,6 +37,7 @@ use Rattle.plain.proofs.Exactly.{exactly}
 use Rattle.plain.proofs.Values.{fill-value, fork-none, fork-takes, fork-value, join-value}
 use Rattle.plain.proofs.Previews.{foresees}
 use Rattle.plain.proofs.Orders.{own-orders, verified}
+use Rattle.plain.proofs.Bills.{billed}
 use Rattle.plain.proofs.Syncs.{never-ten, on-single-main, sync-is}
 use Rattle.plain.proofs.Marks.{on-marks}
 use Rattle.plain.proofs.Steps.{after-steps, all-accepted, day-both, did, marks-after, marks-next, named, ran, same-day, taken-steps}
@@ -303,4 +304,5 @@ module _ (single : Bool) (cs : List (Call ℕ)) where
     marks = on-marks single cs;
     verified = λ before rest file T. verified single before file (T .code);
     own-orders = own-orders single cs;
+    billed = billed single cs;
   }

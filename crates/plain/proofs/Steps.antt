@@ -1,5 +1,5 @@
 -- The calls that are taken are a run of accepted steps of the day of revisions, and no entry changes once it is noted.
-use Prim.Native.Nat.{_<_, _≤_, ℕ}
+use Prim.Native.Nat.{_+_, _<_, _≤_, ℕ}
 use mathlib.Core.Bool.{Bool, cond, false, true}
 use mathlib.Core.Path.{_∙_, _≡_, ap, refl, subst, sym}
 use mathlib.Core.Option.{none}
@@ -11,7 +11,7 @@ use Rattle.lists.proofs.Cases.{cases}
 use Rattle.lists.proofs.Changed.{changed-other}
 use Rattle.bundles.specs.declared.entry.Entry.{Entry}
 use Rattle.boards.specs.Board.{boardBytes}
-use Rattle.desk.specs.Calls.{Bundle, Call, Fill, Fork, Join, Looks, Preview, Query, Show, Sync, Mark, Drop, Update, Verify, Yield, entriesOf}
+use Rattle.desk.specs.Calls.{Bundle, Call, Fill, Fork, Join, Looks, Preview, Query, Show, Sync, Mark, Drop, Update, Verify, Bill, Yield, entriesOf}
 use Rattle.desk.specs.Checks.{checks}
 use Rattle.desk.proofs.Checks.{Ends, no, yes, ends}
 use Rattle.diagram.proofs.Order.Runs.{accepted-both, along, named-run, run-both}
@@ -24,7 +24,7 @@ use Rattle.diagram.specs.Steps.{Event, Step, after, run, runFrom}
 use Rattle.diagram.specs.Accepted.{Accepted, AcceptedFrom, accepted}
 use Rattle.plain.proofs.Ends.{boxes-pass, drop-accepts, fork-accepts, join-passes, mark-accepts, query-accepts, update-accepts, was-taken, yield-accepts}
 use Rattle.plain.proofs.Bundles.{after-bundled, one-never, sent-first, sent-never}
-use Rattle.plain.specs.Answers.{Outcome, asOne, asked, bundled, called, dayAfter, dayFrom, ending, joined, refused, sent, stepped}
+use Rattle.plain.specs.Answers.{Outcome, asOne, asked, bundled, called, dayAfter, dayFrom, ending, joined, refused, sent, startsBox, stepped}
 use Rattle.plain.specs.Taken.{Taken, bundleSteps, endOf, stepOf, stepsAfter, stepsFrom, stepsOf}
 use Rattle.plain.specs.Record.{PlainDay, freshDay}
 
@@ -56,6 +56,7 @@ ending-fair p (Looks (Show n room)) = good refl
 ending-fair p (Looks (Fill n)) = good refl
 ending-fair p (Looks (Preview n m bib)) = good refl
 ending-fair p (Looks (Verify file)) = good refl
+ending-fair p (Looks (Bill member)) = good refl
 
 pub called-fair : (p : PlainDay) (c : Call ℕ) → Fair p (called p c)
 unfolding called
@@ -73,17 +74,27 @@ not-one (bad k h) e = omega arith
 pub never-one : (p : PlainDay) (c : Call ℕ) → called p c .answer .code ≡ 1 → ⊥
 never-one p c = not-one (called-fair p c)
 
--- a run of accepted steps from one day to another; no entry changes once it is noted, and the choice given to fresh stays
+-- what some steps come to, each counted by a function
+abbrev pub sumOver : (Step → ℕ) → List Step → ℕ
+sumOver f [] = 0
+sumOver f (s ∷ ss) = f s + sumOver f ss
+
+pub sum-both : (f : Step → ℕ) (ss ts : List Step) → sumOver f (ss ++ ts) ≡ sumOver f ss + sumOver f ts
+sum-both f [] ts = omega arith
+sum-both f (s ∷ ss) ts = let z = sum-both f ss ts in omega arith
+
+-- a run of accepted steps from one day to another; no entry changes once it is noted, the choice given to fresh stays, and each box started is counted
 pub record RanTo (p q : PlainDay) (ss : List Step) : Type 0 where
   pub accepts : AcceptedFrom (p .day) ss
   pub same : q .day ≡ runFrom (p .day) ss
   pub more : p .day .updates ≤ q .day .updates
   pub kept : (i : ℕ) → i < p .day .updates → q .entries i ≡ p .entries i
   pub choice : q .single ≡ p .single
+  pub boxes : q .started ≡ sumOver startsBox ss + p .started
 
 ran-none : (p : PlainDay) → RanTo p p []
 unfolding runFrom
-ran-none p = record { accepts = tt; same = refl; more = omega arith; kept = λ i l. refl; choice = refl }
+ran-none p = record { accepts = tt; same = refl; more = omega arith; kept = λ i l. refl; choice = refl; boxes = omega arith }
 
 ran-both : (p q x : PlainDay) (ss ts : List Step) → RanTo p q ss → RanTo q x ts → RanTo p x (ss ++ ts)
 ran-both p q x ss ts R T = record {
@@ -92,6 +103,7 @@ ran-both p q x ss ts R T = record {
   more = (let a = R .more in let b = T .more in omega arith);
   kept = λ i l. T .kept i (let a = R .more in omega arith) ∙ R .kept i l;
   choice = T .choice ∙ R .choice;
+  boxes = (let a = R .boxes in let b = T .boxes in let z = sum-both startsBox ss ts in omega arith);
 }
 
 -- one step
@@ -104,17 +116,17 @@ more-after y (Steps.Fork r name) = omega arith
 more-after y (Steps.Join a b) = omega arith
 more-after y (Steps.Drop r) = omega arith
 
-ran-one : (p q : PlainDay) (s : Step) → accepted (p .day) s ≡ true → q .day ≡ after (p .day) s → ((i : ℕ) → i < p .day .updates → q .entries i ≡ p .entries i) → q .single ≡ p .single → RanTo p q (s ∷ [])
+ran-one : (p q : PlainDay) (s : Step) → accepted (p .day) s ≡ true → q .day ≡ after (p .day) s → ((i : ℕ) → i < p .day .updates → q .entries i ≡ p .entries i) → q .single ≡ p .single → q .started ≡ startsBox s + p .started → RanTo p q (s ∷ [])
 unfolding runFrom
-ran-one p q s a e k f = record { accepts = (a, tt); same = e; more = rw e (more-after (p .day) s); kept = k; choice = f }
+ran-one p q s a e k f b = record { accepts = (a, tt); same = e; more = rw e (more-after (p .day) s); kept = k; choice = f; boxes = omega (arith, b) }
 
 ran-step : (p : PlainDay) (s : Step) → accepted (p .day) s ≡ true → RanTo p (stepped p s) (s ∷ [])
-ran-step p s a = ran-one p (stepped p s) s a refl (λ i l. refl) refl
+ran-step p s a = ran-one p (stepped p s) s a refl (λ i l. refl) refl refl
 
 update-ran : (p : PlainDay) (c n k bib v : ℕ) → called p (Update c n k bib v) .answer .code ≡ 0 → RanTo p (called p (Update c n k bib v) .next) (Event c (meant (p .day) n) true ∷ [])
 update-ran p c n k bib v e =
     let w = was-taken p (Update c n k bib v) e in
-    rw (w .1) (ran-one p _ (Event c (meant (p .day) n) true) (update-accepts p c n k bib v (w .0)) refl (λ i l. changed-other (p .entries) (p .day .updates) _ i (λ q. omega arith)) refl)
+    rw (w .1) (ran-one p _ (Event c (meant (p .day) n) true) (update-accepts p c n k bib v (w .0)) refl (λ i l. changed-other (p .entries) (p .day .updates) _ i (λ q. omega arith)) refl (omega arith))
 
 update-bearer : (p : PlainDay) (c n k bib v m : ℕ) → called p (Update c n k bib v) .answer .code ≡ 0 → meant (called p (Update c n k bib v) .next .day) m ≡ meant (p .day) m
 unfolding isGiven meant after

@@ -14,7 +14,7 @@ use Rattle.diagram.specs.Day.{Day, IsOut, IsIdle, isGiven, meant}
 use Rattle.diagram.specs.Steps as Steps
 use Rattle.diagram.specs.Steps.{Event}
 use Rattle.diagram.specs.Lawful.{MayFollow, EachMayFollow}
-use Rattle.desk.specs.Calls.{Call, Update, Query, Yield, Fork, Join, Sync, Mark, Drop, Bundle, Looks, Show, Fill, Preview, Verify, Batch, Records, Entries, entriesOf}
+use Rattle.desk.specs.Calls.{Call, Update, Query, Yield, Fork, Join, Sync, Mark, Drop, Bundle, Looks, Show, Fill, Preview, Verify, Bill, Batch, Records, Entries, entriesOf}
 use Rattle.plain.specs.Answers.{shownAt}
 use Rattle.plain.specs.Taken.{endOf, stepsAfter, bundleSteps}
 
@@ -83,3 +83,5 @@ Allowed single before (Looks (Fill n)) = Meaning (endOf single before) n (IsOut 
 Allowed single before (Looks (Preview n m bib)) = JoinAllowed single before n m × IsBib bib
 -- 02, U13: any file that is no bad list
 Allowed single before (Looks (Verify file)) = IsList file
+-- 02, U14: always
+Allowed single before (Looks (Bill member)) = Unit {0}

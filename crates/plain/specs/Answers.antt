@@ -1,6 +1,6 @@
 -- What each call answers and does to the day: 01, "The plain day and its line-up": "this record and the table of codes decide each call". The table of
 -- codes is `checks` of crate desk.
-use Prim.Native.Nat.{ℕ, _*_}
+use Prim.Native.Nat.{ℕ, _+_, _*_}
 use mathlib.Core.Bool.{Bool, false, cond, not, _&&_}
 use mathlib.Core.Option.{Option, none, some}
 use mathlib.Core.List.{List, [], _∷_}
@@ -12,7 +12,8 @@ use Rattle.bundles.specs.declared.entry.Entry as Sent
 use Rattle.orderfile.specs.File.{numbersIn}
 use Rattle.orderfile.specs.Test.{fits}
 use Rattle.boards.specs.Board.{boardBytes}
-use Rattle.desk.specs.Calls.{Call, Update, Query, Yield, Fork, Join, Sync, Mark, Drop, Bundle, Looks, Look, Show, Fill, Preview, Verify, Answer, plainly, reading, level, entriesOf}
+use Rattle.bills.specs.Bill.{bill}
+use Rattle.desk.specs.Calls.{Call, Update, Query, Yield, Fork, Join, Sync, Mark, Drop, Bundle, Looks, Look, Show, Fill, Preview, Verify, Bill, Answer, plainly, reading, level, entriesOf}
 use Rattle.desk.specs.Checks.{Tests, checks, settle}
 use Rattle.diagram.specs.Effects.{own, view}
 use Rattle.diagram.specs.Day.{Day, isGiven, isNamed, markNamed, meant, nextNumber}
@@ -67,9 +68,18 @@ taken p value = record { next = p; answer = plainly 0 value [] }
 abbrev pub settled : PlainDay → Call ℕ → Outcome → Outcome
 settled p c end = settle (checks (asked p) c) (refused p) end
 
+-- 02, U14: "reused numbers counted again and marks not counted": each fork that gives no name starts a box
+abbrev pub startsBox : Steps.Step → ℕ
+startsBox (Steps.Event c r u) = 0
+startsBox (Steps.Yield c) = 0
+startsBox (Steps.Fork r none) = 1
+startsBox (Steps.Fork r (some name)) = 0
+startsBox (Steps.Join a b) = 0
+startsBox (Steps.Drop r) = 0
+
 -- the day of revisions goes on, and no update was taken
 abbrev pub stepped : PlainDay → Steps.Step → PlainDay
-stepped p s = record { single = p .single; day = after (p .day) s; entries = p .entries }
+stepped p s = record { single = p .single; day = after (p .day) s; entries = p .entries; started = startsBox s + p .started }
 
 -- "Values when taken: update, the count of updates taken before it"
 abbrev pub updated : PlainDay → ℕ → ℕ → ℕ → ℕ → ℕ → Outcome
@@ -121,6 +131,8 @@ told p (Fill n) = level (length (ownAt (p .day) (meant (p .day) n))) (p .day .up
 told p (Preview n m bib) = reading (pathResult (joined p n m .next) (length (p .day .diagram)) bib) (joined p n m .answer .value) []
 -- 02, U13: "Say yes, value 1, and else value 0"
 told p (Verify file) = plainly 0 (cond (fitsDay (p .day) (numbersIn file)) 1 0) []
+-- 02, U14: the boxes started and the updates taken, in cents
+told p (Bill member) = plainly 0 (bill (p .started) (p .day .updates) member) []
 
 -- how a call ends that no check stops
 abbrev pub ending : PlainDay → Call ℕ → Outcome

@@ -1,6 +1,6 @@
--- 01, "Edges of a race day": the starred edges E1 to E9 as one table of calls with what each gives; and 02, U1 to U4, U6 to U10 and U13.
+-- 01, "Edges of a race day": the starred edges E1 to E9 as one table of calls with what each gives; and 02, U1 to U4, U6 to U10, U13 and U14.
 use Prim.Native.Nat.{ℕ, zero, suc}
-use mathlib.Core.Bool.{Bool}
+use mathlib.Core.Bool.{Bool, true, false}
 use mathlib.Core.List.{List, [], _∷_, _++_}
 use lib.ListN.{replicate}
 use Rattle.lists.specs.Names.{Name}
@@ -8,7 +8,7 @@ use Rattle.updates.specs.declared.standing.Standing.the-variants.{At, Struck}
 use Rattle.bundles.specs.declared.entry.Entry as Sent
 use Rattle.orderfile.specs.File.{fileOf}
 use Rattle.boards.specs.Board.{boardBytes}
-use Rattle.desk.specs.Calls.{Call, Update, Query, Yield, Fork, Join, Sync, Mark, Drop, Bundle, Looks, Show, Fill, Preview, Verify, Entries, Records, Answer, plainly, reading, level, answerOn}
+use Rattle.desk.specs.Calls.{Call, Update, Query, Yield, Fork, Join, Sync, Mark, Drop, Bundle, Looks, Show, Fill, Preview, Verify, Bill, Entries, Records, Answer, plainly, reading, level, answerOn}
 use Rattle.plain.specs.Answers.{answers}
 
 -- what a call gives, the sheet apart
@@ -61,6 +61,9 @@ preview n m bib = Looks (Preview n m bib)
 
 abbrev verify : List ℕ → Call ℕ
 verify numbers = Looks (Verify (fileOf numbers))
+
+abbrev bill : Bool → Call ℕ
+bill member = Looks (Bill member)
 
 -- the calls that a board is lent to, with one of the right length
 abbrev pub yield : ℕ → Call ℕ
@@ -340,6 +343,30 @@ boards =
     ∷ edge
     (Fork 0 ∷ Update 0 1 time 7 50 ∷ Yield 0 5001 ∷ Join 0 1 5001 ∷ join 0 1 ∷ yield 0 ∷ Sync 1 4999 ∷ Join 0 1 0 ∷ fill 1 ∷ sync 1 ∷ Join 0 1 0 ∷ join 0 1 ∷ [])
     (ok 1 ∷ ok 0 ∷ refusal 19 ∷ refusal 19 ∷ refusal 7 ∷ ok 0 ∷ refusal 19 ∷ refusal 19 ∷ filled 1 1 ∷ ok 2 ∷ refusal 19 ∷ refusal 4 ∷ [])
+    ∷ []
+
+-- bundles on box 0, some of 64 updates and one of a few more
+abbrev batches : ℕ → ℕ → List (Call ℕ)
+batches n few = replicate n (lends 0 0 (replicate 64 (lent time 7 5))) ++ (lends 0 0 (replicate few (lent time 7 5)) ∷ [])
+
+-- 02, U14: the rental bill
+abbrev pub bills : List Edge
+bills =
+    -- "Eight boxes and 1,201 updates cost a member 2,878 cents; three boxes and 250 updates cost 2,000."
+    edge
+    (forks 7 ++ (batches 18 49 ++ (bill true ∷ bill false ∷ [])))
+    (upFrom 1 7 ++ (ok 0 ∷ ok 64 ∷ ok 128 ∷ ok 192 ∷ ok 256 ∷ ok 320 ∷ ok 384 ∷ ok 448 ∷ ok 512 ∷ ok 576 ∷ ok 640 ∷ ok 704 ∷ ok 768 ∷ ok 832 ∷ ok 896 ∷ ok 960
+    ∷ ok 1024 ∷ ok 1088 ∷ ok 1152 ∷ ok 2878 ∷ ok 3385 ∷ []))
+    ∷ edge (forks 2 ++ (batches 3 58 ++ (bill false ∷ bill true ∷ []))) (upFrom 1 2 ++ (ok 0 ∷ ok 64 ∷ ok 128 ∷ ok 192 ∷ ok 2000 ∷ ok 2000 ∷ []))
+    -- never below 2,000; of six boxes 2,100, with 100 updates one hundred more, with 101 two, and the discount comes before the least
+    ∷ edge
+    (bill false ∷ bill true ∷ forks 5 ++ (bill false ∷ batches 1 36 ++ (bill false ∷ Update 0 0 time 7 5 ∷ bill false ∷ bill true ∷ [])))
+    (ok 2000 ∷ ok 2000 ∷ upFrom 1 5 ++ (ok 2100 ∷ ok 0 ∷ ok 64 ∷ ok 2145 ∷ ok 100 ∷ ok 2190 ∷ ok 2000 ∷ []))
+    -- of seven boxes 2,450, and a member's discount of 367.50 rounded down; a mark and a refused fork start no box, a fork of the mark and a sync do; a
+    -- box handed in has been started
+    ∷ edge
+    (forks 6 ++ (bill false ∷ bill true ∷ Mark 0 past ∷ bill false ∷ Fork 9 ∷ bill false ∷ Fork 7 ∷ bill false ∷ sync 1 ∷ bill false ∷ sync 1 ∷ join 0 2 ∷ Drop past ∷ bill false ∷ bill true ∷ []))
+    (upFrom 1 6 ++ (ok 2450 ∷ ok 2083 ∷ ok 7 ∷ ok 2450 ∷ refusal 3 ∷ ok 2450 ∷ ok 8 ∷ ok 2800 ∷ ok 9 ∷ ok 3150 ∷ refusal 4 ∷ ok 0 ∷ ok 0 ∷ ok 3150 ∷ ok 2678 ∷ []))
     ∷ []
 
 abbrev pub said : {S : Type 0} → List (Answer S) → List Said

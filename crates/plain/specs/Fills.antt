@@ -28,11 +28,14 @@ enters (Drop name) = 0
 enters (Bundle c n batch room) = length (entriesOf batch)
 enters (Looks l) = 0
 
--- the history: the calls and the codes of their answers; a call with code 0 was accepted
-unfoldable pub acceptedIn : List (Call ℕ) → List ℕ → ℕ
-acceptedIn [] codes = 0
-acceptedIn (c ∷ cs) [] = 0
-acceptedIn (c ∷ cs) (code ∷ codes) = cond (eqb code 0) (enters c) 0 + acceptedIn cs codes
+-- the history: the calls and the codes of their answers; a call with code 0 was accepted, and comes to as many as `counts` says
+unfoldable pub tally : (Call ℕ → ℕ) → List (Call ℕ) → List ℕ → ℕ
+tally counts [] codes = 0
+tally counts (c ∷ cs) [] = 0
+tally counts (c ∷ cs) (code ∷ codes) = cond (eqb code 0) (counts c) 0 + tally counts cs codes
+
+abbrev pub acceptedIn : List (Call ℕ) → List ℕ → ℕ
+acceptedIn cs codes = tally enters cs codes
 
 abbrev pub codesOf : {S : Type 0} → List (Answer S) → List ℕ
 codesOf [] = []

@@ -1,5 +1,5 @@
 -- What a reader has to believe of whole days: the record on paper, each call's answer, the claim about every
--- list of calls, and 02's U1, U4, U6, U8, U9, U10 and U13. It is fed the calls' arguments alone.
+-- list of calls, and 02's U1, U4, U6, U8, U9, U10, U13 and U14. It is fed the calls' arguments alone.
 pub mod Record
 pub mod Answers
 pub mod Edges
@@ -12,5 +12,6 @@ pub mod Syncs
 pub mod Marks
 pub mod Orders
 pub mod Boards
-pub mod LineUp
 pub mod Fills
+pub mod Bills
+pub mod LineUp

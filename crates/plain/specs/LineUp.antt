@@ -31,6 +31,7 @@ use Rattle.plain.specs.Previews.{Foresees}
 use Rattle.plain.specs.Syncs.{OnSingleMain, Synced}
 use Rattle.plain.specs.Orders.{GetsYes, Verified}
 use Rattle.plain.specs.Marks.{OnMarks}
+use Rattle.plain.specs.Bills.{Billed}
 
 -- what is shown at vertex x, in the order of a line-up, with the state and value of one bib
 pub record AnsweredBy (single : Bool) (cs : List (Call ℕ)) (order : List ℕ) (x bib : ℕ) (answer : Answer (List Line)) : Type 0 where
@@ -111,3 +112,5 @@ pub record LineUp (single : Bool) (cs : List (Call ℕ)) : Type 0 where
   pub verified : (before rest : List (Call ℕ)) (file : List ℕ) → Taken single cs before (Looks (Verify file)) rest
       → Verified (endOf single before) file (called (dayAfter single before) (Looks (Verify file)) .answer)
   pub own-orders : (own : List ℕ) → Explains (endOf single cs) own → GetsYes single cs own
+  -- 02, U14: bills by the history, at every place, and none lower than one before it
+  pub billed : Billed single cs

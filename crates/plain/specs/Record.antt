@@ -19,15 +19,16 @@ pub record Line : Type 0 where
   pub number : ℕ
 
 -- "It keeps the diagram, .. the updates taken, numbered from 0, .."; and "whatever a request's rules go by, such as .. a choice given to fresh, joins
--- the record": 02, U8, whether it is a single-main day
+-- the record": 02, U8, whether it is a single-main day; U14, "each box ever started, the main box included"
 pub record PlainDay : Type 0 where
   pub single : Bool
   pub day : Day
   pub entries : ℕ → Entry
+  pub started : ℕ
 
 -- "It begins with box 0 out, at the root": no update has been taken yet. "Fresh gains a choice of such a day."
 abbrev pub freshDay : Bool → PlainDay
-freshDay single = record { single = single; day = Day.fresh; entries = λ n. record { kind = Time; client = 0; bib = 0; v = 0 } }
+freshDay single = record { single = single; day = Day.fresh; entries = λ n. record { kind = Time; client = 0; bib = 0; v = 0 }; started = 1 }
 
 -- the updates of one bib among some numbers, "applied to the fresh values"
 abbrev pub standingOf : (ℕ → Entry) → ℕ → List ℕ → Standing
@@ -49,4 +50,5 @@ noted p c r kind bib v = record {
   single = p .single;
   day = after (p .day) (Event c r true);
   entries = changed (p .entries) (p .day .updates) (record { kind = kind; client = c; bib = bib; v = v });
+  started = p .started;
 }

@@ -15,18 +15,18 @@ use Rattle.lists.specs.Names.{Name}
 use Rattle.lists.proofs.Cases.{cases}
 use Rattle.cells.specs.Sizes.{lowerBytes, revisions, clients, closed, main, stateOut, stateJoined, stateMarked}
 use Rattle.cells.specs.Parts.{Parts, Sized, parts, offset, size, split, glue, wrote, _⟨_≔_⟩, rowsPart, lowPart, highPart, seenPart, caughtPart, statePart, usedPart, lastPart, firstPart}
-use Rattle.cells.specs.Parts.{countPart, basePart, layoutPart, queuePart, openedPart, countersPart, namesPart, singlePart, settledPart, signaturePart}
+use Rattle.cells.specs.Parts.{countPart, basePart, layoutPart, queuePart, openedPart, countersPart, namesPart, singlePart, settledPart, startedPart, signaturePart}
 use Rattle.cells.specs.Range.{signature}
 use Rattle.cells.specs.Words.{putWord, putHalf, putName}
 use Rattle.cells.specs.Flags.{pack, putRow}
 use Rattle.cells.specs.Decode.{decode}
 use Rattle.lists.specs.Pool.{forkPool, joinPool}
-use Rattle.cells.specs.CellSteps.{counted, oneFewer, closeSettled, forkCaught, forkRow, joinCaught}
-use Rattle.cells.specs.Steps.{queryParts, linkParts, appendParts, putRowOf, inheritParts, forkParts, spliceParts, mergeParts, dropParts}
+use Rattle.cells.specs.CellSteps.{counted, oneFewer, closeSettled, forkCaught, forkRow, forkStarted, joinCaught}
+use Rattle.cells.specs.Steps.{queryParts, linkParts, appendParts, putRowOf, inheritParts, branchParts, spliceParts, mergeParts, dropParts}
 use Rattle.cells.specs.Steps.{freshBytes, queryBytes, updateBytes, closeBytes, forkBytes, markBytes, joinBytes, dropBytes}
 use Rattle.cells.proofs.Parts.{Holds, glue-split, holds-split, holds-put, holds-step, holds-wrote, sized-with, split-is, with-same}
 use Rattle.cells.proofs.Words.{putWord-length, putHalf-length, putName-length}
-use Rattle.cells.proofs.Sized.{append-sized, caught-sized, caughtRow-sized, drop-sized, fork-sized, inherit-sized}
+use Rattle.cells.proofs.Sized.{append-sized, caught-sized, caughtRow-sized, branch-sized, drop-sized, inherit-sized}
 use Rattle.cells.proofs.Sized.{layout-sized, link-sized, merge-sized, query-sized, row-sized, seen-sized, seenRow-sized, splice-sized}
 use Rattle.cells.proofs.Places.{insert-length, remove-length}
 use Rattle.revisions.specs.Pieces.{freshCounts, freshRevisions, numberParts, startParts}
@@ -77,9 +77,9 @@ start-sized {p} h q c n =
     let e = layout-sized b (insertBefore q c (p layoutPart)) (insert-length q c (p layoutPart)) in
     sized-with e countersPart (set (p countersPart) 2 n) (length-set (p countersPart) 2 n ∙ h .of countersPart)
 
--- the pieces of a fork are the fork: where a number was never used the queue stays, else the count of those given out
-forked : (p : Parts) (q c : ℕ) → numberParts (startParts (inheritParts p q c) q c (suc (decode p .out))) (decode p .given) ≡ forkParts p q c
-forked p q c = cases (ltb (decode p .given) revisions)
+-- the pieces of a branch are the branch: where a number was never used the queue stays, else the count of those given out
+branched : (p : Parts) (q c : ℕ) → numberParts (startParts (inheritParts p q c) q c (suc (decode p .out))) (decode p .given) ≡ branchParts p q c
+branched p q c = cases (ltb (decode p .given) revisions)
     (λ e. rw e (with-twice T countersPart _ _ ∙ ap (λ r. r ⟨ countersPart ≔ set A 3 (suc (decode p .given)) ⟩) (sym (with-same T queuePart))))
     (λ e. rw e (with-swap T countersPart queuePart A _ (λ f. absurd (omega arith)) ∙ ap (λ r. T ⟨ queuePart ≔ restOf (p queuePart) ++ (1 ∷ []) ⟩ ⟨ countersPart ≔ r ⟩) (sym stays)))
   where
@@ -231,22 +231,30 @@ module _ (d : List ℕ) (l : length d ≡ lowerBytes) where
   pub again-done : (d₁ : List ℕ) (g : ℕ) → revisions ≤ g → d₁ ≡ wrote d queuePart (restOf (split d queuePart) ++ (1 ∷ [])) → d₁ ≡ glue (numberParts (split d) g)
   again-done d₁ g h e = e ∙ rw (le-ltb g revisions h)
 
-  pub fork-done : (d₁ d₂ d₃ : List ℕ) (q c o g : ℕ) → c < revisions → o ≡ decode (split d) .out → g ≡ decode (split d) .given
-      → d₁ ≡ glue (inheritParts (split d) q c) → d₂ ≡ glue (startParts (split d₁) q c (o + 1)) → d₃ ≡ glue (numberParts (split d₂) g) → d₃ ≡ forkBytes d q c
-  unfolding forkBytes
-  fork-done d₁ d₂ d₃ q c o g cl eo eg e₁ e₂ e₃ =
+  pub branch-done : (d₁ d₂ d₃ : List ℕ) (q c o g : ℕ) → c < revisions → o ≡ decode (split d) .out → g ≡ decode (split d) .given
+      → d₁ ≡ glue (inheritParts (split d) q c) → d₂ ≡ glue (startParts (split d₁) q c (o + 1)) → d₃ ≡ glue (numberParts (split d₂) g) → d₃ ≡ glue (branchParts (split d) q c)
+  branch-done d₁ d₂ d₃ q c o g cl eo eg e₁ e₂ e₃ =
       let h = holds-split d l in
       let h₁ = holds-step (λ p. inheritParts p q c) h e₁ (inherit-sized (h .sized) q c cl) in
       let h₂ = holds-step (λ p. startParts p q c (o + 1)) h₁ e₂ (start-sized (h₁ .sized) q c (o + 1)) in
-      e₃ ∙ ap (λ p. glue (numberParts p g)) (split-is h₂) ∙ rw (add-one, eo, eg) (ap glue (forked (split d) q c))
+      e₃ ∙ ap (λ p. glue (numberParts p g)) (split-is h₂) ∙ rw (add-one, eo, eg) (ap glue (branched (split d) q c))
+
+  -- and a box is started
+  pub fork-done : (d₁ d₂ : List ℕ) (q c v : ℕ) → c < revisions → v ≡ forkStarted (decode (split d)) → d₁ ≡ glue (branchParts (split d) q c)
+      → d₂ ≡ wrote d₁ startedPart (putWord (split d₁ startedPart) 0 v) → d₂ ≡ forkBytes d q c
+  unfolding forkBytes
+  fork-done d₁ d₂ q c v cl ev e₁ e₂ =
+      let h = holds-split d l in
+      let h₁ = holds-step (λ p. branchParts p q c) h e₁ (branch-sized (h .sized) q c cl) in
+      word-wrote startedPart 0 v h₁ e₂ .eq ∙ rw ev
 
   pub mark-done : (d₁ d₂ d₃ : List ℕ) (q c : ℕ) (n : Name) → c < revisions
-      → d₁ ≡ forkBytes d q c → d₂ ≡ wrote d₁ statePart (set (split d₁ statePart) c stateMarked)
+      → d₁ ≡ glue (branchParts (split d) q c) → d₂ ≡ wrote d₁ statePart (set (split d₁ statePart) c stateMarked)
       → d₃ ≡ wrote d₂ namesPart (putName (split d₂ namesPart) c n) → d₃ ≡ markBytes d q c n
-  unfolding forkBytes markBytes
+  unfolding markBytes
   mark-done d₁ d₂ d₃ q c n cl e₁ e₂ e₃ =
       let h = holds-split d l in
-      let h₁ = holds-step (λ p. forkParts p q c) h e₁ (fork-sized (h .sized) q c cl) in
+      let h₁ = holds-step (λ p. branchParts p q c) h e₁ (branch-sized (h .sized) q c cl) in
       let h₂ = byte-wrote statePart c stateMarked h₁ e₂ in
       let s = putName-length (split d namesPart) c n ∙ h .sized .of namesPart in
       holds-wrote namesPart (λ t. putName t c n) h₂ e₃ s .eq ∙ rw (set-set (split d statePart) c stateOut stateMarked)
@@ -262,13 +270,18 @@ unfolding size signature
 fresh-counts-sized h =
     sized-with (sized-with (sized-with h openedPart (replicate clients closed) refl) countersPart (0 ∷ 0 ∷ 1 ∷ 1 ∷ []) refl) signaturePart signature refl
 
-pub fresh-done : (single : Bool) (d₁ d₂ d₃ d₄ d₅ : List ℕ) → d₁ ≡ glue (λ i. replicate (size i) 0) → d₂ ≡ wrote d₁ caughtPart (pack clients (λ c r. true))
-    → d₃ ≡ glue (freshRevisions (split d₂)) → d₄ ≡ glue (freshCounts (split d₃)) → d₅ ≡ wrote d₄ singlePart (cond single 1 0 ∷ []) → d₅ ≡ freshBytes single
-unfolding freshBytes
-fresh-done single d₁ d₂ d₃ d₄ d₅ e₁ e₂ e₃ e₄ e₅ =
+pub fresh-done : (single : Bool) (d₁ d₂ d₃ d₄ d₅ d₆ : List ℕ) → d₁ ≡ glue (λ i. replicate (size i) 0) → d₂ ≡ wrote d₁ caughtPart (pack clients (λ c r. true))
+    → d₃ ≡ glue (freshRevisions (split d₂)) → d₄ ≡ glue (freshCounts (split d₃)) → d₅ ≡ wrote d₄ singlePart (cond single 1 0 ∷ [])
+    → d₆ ≡ wrote d₅ startedPart (1 ∷ 0 ∷ []) → d₆ ≡ freshBytes single
+unfolding freshBytes size
+fresh-done single d₁ d₂ d₃ d₄ d₅ d₆ e₁ e₂ e₃ e₄ e₅ e₆ =
     let z : Sized (λ i. replicate (size i) 0) = record { of = λ i. length-replicate (size i) 0 } in
     let h₁ : Holds d₁ (λ i. replicate (size i) 0) = record { eq = e₁; sized = z } in
     let h₂ = caught-wrote (λ f c r. true) h₁ e₂ in
     let h₃ = holds-step freshRevisions h₂ e₃ (fresh-revisions-sized (h₂ .sized)) in
     let h₄ = holds-step freshCounts h₃ e₄ (fresh-counts-sized (h₃ .sized)) in
-    e₅ ∙ ap (λ p. glue (p ⟨ singlePart ≔ cond single 1 0 ∷ [] ⟩)) (split-is h₄) ∙ ap glue (with-swap _ signaturePart singlePart signature (cond single 1 0 ∷ []) (λ e. absurd (omega arith)))
+    let h₅ = holds-wrote singlePart (λ t. cond single 1 0 ∷ []) h₄ e₅ refl in
+    let h₆ = holds-wrote startedPart (λ t. 1 ∷ 0 ∷ []) h₅ e₆ refl in
+    h₆ .eq
+    ∙ ap (λ p. glue (p ⟨ startedPart ≔ 1 ∷ 0 ∷ [] ⟩)) (with-swap _ signaturePart singlePart signature (cond single 1 0 ∷ []) (λ e. absurd (omega arith)))
+    ∙ ap glue (with-swap _ signaturePart startedPart signature (1 ∷ 0 ∷ []) (λ e. absurd (omega arith)))

@@ -4,7 +4,7 @@ ghost use mathlib.Core.List.{[], _∷_};
 ghost use mathlib.Core.Path.{_≡_};
 ghost use lib.ListN.{length};
 ghost use Rattle.cells.specs.Sizes.{lowerBytes};
-ghost use Rattle.cells.specs.Parts.{glue, singlePart, split, wrote};
+ghost use Rattle.cells.specs.Parts.{glue, singlePart, split, startedPart, wrote};
 ghost use Rattle.cells.specs.Steps.{freshBytes};
 ghost use Rattle.revisions.specs.Pieces.{freshCounts, freshRevisions};
 use buffers::clear::clear;
@@ -48,6 +48,15 @@ fn put_choice(d: &mut [u8], single: bool)
     put(d, parts::SINGLE, &choice);
 }
 
+// The main box is started (02, U14).
+fn put_started(d: &mut [u8])
+    requires { ⌜ length (now d) ≡ lowerBytes ⌝ }
+    ensures { λ _. ⌜ now (d .exit) ≡ wrote (now (d .entry)) startedPart (1 ∷ 0 ∷ []) ⌝ }
+{
+    let started = Table::fresh_started();
+    put(d, parts::STARTED, &started);
+}
+
 pub fn fresh(d: &mut [u8], single: bool)
     requires { ⌜ length (now d) ≡ lowerBytes ⌝ }
     ensures { λ _. ⌜ now (d .exit) ≡ freshBytes single ⌝ }
@@ -57,4 +66,5 @@ pub fn fresh(d: &mut [u8], single: bool)
     put_revisions(d);
     put_counts(d);
     put_choice(d, single);
+    put_started(d);
 }

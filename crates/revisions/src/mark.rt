@@ -16,7 +16,7 @@ pub fn mark(d: &mut [u8], parent: Revision, mark: Revision, name: &[u8])
     requires { ⌜ (length (now d) ≡ lowerBytes) × (inRange (now d) ≡ true) × (parent .0 < revisions) × (0 < mark .0) × (mark .0 < revisions) × (length (now name) ≡ 4) ⌝ }
     ensures { λ _. ⌜ now (d .exit) ≡ markBytes (now (d .entry)) (parent .0) (mark .0) (now (name .entry)) ⌝ }
 {
-    fork::fork(d, parent, mark);
+    fork::branch(d, parent, mark);
     write::state(d, mark, Table::STATE_MARKED);
     write::name(d, mark, name);
 }

@@ -77,6 +77,9 @@ impl Table {
     // The limit of a count of revisions, 0 to 64, and of an open transaction's cell, which may be closed.
     pub const REVISIONS_LIMIT: usize = Table::REVISIONS + 1;
 
+    // Where the count of boxes started stops (02, U14).
+    pub const STARTED_MOST: usize = 65535;
+
     // The main revision is out, and no other number was given out.
     pub fn fresh_state() -> [u8; Table::REVISIONS]
         ensures { λ r. ⌜ r ≡ set (replicate revisions 0) main stateOut ⌝ }
@@ -105,6 +108,13 @@ impl Table {
         ensures { λ r. ⌜ r ≡ cond single 1 0 ∷ [] ⌝ }
     {
         if single { [1] } else { [0] }
+    }
+
+    // 02, U14: one box was started, the main one.
+    pub fn fresh_started() -> [u8; 2]
+        ensures { λ r. ⌜ r ≡ 1 ∷ 0 ∷ [] ⌝ }
+    {
+        [1, 0]
     }
 
     // A client without events may start anywhere: every caught-up flag, eight to a byte.

@@ -12,10 +12,11 @@ use Rattle.updates.specs.Kinds.{kindOf}
 use Rattle.updates.specs.Effect.{stateOf, valueIn}
 use Rattle.updates.specs.declared.standing.Standing.{Standing}
 use Rattle.updates.specs.declared.standing.State.the-variants.{Neither}
-use Rattle.desk.specs.Calls.{Update, Query, Yield, Fork, Join, Sync, Mark, Drop, Bundle, Looks, Show, Fill, Preview, Verify, Batch, Records, Entries, entriesOf}
+use Rattle.desk.specs.Calls.{Update, Query, Yield, Fork, Join, Sync, Mark, Drop, Bundle, Looks, Show, Fill, Preview, Verify, Bill, Batch, Records, Entries, entriesOf}
 use Rattle.desk.specs.Checks.{Tests, _if_, checks, settle}
 use Rattle.boards.specs.Board.{boardBytes, isWrongBoard}
 use Rattle.posting.specs.Brought.{boardAfter}
+use Rattle.bills.specs.Bill.{bill}
 use Rattle.orderfile.specs.File.{numbersIn}
 use Rattle.orderfile.specs.Test.{fits}
 use Rattle.cells.specs.Sizes.{revisions}
@@ -170,3 +171,13 @@ fitsTable k numbers = fits (k .updates) revisions (isOut k) (order k) numbers
 
 unfoldable pub verifyOut : List ℕ → List ℕ → Answer
 verifyOut t file = settle (checks (asked t) (Looks (Verify file))) (λ code. verdict code false) (verdict 0 (fitsTable (cellsOf t) (numbersIn file)))
+
+-- 02, U14: the boxes started and the updates taken, in cents; a refused bill has value 0
+abbrev pub noBill : ℕ → Answer
+noBill code = record { code = code; value = 0 }
+
+abbrev pub charged : Cells → Bool → Answer
+charged k member = record { code = 0; value = bill (k .started) (k .updates) member }
+
+unfoldable pub billOut : List ℕ → Bool → Answer
+billOut t member = settle (checks (asked t) (Looks (Bill member))) noBill (charged (cellsOf t) member)

@@ -2,6 +2,7 @@
 
 use calls::{Answer, Call, Code, Line, State};
 
+use crate::bill::bill;
 use crate::board::BOARD;
 use crate::bundle::bundle;
 use crate::calls::{
@@ -82,6 +83,7 @@ pub fn call(t: &mut [u8], board: &mut [u8], call: &Call) -> Result<Answer, Code>
         Call::Mark { revision, ref name } => mark(t, revision, name)?,
         Call::Drop { ref name } => drop(t, name)?,
         Call::Verify { ref order } => verify(t, order)?,
+        Call::Bill { member } => bill(t, member)?,
         Call::OnBoard { length, call: ref inner } => return call_on(t, length, inner),
     };
     Ok(Answer::accepted(value))

@@ -6,6 +6,7 @@
 
 #![forbid(unsafe_code)]
 
+mod bill;
 mod board;
 mod bundle;
 mod calls;
@@ -27,6 +28,7 @@ pub use self::calls::{
     drop, fill, fork, fresh, join, list, mark, preview, query, sync, update, yield_,
 };
 pub use self::calls::{Fill, Preview};
+pub use bill::bill;
 pub use board::{standing, standings, BOARD};
 pub use bundle::bundle;
 pub use day::{call, Day};

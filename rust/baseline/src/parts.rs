@@ -23,6 +23,7 @@ pub(crate) const GIVEN: usize = 39_827;
 pub(crate) const NAMES: usize = 39_828;
 pub(crate) const SINGLE: usize = 40_084;
 pub(crate) const SETTLED: usize = 40_085;
+pub(crate) const STARTED: usize = 40_087;
 pub(crate) const SIGNATURE: usize = 40_952;
 pub(crate) const ENTRIES: usize = 40_960;
 

@@ -42,8 +42,15 @@ impl Table<'_> {
         self.set_opened(c, CLOSED);
     }
 
-    /// The parent forks the child.
+    /// The parent forks the child, one more that was started.
     pub(crate) fn fork(&mut self, parent: Revision, child: Revision) {
+        self.branch(parent, child);
+        // It stops at 65,535.
+        self.set_started(self.started().saturating_add(1));
+    }
+
+    /// The child comes from the parent.
+    fn branch(&mut self, parent: Revision, child: Revision) {
         self.inherit(parent, child);
         self.set_seen(child, self.seen(parent));
         for number in 0..REVISIONS as u8 {
@@ -64,9 +71,9 @@ impl Table<'_> {
         self.set_out(self.out() + 1);
     }
 
-    /// The parent forks the child, which is marked.
+    /// The parent forks the child, which is marked and not counted.
     pub(crate) fn mark(&mut self, parent: Revision, child: Revision, name: [u8; NAME]) {
-        self.fork(parent, child);
+        self.branch(parent, child);
         self.set_state(child, IS_MARKED);
         self.set_name(child, name);
     }

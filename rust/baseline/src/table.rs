@@ -5,7 +5,7 @@ use crate::numbers::{Client, Revision, CLIENTS, REVISIONS};
 use crate::parts::{
     BASE, BYTES, CAUGHT, CLOSED, COUNT, ENTRIES, ENTRY, FIRST, GIVEN, HIGH, IS_OUT, LAST, LAYOUT,
     LOW, NAME, NAMES, OPENED, OUT, QUEUE, ROW, ROWS, SEEN, SETTLED, SIGNATURE, SIGNED, SINGLE,
-    STATE, UPDATES, USED,
+    STARTED, STATE, UPDATES, USED,
 };
 
 /// A lent buffer that passed the check of code 1.
@@ -21,6 +21,7 @@ pub(crate) fn fresh(t: &mut [u8; BYTES], single_main: bool) {
     t[OUT] = 1;
     t[GIVEN] = 1;
     t[SINGLE] = u8::from(single_main);
+    t[STARTED] = 1;
     t[SIGNATURE..ENTRIES].copy_from_slice(&SIGNED);
 }
 
@@ -128,6 +129,15 @@ impl Table<'_> {
 
     pub(crate) fn set_settled(&mut self, n: u16) {
         self.set_word(SETTLED, n);
+    }
+
+    /// The revisions started, marks not counted, 65,535 at most.
+    pub(crate) fn started(&self) -> u16 {
+        self.word(STARTED)
+    }
+
+    pub(crate) fn set_started(&mut self, n: u16) {
+        self.set_word(STARTED, n);
     }
 
     /// The revisions of all clients' open transactions, by client.

@@ -108,6 +108,11 @@ pub enum Call {
         /// The file: see [`order_file`].
         order: Vec<u8>,
     },
+    /// What the day costs. A bill is no event, and no step of a day file.
+    Bill {
+        /// Whether it is a club member's.
+        member: bool,
+    },
     /// A call that takes a board, with one of so many bytes lent to it in place of the day's own.
     OnBoard {
         /// The length of that board in bytes.
@@ -146,6 +151,7 @@ impl Call {
             Call::Mark { .. } => "mark",
             Call::Drop { .. } => "drop",
             Call::Verify { .. } => "verify",
+            Call::Bill { .. } => "bill",
             Call::OnBoard { call, .. } => call.name(),
         }
     }
@@ -162,7 +168,7 @@ impl Call {
             Call::Fill { .. } | Call::Preview { .. } | Call::Mark { .. } | Call::Drop { .. } => {
                 false
             }
-            Call::Verify { .. } => false,
+            Call::Verify { .. } | Call::Bill { .. } => false,
         }
     }
 }
@@ -197,6 +203,8 @@ impl fmt::Display for Call {
             }
             Call::Drop { ref name } => write!(f, "\"{}\"", name.escape_ascii()),
             Call::Verify { ref order } => write_order(f, order),
+            Call::Bill { member: false } => f.write_str("ordinary"),
+            Call::Bill { member: true } => f.write_str("member"),
             Call::OnBoard { .. } => unreachable!("written above"),
         }
     }
@@ -280,6 +288,8 @@ mod tests {
             ),
             (Call::Verify { order: order_file(&[0, 4_095]) }, "verify order [0, 4095]"),
             (Call::Verify { order: vec![1, 2] }, "verify bytes [1, 2]"),
+            (Call::Bill { member: false }, "bill ordinary"),
+            (Call::Bill { member: true }, "bill member"),
             (
                 Call::Verify { order: [order_file(&[]), vec![9]].concat() },
                 "verify bytes [0, 0, 0, 0, 8, 0, 0, 0, 9]",

@@ -123,7 +123,7 @@ impl Drawing {
             // No steps of a day file.
             Call::List { .. } | Call::Fill { .. } | Call::Bundle { .. } | Call::Preview { .. } => {}
             Call::Fresh { .. } | Call::Sync { .. } | Call::Mark { .. } | Call::Drop { .. } => {}
-            Call::Verify { .. } | Call::OnBoard { .. } => {}
+            Call::Verify { .. } | Call::Bill { .. } | Call::OnBoard { .. } => {}
         }
     }
 

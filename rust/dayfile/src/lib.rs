@@ -1,7 +1,7 @@
 //! Day files: 01, "Day file and printed day".
 //!
 //! A day file is a header and 12-byte records. This library reads and writes it, turns it into a
-//! text of one step a line and back, shows what a day answers, by the baseline, and its board, and draws
+//! text of one step a line and back, shows what a day answers, by the baseline, its board and its bill, and draws
 //! its diagram. It writes the order of a day's updates as a file, and says what is wrong with one from
 //! elsewhere: 02, U13.
 //!
@@ -14,6 +14,7 @@
 
 #![forbid(unsafe_code)]
 
+mod billed;
 mod boarded;
 mod drawn;
 mod file;
@@ -23,6 +24,7 @@ mod record;
 mod shown;
 mod text;
 
+pub use billed::billed_day;
 pub use boarded::boarded_day;
 pub use drawn::drawn_day;
 pub use file::{read_file, write_file, BadFile, LONGEST, MOST_STEPS};

@@ -7,8 +7,8 @@ use std::io::{self, Read, Write};
 use std::process::ExitCode;
 
 use dayfile::{
-    boarded_day, drawn_day, misfit, ordered_day, printed_day, read_file, read_text, shown_day,
-    write_file, write_text, Record, LONGEST,
+    billed_day, boarded_day, drawn_day, misfit, ordered_day, printed_day, read_file, read_text,
+    shown_day, write_file, write_text, Record, LONGEST,
 };
 
 const HELP: &str = "\
@@ -19,6 +19,7 @@ usage: dayfile pack   [TEXT [FILE]]   text to day file
        dayfile show   [FILE]          each step with its code, value and refusal
        dayfile print  [FILE]          the printed day: index, code, value
        dayfile board  [FILE]          the announcer's board: bib, state, value
+       dayfile bill   [FILE [member]] the rental bill in cents
        dayfile draw   [FILE [SVG]]    the day's diagram as a picture
        dayfile order  [FILE [ORDER]]  the order of the day's updates, as a file
        dayfile verify FILE ORDER      whether such a file fits the day: yes or no
@@ -72,6 +73,9 @@ fn main() -> ExitCode {
         ["print", file] => print(file),
         ["board"] => board("-"),
         ["board", file] => board(file),
+        ["bill"] => bill("-", false),
+        ["bill", file] => bill(file, false),
+        ["bill", file, "member"] => bill(file, true),
         ["draw"] => draw("-", "-"),
         ["draw", file] => draw(file, "-"),
         ["draw", file, picture] => draw(file, picture),
@@ -111,6 +115,10 @@ fn show(file: &str) -> Result<(), String> {
 
 fn board(file: &str) -> Result<(), String> {
     write_bytes("-", boarded_day(&records(file)?).as_bytes())
+}
+
+fn bill(file: &str, member: bool) -> Result<(), String> {
+    write_bytes("-", format!("{}\n", billed_day(&records(file)?, member)).as_bytes())
 }
 
 fn draw(file: &str, picture: &str) -> Result<(), String> {

@@ -26,6 +26,8 @@ pub(crate) struct Generator<'a> {
     pub(crate) rng: Rng,
     /// For boards of wrong lengths: the other calls of a day are the same without them.
     boards: Rng,
+    /// For bills, likewise.
+    bills: Rng,
     day: baseline::Day,
     calls: Vec<Call>,
     /// The revisions that are out, in the order of their starts.
@@ -57,6 +59,7 @@ impl<'a> Generator<'a> {
             profile,
             rng: Rng::new(seed),
             boards: Rng::new(!seed),
+            bills: Rng::new(!seed.rotate_left(32)),
             day: baseline::Day::fresh(),
             calls: Vec::new(),
             out: vec![0],
@@ -72,7 +75,8 @@ impl<'a> Generator<'a> {
         }
     }
 
-    /// Makes a call; now and then one that takes a board is made with a wrong one before.
+    /// Makes a call; now and then one that takes a board is made with a wrong one before, and a bill after
+    /// it.
     pub(crate) fn make(&mut self, call: Call) {
         let often = match call {
             Call::Fresh { .. } => 20,
@@ -86,6 +90,10 @@ impl<'a> Generator<'a> {
             self.made(Call::OnBoard { length, call });
         }
         self.made(call);
+        if self.bills.percent(4) {
+            let member = self.bills.percent(50);
+            self.made(Call::Bill { member });
+        }
     }
 
     fn made(&mut self, call: Call) {
@@ -123,7 +131,7 @@ impl<'a> Generator<'a> {
             }
             Call::Drop { ref name } => self.dropped(name),
             Call::List { .. } | Call::Fill { .. } | Call::Preview { .. } => {}
-            Call::Verify { .. } | Call::OnBoard { .. } => {}
+            Call::Verify { .. } | Call::Bill { .. } | Call::OnBoard { .. } => {}
         }
     }
 

@@ -11,6 +11,8 @@ pub(crate) struct History {
     freed: usize,
     /// The updates accepted.
     pub(crate) accepted: u32,
+    /// The revisions started, the main one included and marks not.
+    pub(crate) started: u32,
     /// The numbers that are out, marked or not.
     pub(crate) out: BTreeSet<u8>,
     /// Those that are not, but were: each with its place in the one order of joins, syncs and drops.
@@ -26,6 +28,7 @@ impl History {
         History {
             freed: 0,
             accepted: 0,
+            started: 1,
             out: BTreeSet::from([0]),
             handed_in: BTreeMap::new(),
             marks: BTreeMap::new(),
@@ -40,11 +43,11 @@ impl History {
             Call::Bundle { ref records, .. } => {
                 self.accepted += (records.len() / Line::BYTES) as u32;
             }
-            Call::Fork { .. } => self.give(answer.value as u8),
+            Call::Fork { .. } => self.start(answer.value as u8),
             Call::Join { joinee, .. } => self.hand_in(joinee),
             Call::Sync { revision } => {
                 self.hand_in(revision);
-                self.give(answer.value as u8);
+                self.start(answer.value as u8);
             }
             Call::Mark { ref name, .. } => {
                 self.give(answer.value as u8);
@@ -59,8 +62,13 @@ impl History {
             Call::Query { .. } | Call::Yield { .. } => {}
             Call::List { .. } | Call::Fill { .. } | Call::Preview { .. } => {}
             // Only with a board of a wrong length.
-            Call::Verify { .. } | Call::OnBoard { .. } => {}
+            Call::Verify { .. } | Call::Bill { .. } | Call::OnBoard { .. } => {}
         }
+    }
+
+    fn start(&mut self, number: u8) {
+        self.started += 1;
+        self.give(number);
     }
 
     fn give(&mut self, number: u8) {
@@ -84,7 +92,7 @@ impl History {
 pub(crate) fn named(call: &Call) -> Vec<u8> {
     match *call {
         Call::Yield { .. } | Call::Fresh { .. } => vec![],
-        Call::Drop { .. } | Call::Verify { .. } => vec![],
+        Call::Drop { .. } | Call::Verify { .. } | Call::Bill { .. } => vec![],
         // 19 comes before any number is looked at.
         Call::OnBoard { .. } => vec![],
         Call::Update { revision, .. } | Call::Query { revision, .. } => vec![revision],

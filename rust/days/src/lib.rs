@@ -15,12 +15,14 @@
 //! - what comes of a mark is taken over by nothing that does not;
 //! - joins and syncs leave the table but at few places;
 //! - a verify says yes to the day's own line-up, and to others what the literal replay says;
-//! - a board is right after every call, and any other has what its promise says.
+//! - a board is right after every call, and any other has what its promise says;
+//! - bills are those of the calls before, and never fall.
 
 #![forbid(unsafe_code)]
 
 mod arbitration;
 mod beginning;
+mod bills;
 mod boards;
 mod branching;
 mod bundles;
@@ -56,6 +58,7 @@ mod syncs;
 mod verdicts;
 
 pub use arbitration::arbitration_order;
+pub use bills::{bill_of, fault_of_bills};
 pub use boards::{brought, fault_of_boards, post, rightly_left};
 pub use bundles::{fault_of_bundles, updates_of};
 pub use chains::chains_of_joins;

@@ -30,7 +30,7 @@ impl Generator<'_> {
             }
             Call::Drop { name } => Call::Drop { name: self.ill_formed(name) },
             Call::Verify { order } => Call::Verify { order: self.ill_headed(order) },
-            Call::Fresh { .. } => call,
+            Call::Fresh { .. } | Call::Bill { .. } => call,
             Call::Update { .. } | Call::Query { .. } | Call::Yield { .. } | Call::Bundle { .. } => {
                 entry_with(call, strange)
             }

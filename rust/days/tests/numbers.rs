@@ -82,7 +82,7 @@ impl Met {
             Call::Mark { revision, .. } if accepted => self.marked(day, revision, value as u8),
             Call::Drop { ref name } if accepted => self.dropped(day, name),
             Call::Mark { .. } | Call::Drop { .. } | Call::Yield { .. } | Call::Verify { .. } => {}
-            Call::OnBoard { .. } => {}
+            Call::Bill { .. } | Call::OnBoard { .. } => {}
             Call::Fresh { .. } => unreachable!("a day on reused numbers is one day"),
         }
     }

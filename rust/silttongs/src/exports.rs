@@ -82,6 +82,7 @@ extern "C" {
         order: *const u8,
         order_length: usize,
     ) -> u64;
+    fn silttongs_bill(table: *const u8, length: usize, member: u8) -> u64;
 }
 
 // Each export takes any bytes and any numbers: it has no precondition, is proved to stay within
@@ -200,4 +201,9 @@ pub(crate) fn verify(t: &[u8], order: &[u8]) -> Result<bool, Refusal> {
         1 => Ok(true),
         value => unreachable!("value {value} of a verify"),
     }
+}
+
+pub(crate) fn bill(t: &[u8], member: bool) -> Result<u32, Refusal> {
+    // SAFETY: as above. The table is only read.
+    answer(unsafe { silttongs_bill(t.as_ptr(), t.len(), u8::from(member)) })
 }

@@ -46,7 +46,7 @@ impl TryFrom<u8> for Kind {
 }
 
 /// A table on bytes of its own, as `[u8; BYTES]` or `Box<[u8]>`, or on lent ones, as `&mut [u8]`,
-/// or `&[u8]` for what only reads: lists, fills, previews, verifies and [`marks`](Table::marks).
+/// or `&[u8]` for what only reads: lists, fills, previews, verifies, bills and [`marks`](Table::marks).
 ///
 /// Nothing but the bytes is kept. A refused call changes none of them. A box is a revision of the
 /// table, a tablet is a client. A [`Board`] is lent besides to the calls that may bring updates to box 0.
@@ -549,6 +549,31 @@ impl<B: AsRef<[u8]>> Table<B> {
     /// Codes 1 and 21.
     pub fn verify(&self, order: &[u8]) -> Result<bool, Refusal> {
         exports::verify(self.0.as_ref(), order)
+    }
+
+    /// What the day costs until now, in cents: 350 for each box ever started, box 0 included, and 45 for
+    /// each started hundred of updates; a member has 15 percent off, rounded down; 2,000 at least. A number
+    /// that is used again counts again, a mark does not, but a fork of it does. The count of boxes stops at
+    /// 65,535. No call of the day lowers it. The table stays: a bill is no event.
+    ///
+    /// ```
+    /// use silttongs::{Board, Day, Refusal, Table, BYTES};
+    ///
+    /// let mut table = Table::fresh([0; BYTES], &mut Board::new(), Day::Ordinary)?;
+    /// assert_eq!(table.bill(false), Ok(2_000));
+    /// for _ in 0..6 {
+    ///     table.fork(0)?;
+    /// }
+    /// assert_eq!(table.bill(false), Ok(2_450));
+    /// assert_eq!(table.bill(true), Ok(2_083));
+    /// # Ok::<(), Refusal>(())
+    /// ```
+    ///
+    /// # Errors
+    ///
+    /// Code 1.
+    pub fn bill(&self, member: bool) -> Result<u32, Refusal> {
+        exports::bill(self.0.as_ref(), member)
     }
 
     /// The marks that are out, in the order of their numbers, read from the table's cells.

@@ -87,7 +87,7 @@ module _ (p : PlainDay) (t : List ℕ) (S : Stands p t) where
 
   -- a step that notes no entry
   stepped-on : (s : Step) → accepted y s ≡ true → after y s .updates ≡ y .updates → (b : List ℕ) → b ≡ stepBytes (low t) (byNumber y s) → Stands (stepped p s) (b ++ high t)
-  stepped-on s e q b x = subst (λ k. Stands (stepped p s) (k ++ high t)) (sym x) (stands-next p t S s e (stepped p s) refl refl (high t) (high-size p t S) (λ n h. S .entries-are n (subst (λ k. n < k) q h)))
+  stepped-on s e q b x = subst (λ k. Stands (stepped p s) (k ++ high t)) (sym x) (stands-next p t S s e (stepped p s) refl refl refl (high t) (high-size p t S) (λ n h. S .entries-are n (subst (λ k. n < k) q h)))
 
   by-step : (s : Step) → accepted y s ≡ true → after y s .updates ≡ y .updates → (value w : ℕ) → w ≡ value → (b : List ℕ) → b ≡ stepBytes (low t) (byNumber y s) → OnTable (Table.taken (b ++ high t) w) (Plain.taken (stepped p s) value)
   by-step s e q value w z b x = record { reply = same-answer 0 0 refl z refl refl; stands = stepped-on s e q b x }
@@ -100,7 +100,7 @@ module _ (p : PlainDay) (t : List ℕ) (S : Stands p t) where
   unfolding after
   noted-same c r kind bib v e e5 e9 = record {
     reply = same-answer 0 0 refl is refl refl;
-    stands = stands-next p t S (Steps.Event c r true) e (noted p c r kind bib v) refl refl (wrote (high t) (cellsOf t .updates) (entry kind c bib v)) (wrote-length (high t) (cellsOf t .updates) (entry kind c bib v) (high-size p t S) (room e9)) kept;
+    stands = stands-next p t S (Steps.Event c r true) e (noted p c r kind bib v) refl refl (omega arith) (wrote (high t) (cellsOf t .updates) (entry kind c bib v)) (wrote-length (high t) (cellsOf t .updates) (entry kind c bib v) (high-size p t S) (room e9)) kept;
   }
     where
       is : cellsOf t .updates ≡ y .updates

@@ -11,7 +11,7 @@ use Rattle.cells.specs.Sizes as Lower
 use Rattle.cells.specs.Steps.{freshBytes}
 use Rattle.entries.specs.Sizes as Upper
 use Rattle.boards.specs.Board.{boardBytes}
-use Rattle.desk.specs.Calls.{Call, Update, Query, Yield, Fork, Join, Sync, Mark, Drop, Bundle, Looks, Show, Fill, Preview, Verify, Records, Entries, callOn}
+use Rattle.desk.specs.Calls.{Call, Update, Query, Yield, Fork, Join, Sync, Mark, Drop, Bundle, Looks, Show, Fill, Preview, Verify, Bill, Records, Entries, callOn}
 use Rattle.plain.specs.Record.{PlainDay, freshDay}
 use Rattle.plain.specs.Answers.{Outcome, called, answers, answersFrom, dayFrom}
 use Rattle.table.specs.Out.{Out, tableBytes}
@@ -25,6 +25,7 @@ use Rattle.consistency.proofs.Table.Calls.{Same, update-same, query-sam
 use Rattle.consistency.proofs.Table.Bundles.{bundle-same, entries-same}
 use Rattle.consistency.proofs.Table.Previews.{preview-same}
 use Rattle.consistency.proofs.Table.Orders.{verify-same}
+use Rattle.consistency.proofs.Table.Bills.{bill-same}
 use Rattle.consistency.proofs.Table.Syncs.{sync-same}
 
 module _ (p : PlainDay) (t : List ℕ) (S : Stands p t) where
@@ -47,6 +48,7 @@ module _ (p : PlainDay) (t : List ℕ) (S : Stands p t) where
   call-same (Looks (Fill n)) = fill-same p t S n
   call-same (Looks (Preview n m bib)) = preview-same p t S n m bib
   call-same (Looks (Verify file)) = verify-same p t S file
+  call-same (Looks (Bill member)) = bill-same p t S member
 
 filled : (a : List ℕ) (n m k : ℕ) → length a ≡ n → n + m ≡ k → length (a ++ replicate m 0) ≡ k
 filled a n m k e f = length-append a (replicate m 0) ∙ rw (e, length-replicate {A = ℕ} m 0) f
@@ -61,6 +63,7 @@ fresh-stands t h single =
       ok = tt;
       day-is = refl;
       low-is = low-of (freshBytes single) (replicate Upper.entryBytes 0) fresh-size;
+      boxes-are = refl;
       size = filled (freshBytes single) Lower.lowerBytes Upper.entryBytes tableBytes fresh-size refl;
       entries-are = λ n k. absurd (omega arith);
     })

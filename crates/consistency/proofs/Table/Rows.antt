@@ -6,7 +6,7 @@ use mathlib.Core.List.{List}
 use lib.Dec.{eqb, ltb}
 use lib.ListN.{length}
 use Rattle.lists.proofs.Cases.{or-false}
-use Rattle.desk.specs.Calls.{Call, Update, Query, Yield, Fork, Join, Sync, Mark, Drop, Bundle, Looks, Show, Fill, Preview, Verify}
+use Rattle.desk.specs.Calls.{Call, Update, Query, Yield, Fork, Join, Sync, Mark, Drop, Bundle, Looks, Show, Fill, Preview, Verify, Bill}
 use Rattle.desk.specs.Checks.{checks, joinChecks}
 use Rattle.desk.proofs.Checks.{Agree, agree-more, end, row}
 use Rattle.cells.specs.Sizes.{clients}
@@ -121,3 +121,4 @@ module _ (p : PlainDay) (t : List ℕ) (S : Stands p t) where
   agree (Looks (Fill n)) = row refl table λ e1. row refl (given n) λ e3. row refl (number n e3 .same-joined) λ e4. end
   agree (Looks (Preview n m bib)) = row refl table λ e1. agree-more (join-row n m) _ _ (λ P. row refl refl λ e5. end)
   agree (Looks (Verify file)) = row refl table λ e1. row refl refl λ e21. end
+  agree (Looks (Bill member)) = row refl table λ e1. end

@@ -29,16 +29,16 @@ use Rattle.diagram.proofs.Days.Naming.{fork-count, meant-low, meant-new, meant-
 use Rattle.machine.specs.Machine.{Machine, forkOn}
 use Rattle.cells.specs.Sizes.{clients, main, revisions, stateMarked, stateOut, updates}
 use Rattle.cells.specs.Cells.{Cells, chain, freed, flagged, nextNumber, own}
-use Rattle.cells.specs.CellSteps.{forkCells, forkGiven, forkRow}
+use Rattle.cells.specs.CellSteps.{forkCells, forkGiven, forkRow, forkStarted}
 use Rattle.cells.proofs.Places.{fork-freed, fork-freed-first, fork-outs, insert-length, shift-length}
 use Rattle.cells.proofs.Follow.{bounded}
 use Rattle.following.specs.Reached.{branchCells}
 use Rattle.following.proofs.Cells.Laid.{Laid, apart, same-number}
 use Rattle.following.proofs.Cells.Represents.{Represents, count-main, given-few, number-is, openCell, stateCell}
 
--- cells with other states and names
-abbrev withNames : Cells → (ℕ → ℕ) → (ℕ → Name) → Cells
-withNames k state names = record {
+-- cells with other states and names, and another count of boxes started
+abbrev withNames : Cells → (ℕ → ℕ) → (ℕ → Name) → ℕ → Cells
+withNames k state names started = record {
   state = state;
   used = k .used;
   last = k .last;
@@ -58,6 +58,7 @@ withNames k state names = record {
   name = names;
   single = k .single;
   settled = k .settled;
+  started = started;
 }
 
 module _ (y : Day) (m : Machine) (k : Cells) (h : Represents y m k) (L : Laid y m) (p : ℕ) (i : p ∈ m .layout) (name : Option Name) (C : CanFork y p name) where
@@ -231,9 +232,9 @@ module _ (y : Day) (m : Machine) (k : Cells) (h : Represents y m k) (L : Laid y 
   unfolding revisionLimit
   fork-given = rw (h .given-is)
 
-  branches : (state : ℕ → ℕ) (names : ℕ → Name) → ((x : ℕ) → state x ≡ stateCell (y′ .joined) (y′ .mark) (found y′ x))
-      → ((r : ℕ) (w : Name) → y′ .mark r ≡ some w → names (numberOf y′ r) ≡ w) → Represents y′ m′ (withNames k′ state names)
-  branches state names states named-so = record {
+  branches : (state : ℕ → ℕ) (names : ℕ → Name) (started : ℕ) → ((x : ℕ) → state x ≡ stateCell (y′ .joined) (y′ .mark) (found y′ x))
+      → ((r : ℕ) (w : Name) → y′ .mark r ≡ some w → names (numberOf y′ r) ≡ w) → Represents y′ m′ (withNames k′ state names started)
+  branches state names started states named-so = record {
     layout-is = fork-layout;
     places = let a = h .places in let b = insert-length n c (k .layout) in length-take-le revisions (insertBefore n c (k .layout)) (omega arith);
     out-is = ap suc (h .out-is) ∙ sym (fork-count y (L .named) p name C);
@@ -262,10 +263,10 @@ module _ (y : Day) (m : Machine) (k : Cells) (h : Represents y m k) (L : Laid y 
 
   next-branch : (name : Option Name) → CanFork y p name → Represents (forkAt y p name) (forkOn m p) (branchCells k (numberOf y p) to name)
   next-branch none C =
-      branches y m k h L p i none C (changed (k .state) to stateOut) (k .name) (fork-state y m k h L p i none C stateOut refl)
+      branches y m k h L p i none C (changed (k .state) to stateOut) (k .name) (forkStarted k) (fork-state y m k h L p i none C stateOut refl)
       (fork-names y m k h L p i none C (k .name) (λ w e. absurd (none≢name e)) (λ x d. refl))
   next-branch (some w) C =
-      branches y m k h L p i (some w) C (changed (k .state) to stateMarked) (changed (k .name) to w) (fork-state y m k h L p i (some w) C stateMarked refl)
+      branches y m k h L p i (some w) C (changed (k .state) to stateMarked) (changed (k .name) to w) (k .started) (fork-state y m k h L p i (some w) C stateMarked refl)
       (fork-names y m k h L p i (some w) C (changed (k .name) to w) (λ v e. let z : w ≡ v = cc in changed-same (k .name) to w ∙ z) (changed-other (k .name) to w))
 
   pub forks : (name : Option Name) → CanFork y p name → Represents (forkAt y p name) (forkOn m p) (branchCells k (numberOf y p) (nextNumber k) name)

@@ -163,7 +163,7 @@ fn days_survive_text_and_file() {
         Call::Fork { .. } | Call::Join { .. } => true,
         Call::List { .. } | Call::Fill { .. } | Call::Bundle { .. } | Call::Preview { .. } => false,
         Call::Fresh { .. } | Call::Sync { .. } | Call::Mark { .. } | Call::Drop { .. } => false,
-        Call::Verify { .. } | Call::OnBoard { .. } => false,
+        Call::Verify { .. } | Call::Bill { .. } | Call::OnBoard { .. } => false,
     };
     for mut day in Profile::STRANGE.days(0..200) {
         day.calls.retain(is_step);

@@ -1,5 +1,6 @@
 //! Day files, their text, the tool, and the proved program `day` on them.
 
+mod bills;
 mod boards;
 mod files;
 mod orders;

@@ -54,7 +54,7 @@ pub(crate) fn record(call: &Call, rng: &mut Rng) -> Option<Record> {
         }
         Call::List { .. } | Call::Fill { .. } => return None,
         Call::Bundle { .. } | Call::Preview { .. } | Call::Verify { .. } => return None,
-        Call::OnBoard { .. } => return None,
+        Call::Bill { .. } | Call::OnBoard { .. } => return None,
         Call::Fresh { .. } | Call::Sync { .. } | Call::Mark { .. } | Call::Drop { .. } => {
             return None
         }

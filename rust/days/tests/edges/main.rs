@@ -1,6 +1,7 @@
 //! Edges of the literal replay and of the baseline, call by call: those of 01, those of 02's
 //! requests, and the readings of docs/DECISIONS.md.
 
+mod bills;
 mod boards;
 mod bundles;
 mod fills;

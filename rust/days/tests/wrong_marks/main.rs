@@ -119,7 +119,7 @@ fn named(call: &Call) -> Vec<u8> {
             vec![joiner, joinee]
         }
         Call::Yield { .. } | Call::Fresh { .. } | Call::Drop { .. } | Call::Verify { .. } => vec![],
-        Call::OnBoard { .. } => vec![],
+        Call::Bill { .. } | Call::OnBoard { .. } => vec![],
     }
 }
 

@@ -202,6 +202,7 @@ fn verified() -> Vec<Case> {
         Case::of_calls("verify of 4,096 updates, 64 boxes", &chain, &[verify(UPDATES)]),
         Case::of_calls("verify of 4,096 updates, 64 boxes alike", &alike, &[verify(UPDATES)]),
         Case::of_calls("verify that ends at the count", &chain, &[verify(UPDATES - 1)]),
+        Case::of_calls("bill, 64 boxes, 4,096 updates", &chain, &[Call::Bill { member: true }]),
     ]
 }
 

@@ -126,6 +126,7 @@ fn call_baseline(lent: &mut Lent, call: &Call) -> Result<Option<u64>, Code> {
         Call::Mark { revision, ref name } => baseline::mark(t, revision, name).map(one),
         Call::Drop { ref name } => baseline::drop(t, name).map(one),
         Call::Verify { ref order } => baseline::verify(t, order).map(one),
+        Call::Bill { member } => baseline::bill(t, member).map(one),
         Call::OnBoard { .. } => unreachable!("no case has a wrong board"),
     }
 }
@@ -156,6 +157,7 @@ fn call_library(lent: &mut Lent, call: &Call) -> Result<Option<u64>, Refusal> {
         Call::Mark { revision, ref name } => table.mark(revision, name).map(one),
         Call::Drop { ref name } => table.drop(name).map(|()| one(0_u32)),
         Call::Verify { ref order } => table.verify(order).map(one),
+        Call::Bill { member } => table.bill(member).map(one),
         Call::Fresh { single_main } => {
             let day = if single_main { Day::SingleMain } else { Day::Ordinary };
             Table::fresh(&mut t[..], &mut board, day).map(|_| one(0_u32))

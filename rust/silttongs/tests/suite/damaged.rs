@@ -15,7 +15,7 @@ use super::given::{
     sheet, Bytes, Given,
 };
 use super::random::{
-    any_board, any_call, damaged, names, random_bytes, taken, MARKED, NAMES, SINGLE, STATE,
+    any_board, any_call, damaged, names, random_bytes, taken, MARKED, NAMES, SINGLE, STARTED, STATE,
 };
 
 /// How many damaged buffers are tried.
@@ -131,6 +131,7 @@ fn wrong_lengths() {
         Call::Verify { order: order_file(&[]) },
         // 1 comes before 21.
         Call::Verify { order: Vec::new() },
+        Call::Bill { member: true },
         // 1 comes before 19.
         Call::OnBoard { length: 4_999, call: Box::new(Call::Yield { client: 0 }) },
         Call::OnBoard { length: 0, call: Box::new(Call::Sync { revision: 1 }) },
@@ -346,6 +347,8 @@ fn forked_and_named(before: &[u8], revision: u8, name: &[u8]) -> (Answer, Vec<u8
     let number = forked.value as usize;
     t[STATE + number] = MARKED;
     t[NAMES + 4 * number..][..4].copy_from_slice(name);
+    // 02, U14: "marks not counted"
+    t[STARTED..STARTED + 2].copy_from_slice(&before[STARTED..STARTED + 2]);
     (forked, t)
 }
 

@@ -4,9 +4,10 @@
 
 use calls::{Answer, Call, Line, BIBS};
 use days::{
-    chains_of_joins, days_of, every_fill, every_list, every_preview, fault_of_bundles,
-    fault_of_fills, fault_of_marks, fault_of_numbers, fault_of_orders, fault_of_origins,
-    fault_of_previews, fault_of_syncs, late_days, must_pass, one_in, seeds, Profile,
+    chains_of_joins, days_of, every_fill, every_list, every_preview, fault_of_bills,
+    fault_of_bundles, fault_of_fills, fault_of_marks, fault_of_numbers, fault_of_orders,
+    fault_of_origins, fault_of_previews, fault_of_syncs, late_days, must_pass, one_in, seeds,
+    Profile,
 };
 use silttongs::{lines, Board, Entry, Table};
 
@@ -103,6 +104,15 @@ fn marks_go_by_the_calls_before() {
         fault_of_marks(Bytes::fresh(), calls, answered)
             .or_else(|| fault_of_origins(Bytes::fresh(), calls, answered))
     });
+}
+
+/// 02, U14: after every step, a bill is that of the calls and their answers, and none is lower.
+#[test]
+fn bills_are_those_of_the_history() {
+    let bills = |calls: &[Call]| fault_of_bills(Bytes::fresh(), calls, answered);
+    must_pass(one_in(4), bills);
+    must_pass(Profile::SMALL_MARKED.days(seeds(100)), bills);
+    must_pass(Profile::SMALL_SINGLE_MAIN.days(seeds(60)), bills);
 }
 
 /// 02, U1: after every step, the own updates of all boxes out come to the updates accepted.

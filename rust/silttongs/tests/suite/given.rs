@@ -88,6 +88,7 @@ pub(crate) fn library(bytes: &mut [u8], board: &mut [u8], call: &Call) -> Given 
         Call::Verify { ref order } => {
             table.verify(order).map(|yes| Answer::accepted(u32::from(yes)))
         }
+        Call::Bill { member } => table.bill(member).map(Answer::accepted),
         Call::OnBoard { .. } => unreachable!("made above"),
     };
     Given { answer: answer.unwrap_or_else(refused), sheet }
@@ -163,7 +164,7 @@ pub(crate) fn as_given(call: &Call, answer: Answer) -> Given {
 
 /// Whether a call has to leave the table as it is, accepted too.
 pub(crate) fn only_reads(call: &Call) -> bool {
-    ["list", "fill", "preview", "verify"].contains(&call.name())
+    ["list", "fill", "preview", "verify", "bill"].contains(&call.name())
 }
 
 /// What is other than expected, in words.

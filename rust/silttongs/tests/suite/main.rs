@@ -1,6 +1,7 @@
 //! The static library through the wrapper: random days against the literal replay and the baseline,
 //! buffers that no day made, 02's requests, a day of 20,100 forks, C, and the stack.
 
+mod bills;
 mod boards;
 mod bundles;
 mod c;

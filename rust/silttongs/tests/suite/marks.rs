@@ -3,6 +3,7 @@
 
 use silttongs::{lines, Day, Fill, Kind, Line, Mark, Name, Refusal, Standing, Table, BYTES, SHEET};
 
+use super::random::STARTED;
 use super::{fresh, fresh_for, Lent};
 
 /// Where some cells lie: docs/CELLS.md.
@@ -67,7 +68,7 @@ fn what_a_marked_box_refuses() {
 }
 
 /// "Mark has fork's refusals and value", then 17. A taken one leaves what a fork leaves, but for the
-/// state and the name.
+/// state, the name and the count of boxes started.
 #[test]
 fn a_mark_is_a_fork_with_a_name() {
     let table = busy();
@@ -88,6 +89,8 @@ fn a_mark_is_a_fork_with_a_name() {
         let mut bytes = forked.table.into_bytes();
         bytes[STATE + 5] = 3;
         bytes[NAMES + 20..NAMES + 24].copy_from_slice(b"NOON");
+        // 02, U14: "marks not counted"
+        bytes[STARTED] -= 1;
         assert!(marked.table.into_bytes() == bytes, "box {revision}");
     }
 }

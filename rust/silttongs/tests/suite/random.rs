@@ -11,6 +11,7 @@ use super::given::{answered, fresh_bytes, Bytes};
 pub(crate) const STATE: usize = 39_040;
 pub(crate) const NAMES: usize = 39_828;
 pub(crate) const SINGLE: usize = 40_084;
+pub(crate) const STARTED: usize = 40_087;
 pub(crate) const MARKED: u8 = 3;
 const UPDATES: usize = 39_824;
 
@@ -136,6 +137,7 @@ fn likely_call(rng: &mut Rng, names: &[Vec<u8>], taken: u16) -> Call {
         11 | 12 => Call::Mark { revision, name: any_name(rng, names) },
         13 | 14 => Call::Drop { name: any_name(rng, names) },
         15 | 16 => Call::Verify { order: any_order(rng, taken) },
+        17 => Call::Bill { member: rng.percent(50) },
         _ => Call::Update { client, revision, kind, bib, v: rng.bits() as u32 },
     }
 }

@@ -25,6 +25,7 @@ fn the_deepest_calls_fit_in_96_kib() {
         table.yield_(&mut board, 0)?;
         table.list(1, &mut vec![0; SHEET])?;
         table.fill(1)?;
+        table.bill(true)?;
         let numbers: Vec<u16> = (0..UPDATES as u16).collect();
         assert_eq!(table.verify(&order_file(&numbers)), Ok(true));
         assert_eq!(table.preview(0, 1, 7)?.standing, standing);

@@ -1,0 +1,2 @@
+-- The call from what its check finds.
+pub mod Calls

@@ -1,0 +1,1 @@
+-- The call has no definition of its own: `billOut` stands in `table` specs/Calls.

@@ -1,0 +1,2 @@
+// The call bill, above the table.
+pub mod bill; // bill.rt: the call bill
