@@ -139,7 +139,7 @@ right-from [] p t S board R = R
 right-from (q ∷ qs) p t S board R = right-from qs (dayNext p q board) (served t (lent board q) .table) (next-stands p t S board q) (boardLeft t q board) (keeps-board p t S board q .stays-right R)
 
 -- "Fresh clears it"
-cleared : (t : List ℕ) → length t ≡ tableBytes → (single : Bool) (board : List ℕ) → length board ≡ boardBytes → freshBoard t single board ≡ replicate boardBytes 0
+pub cleared : (t : List ℕ) → length t ≡ tableBytes → (single : Bool) (board : List ℕ) → length board ≡ boardBytes → freshBoard t single board ≡ replicate boardBytes 0
 unfolding freshBoard
 cleared t h single board l = rw (l, table-follows t h single .0)
 

@@ -66,7 +66,7 @@ module _ (t : List ℕ) where
   bill-refused member = refused-only (λ (a : Answer). a .code) noBill (λ k. refl) (asked t) (Looks (Bill member)) _ (λ P h. absurd (h refl))
 
 -- a refusal brings nothing to the board
-board-blank : (t board : List ℕ) {o : Out} → o ≡ refused t (o .code) → onBoard t board o ≡ record { reply = plainly (o .code) 0 []; table = t; board = board }
+pub board-blank : (t board : List ℕ) {o : Out} → o ≡ refused t (o .code) → onBoard t board o ≡ record { reply = plainly (o .code) 0 []; table = t; board = board }
 board-blank t board {o} e = ap (onBoard t board) e ∙ ap (λ b. record { reply = plainly (o .code) 0 []; table = t; board = b }) (brings-nothing t board)
 
 -- a sync whose checks find nothing is taken
@@ -124,7 +124,7 @@ module _ (t : List ℕ) (single : Bool) (board : List ℕ) where
   abbrev made : Out
   made = freshOut t single (length board)
 
-  unmade : (made .code ≡ 0 → ⊥) → Refused (λ (o : Out). o .code) (refused t) (1 ∷ 19 ∷ []) made
+  pub unmade : (made .code ≡ 0 → ⊥) → Refused (λ (o : Out). o .code) (refused t) (1 ∷ 19 ∷ []) made
   unfolding freshOut
   unmade = by (settled-row (refused t) _ (noTable ∷ wrongBoard ∷ []))
     where
@@ -132,7 +132,7 @@ module _ (t : List ℕ) (single : Bool) (board : List ℕ) where
       by (stops k i) h = record { number = i; is = refl }
       by (goes P) h = absurd (h refl)
 
-  still : (made .code ≡ 0 → ⊥) → freshBoard t single board ≡ board
+  pub still : (made .code ≡ 0 → ⊥) → freshBoard t single board ≡ board
   unfolding freshBoard
   still h = rw (ne-eqb (made .code) 0 h)
 

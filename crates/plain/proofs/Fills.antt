@@ -89,13 +89,20 @@ module _ (f : PlainDay → ℕ) (g : Step → ℕ) (counts : Call ℕ → ℕ) (
   tallied [] p M = omega arith
   tallied (c ∷ cs) p M = let a = raises p M c in let b = tallied cs (called p c .next) (marks-next p M c) in omega arith
 
+-- the updates taken, by one call
+run-raises : (p q : PlainDay) (ss : List Step) → RanTo p q ss → q .day .updates ≡ p .day .updates + updatesIn ss
+run-raises p q ss R = ap (λ y. y .updates) (R .same) ∙ run-updates ss (p .day)
+
+pub adds : (p : PlainDay) → Marks (p .day) → (c : Call ℕ) → called p c .next .day .updates ≡ p .day .updates + cond (eqb (called p c .answer .code) 0) (enters c) 0
+adds = raises (λ p. p .day .updates) one enters run-raises steps-enter
+
 nothing-before : (n : ℕ) → 0 + n ≡ n
 nothing-before n = omega arith
 
 pub counted : (single : Bool) (cs : List (Call ℕ)) → dayAfter single cs .day .updates ≡ acceptedIn cs (codesOf (answers single cs))
 unfolding dayAfter answers
 counted single cs =
-    tallied (λ p. p .day .updates) one enters (λ p q ss R. ap (λ y. y .updates) (R .same) ∙ run-updates ss (p .day)) steps-enter cs (freshDay single) marks-fresh
+    tallied (λ p. p .day .updates) one enters run-raises steps-enter cs (freshDay single) marks-fresh
     ∙ nothing-before (acceptedIn cs (codesOf (answersFrom (freshDay single) cs)))
 
 -- a fill tells what the revision that the number means, if it is out, has of its own; of a number not given out nothing

@@ -1,0 +1,158 @@
+-- What is claimed of four tables on one card (02, U12), of every four buffers and every list of calls.
+use Prim.Native.Nat.{ℕ, suc, _+_, _<_, _≤_}
+use mathlib.Core.Bool.{Bool, true, false, cond, _||_}
+use mathlib.Core.Path.{_≡_}
+use mathlib.Core.Logic.{_↔_}
+use mathlib.Core.List.{List, [], _∷_, _++_}
+use lib.Dec.{eqb}
+use lib.ListN.{length}
+use Rattle.lists.specs.Lists.{_∈_, changed}
+use Rattle.boards.specs.Board.{boardBytes}
+use Rattle.desk.specs.Calls.{Call, Update, callOn}
+use Rattle.desk.specs.Checks.{codesFor}
+use Rattle.plain.specs.Record.{freshDay}
+use Rattle.plain.specs.Fills.{enters}
+use Rattle.table.specs.Halves.{isTable}
+use Rattle.table.specs.Out.{tableBytes}
+use Rattle.table.specs.Calls.{freshOut, updateOut}
+use Rattle.consistency.specs.Table.{Served, served}
+use Rattle.consistency.specs.Demand.{Explained}
+use Rattle.courses.specs.Log.{assured, card, courses, larger, logged}
+use Rattle.courses.specs.Courses.{Ask, CourseCall, Fresh, Heard, Plain, Tables, counts, courseServed, gets, heard, noCourse, tablesAfter, turnedAway, written}
+use Rattle.courses.specs.Days.{Got, Nothing, Told, answersTo, enteredAll, repliesOf, repliesTo, toldAlone, toldTo}
+
+-- "A call writes in no other course's table."
+abbrev pub OthersStay : Type 0
+OthersStay = (ts : Tables) (c : CourseCall) (j : ℕ) → (j ≡ c .course → ⊥) → written ts c j ≡ ts j
+
+-- 00, demand 1: "A refused call gives its number from the list with value 0 and changes no byte"
+abbrev pub codesOf : Ask → List ℕ
+codesOf (Fresh single board) = 1 ∷ 19 ∷ []
+codesOf (Plain q) = 1 ∷ 20 ∷ codesFor q
+
+pub record IsTurnedAway (t : List ℕ) (a : Ask) (s : Served) : Type 0 where
+  pub number : s .reply .code ∈ codesOf a
+  pub blank : s ≡ turnedAway (s .reply .code) t a
+
+abbrev pub RefusalsChangeNothing : Type 0
+RefusalsChangeNothing = (ts : Tables) (i : ℕ) (a : Ask) → (courseServed ts i a .reply .code ≡ 0 → ⊥) → IsTurnedAway (ts i) a (courseServed ts i a)
+
+-- 1, of a call: "another number gives 1, as does any of the four buffers that meets 1's condition"; "(for fresh: its own length only)"
+pub record OneExactly (ts : Tables) (i : ℕ) : Type 0 where
+  pub call : (q : Call (List ℕ)) → (courseServed ts i (Plain q) .reply .code ≡ 1) ↔ (noCourse ts i ≡ true)
+  pub fresh : (single : Bool) (board : List ℕ) → (courseServed ts i (Fresh single board) .reply .code ≡ 1) ↔ ((i < courses) × (length (ts i) ≡ tableBytes) → ⊥)
+
+abbrev pub OnesExactly : Type 0
+OnesExactly = (ts : Tables) (i : ℕ) → OneExactly ts i
+
+-- 20, of an update: it would be taken by its table, and "afterwards the sum .. would pass 8,192"
+abbrev pub TwentyExactly : Type 0
+TwentyExactly = (ts : Tables) (i c n k bib v : ℕ)
+    → (courseServed ts i (Plain (Update c n k bib v)) .reply .code ≡ 20)
+    ↔ ((noCourse ts i ≡ false) × (updateOut (ts i) c n k bib v .code ≡ 0) × (card < logged (changed (counts ts) i (suc (counts ts i)))))
+
+-- no call has 20 that enters no update
+abbrev pub TwentyByUpdates : Type 0
+TwentyByUpdates = (ts : Tables) (i : ℕ) (q : Call (List ℕ)) → courseServed ts i (Plain q) .reply .code ≡ 20 → 0 < enters (callOn length q)
+
+-- each call of a course is served as by its table alone, as the course's last call left it; those with 1 or 20 are refused and change nothing
+unfoldable pub Alone : List ℕ → List Heard → Type 0
+Alone t [] = Unit {0}
+Alone t (h ∷ hs) = (h .got ≡ toldAlone t (h .ask) (toldTo h)) × Alone (h .got .table) hs
+
+abbrev pub CoursesAlone : Type 0
+CoursesAlone = (i : ℕ) (ts : Tables) (cs : List CourseCall) → Alone (ts i) (heard i ts cs)
+
+-- a call that made its course fresh
+abbrev pub isMade : Ask → ℕ → Bool
+isMade (Fresh single board) code = eqb code 0
+isMade (Plain q) code = false
+
+unfoldable pub wasMade : List Heard → Bool
+wasMade [] = false
+wasMade (h ∷ hs) = isMade (h .ask) (h .got .reply .code) || wasMade hs
+
+-- "once all four have been made fresh", in any order and with any calls between
+abbrev pub AllMade : Tables → List CourseCall → Type 0
+AllMade ts cs = (i : ℕ) → i < courses → wasMade (heard i ts cs) ≡ true
+
+-- the four tables at such a moment
+pub record GoesOn (ts : Tables) : Type 0 where
+  pub tables : (i : ℕ) → i < courses → isTable (ts i) ≡ true
+  pub never-one : (i : ℕ) → i < courses → (a : Ask) → courseServed ts i a .reply .code ≡ 1 → ⊥
+  pub sum : logged (counts ts) ≤ card
+  -- "a call that would leave its course with no more than its 1,024 is never turned away on account of the others": it has what its table alone gives
+  pub never-turned : (i : ℕ) → i < courses → (q : Call (List ℕ)) → counts ts i + enters (callOn length q) ≤ assured → courseServed ts i (Plain q) ≡ served (ts i) q
+  -- "An update is refused if afterwards the sum .. would pass 8,192"; "For bundles it counts per update": a call that its table alone would take
+  pub twenty : (i : ℕ) → i < courses → (q : Call (List ℕ)) → served (ts i) q .reply .code ≡ 0
+      → (courseServed ts i (Plain q) .reply .code ≡ 20) ↔ (card < logged (changed (counts ts) i (counts ts i + enters (callOn length q))))
+  -- "Making one table fresh gives its updates back": the sum loses what the course had above 1,024
+  pub gives-back : (i : ℕ) → i < courses → (single : Bool) (board : List ℕ) → length board ≡ boardBytes
+      → logged (counts (written ts (record { course = i; ask = Fresh single board }))) + larger (counts ts i) ≡ logged (counts ts) + assured
+
+abbrev pub OnceAllMade : Type 0
+OnceAllMade = (ts : Tables) (cs : List CourseCall) → AllMade ts cs → GoesOn (tablesAfter ts cs)
+
+-- a course's calls after it was made fresh have the answers of its plain day, which is told of 1 and 20
+abbrev pub FollowsPlainDay : Type 0
+FollowsPlainDay =
+    (i : ℕ) (ts : Tables) (cs : List CourseCall) (early later : List Heard) (h : Heard) (single : Bool) (board : List ℕ)
+    → heard i ts cs ≡ early ++ (h ∷ later) → h .ask ≡ Fresh single board → h .got .reply .code ≡ 0
+    → repliesOf later ≡ repliesTo later (answersTo (freshDay single) (enteredAll later))
+
+-- of a course's calls those that its day was told nothing of, and what they had, up to where it is made fresh again
+abbrev pub ifUntold : {A : Type 0} → Ask → Told → (Call (List ℕ) → A) → List A → List A
+ifUntold (Fresh single board) told f more = more
+ifUntold (Plain q) Nothing f more = f q ∷ more
+ifUntold (Plain q) (Got code) f more = more
+
+unfoldable pub untold : List Heard → List (Call (List ℕ))
+untold [] = []
+untold (h ∷ hs) = cond (isMade (h .ask) (h .got .reply .code)) [] (ifUntold (h .ask) (toldTo h) (λ q. q) (untold hs))
+
+unfoldable pub untoldGot : List Heard → List Served
+untoldGot [] = []
+untoldGot (h ∷ hs) = cond (isMade (h .ask) (h .got .reply .code)) [] (ifUntold (h .ask) (toldTo h) (λ q. h .got) (untoldGot hs))
+
+-- what a table alone gives a list of calls
+unfoldable pub servedOn : List ℕ → List (Call (List ℕ)) → List Served
+servedOn t [] = []
+servedOn t (q ∷ qs) = served t q ∷ servedOn (served t q .table) qs
+
+-- they had what a table alone that is made fresh gives them, in answers, tables and boards, and demand 3 holds of them whole
+pub record CourseExplained (t : List ℕ) (single : Bool) (hs : List Heard) : Type 0 where
+  pub got : untoldGot hs ≡ servedOn (freshOut t single boardBytes .lent) (untold hs)
+  pub explained : Explained t single (untold hs)
+
+abbrev pub CoursesExplained : Type 0
+CoursesExplained =
+    (i : ℕ) (ts : Tables) (cs : List CourseCall) (early later : List Heard) (h : Heard) (single : Bool) (board : List ℕ)
+    → heard i ts cs ≡ early ++ (h ∷ later) → h .ask ≡ Fresh single board → h .got .reply .code ≡ 0
+    → (t : List ℕ) → length t ≡ tableBytes → CourseExplained t single later
+
+-- "days that begin by making all four fresh"
+unfoldable pub EachMakes : Tables → List CourseCall → Type 0
+EachMakes ts [] = Unit {0}
+EachMakes ts (c ∷ cs) = (isMade (c .ask) (gets ts c .reply .code) ≡ true) × EachMakes (written ts c) cs
+
+pub record Begins (ts : Tables) (cs : List CourseCall) : Type 0 where
+  pub opening : List CourseCall
+  pub rest : List CourseCall
+  pub is : cs ≡ opening ++ rest
+  pub each : EachMakes ts opening
+  pub all : AllMade ts opening
+
+-- what was asked, and whether it "got 20"
+pub record Asked : Type 0 where
+  pub ask : Ask
+  pub twenty : Bool
+
+abbrev pub asks : List Heard → List Asked
+asks [] = []
+asks (h ∷ hs) = record { ask = h .ask; twenty = eqb (h .got .reply .code) 20 } ∷ asks hs
+
+-- "two days that begin by making all four fresh and agree in one course's calls, and in which of them got 20, agree in all its answers", and in its tables and boards
+abbrev pub DaysAgree : Type 0
+DaysAgree =
+    (i : ℕ) → i < courses → (ts us : Tables) (cs ds : List CourseCall) → Begins ts cs → Begins us ds
+    → asks (heard i ts cs) ≡ asks (heard i us ds) → heard i ts cs ≡ heard i us ds
