@@ -25,6 +25,8 @@
  *
  * Nothing is allocated. A call needs up to 96 KiB of stack.
  *
+ * The calls whose names begin with silttongs_course_ are for four tables on one card: see below.
+ *
  * A box is a revision of the table, a tablet is a client. Boxes are 0 to 63, tablets 0 to 15,
  * bibs 0 to 999, and a day takes 4,096 updates. 64 boxes may be out at a time, marked ones among them,
  * and any number be sent off and handed in: a box number means the latest box that bore it.
@@ -57,10 +59,16 @@ extern "C" {
 /* The length of a mark's name. */
 #define SILTTONGS_NAME 4
 
+/* How many courses a federation day has, the updates that the card of all four holds, and those that
+ * each course has assured. */
+#define SILTTONGS_COURSES 4
+#define SILTTONGS_CARD 8192
+#define SILTTONGS_ASSURED 1024
+
 /* Why a call was refused. */
 enum {
     SILTTONGS_TAKEN = 0,          /* it was not */
-    SILTTONGS_NO_TABLE = 1,       /* wrong length, or a cell is out of its range */
+    SILTTONGS_NO_TABLE = 1,       /* wrong length, or a cell is out of its range; course above 3 */
     SILTTONGS_STRANGE_TABLET = 2, /* tablet above 15 */
     SILTTONGS_NEVER_SENT = 3,     /* box number not yet given out */
     SILTTONGS_HANDED_IN = 4,      /* the latest box of that number was handed in, or dropped */
@@ -78,6 +86,7 @@ enum {
     SILTTONGS_BAD_NAME = 17,      /* for a mark: not four letters A to Z, or in use */
     SILTTONGS_NO_SUCH_MARK = 18,  /* for a drop: no mark that is out has the name */
     SILTTONGS_WRONG_BOARD = 19,   /* a board of another length than 5,000 bytes */
+    SILTTONGS_SHARED_LOG_FULL = 20, /* on four courses: with one update more the card would hold too many */
     SILTTONGS_BAD_LIST = 21       /* for a verify: length or offset under 8, or they do not fit the count */
 };
 
@@ -245,6 +254,85 @@ uint64_t silttongs_verify(const uint8_t *table, size_t length, const uint8_t *or
  * sync. The count of boxes stops at 65,535. No further call of the day lowers a bill; fresh begins anew.
  * The table is only read. */
 uint64_t silttongs_bill(const uint8_t *table, size_t length, uint8_t member);
+
+/* Four courses, one log: a federation day runs four tables, and the card for all four holds
+ * SILTTONGS_CARD updates. Each table still takes 4,096 and has SILTTONGS_ASSURED of them assured.
+ *
+ * Each call above has one for a course: it is lent all four tables, of courses 0 to 3, then the number of
+ * its course, then what the call on that table takes, the board first. None of table0 to table3 may be
+ * null, whichever course is named, and all lent buffers lie apart from one another: the four tables,
+ * and the board, sheet, records, name or order. No byte of the other three tables is changed. A call
+ * answers and writes as the call on the course's table does, but for two codes:
+ *
+ * SILTTONGS_NO_TABLE, if the number is above 3, or any of the four buffers has a wrong length or a cell
+ * out of its range. silttongs_course_fresh looks at the number and at the length of its own table alone.
+ * Until all four are tables, every other call meets 1.
+ *
+ * SILTTONGS_SHARED_LOG_FULL, checked after 9, for an update, and for each update of a bundle in turn: if
+ * with it the sum over the four tables of the larger of SILTTONGS_ASSURED and the updates taken would be
+ * above SILTTONGS_CARD. To make a course fresh gives its updates back.
+ *
+ * Once all four were made fresh, and nothing but these calls writes in them, a call that would leave its
+ * course with no more than SILTTONGS_ASSURED updates, if it were taken, is never turned away on account
+ * of the others.
+ *
+ * Each course has its own board, lent to its own calls alone. */
+uint64_t silttongs_course_fresh(uint8_t *table0, size_t length0, uint8_t *table1, size_t length1,
+                                uint8_t *table2, size_t length2, uint8_t *table3, size_t length3,
+                                uint8_t course, uint8_t *board, size_t board_length,
+                                uint8_t single_main);
+uint64_t silttongs_course_update(uint8_t *table0, size_t length0, uint8_t *table1, size_t length1,
+                                 uint8_t *table2, size_t length2, uint8_t *table3, size_t length3,
+                                 uint8_t course, uint8_t tablet, uint8_t box, uint8_t kind,
+                                 uint16_t bib, uint32_t v);
+uint64_t silttongs_course_query(uint8_t *table0, size_t length0, uint8_t *table1, size_t length1,
+                                uint8_t *table2, size_t length2, uint8_t *table3, size_t length3,
+                                uint8_t course, uint8_t tablet, uint8_t box, uint16_t bib);
+uint64_t silttongs_course_yield(uint8_t *table0, size_t length0, uint8_t *table1, size_t length1,
+                                uint8_t *table2, size_t length2, uint8_t *table3, size_t length3,
+                                uint8_t course, uint8_t *board, size_t board_length,
+                                uint8_t tablet);
+uint64_t silttongs_course_fork(uint8_t *table0, size_t length0, uint8_t *table1, size_t length1,
+                               uint8_t *table2, size_t length2, uint8_t *table3, size_t length3,
+                               uint8_t course, uint8_t box);
+uint64_t silttongs_course_join(uint8_t *table0, size_t length0, uint8_t *table1, size_t length1,
+                               uint8_t *table2, size_t length2, uint8_t *table3, size_t length3,
+                               uint8_t course, uint8_t *board, size_t board_length, uint8_t joiner,
+                               uint8_t joinee);
+uint64_t silttongs_course_sync(uint8_t *table0, size_t length0, uint8_t *table1, size_t length1,
+                               uint8_t *table2, size_t length2, uint8_t *table3, size_t length3,
+                               uint8_t course, uint8_t *board, size_t board_length, uint8_t box);
+uint64_t silttongs_course_mark(uint8_t *table0, size_t length0, uint8_t *table1, size_t length1,
+                               uint8_t *table2, size_t length2, uint8_t *table3, size_t length3,
+                               uint8_t course, uint8_t box, const uint8_t *name,
+                               size_t name_length);
+uint64_t silttongs_course_drop(uint8_t *table0, size_t length0, uint8_t *table1, size_t length1,
+                               uint8_t *table2, size_t length2, uint8_t *table3, size_t length3,
+                               uint8_t course, const uint8_t *name, size_t name_length);
+uint64_t silttongs_course_list(const uint8_t *table0, size_t length0, const uint8_t *table1,
+                               size_t length1, const uint8_t *table2, size_t length2,
+                               const uint8_t *table3, size_t length3, uint8_t course, uint8_t box,
+                               uint8_t *sheet, size_t sheet_length);
+uint64_t silttongs_course_fill(const uint8_t *table0, size_t length0, const uint8_t *table1,
+                               size_t length1, const uint8_t *table2, size_t length2,
+                               const uint8_t *table3, size_t length3, uint8_t course, uint8_t box);
+uint64_t silttongs_course_bundle(uint8_t *table0, size_t length0, uint8_t *table1, size_t length1,
+                                 uint8_t *table2, size_t length2, uint8_t *table3, size_t length3,
+                                 uint8_t course, uint8_t *board, size_t board_length,
+                                 uint8_t tablet, uint8_t box, const uint8_t *records,
+                                 size_t records_length);
+uint64_t silttongs_course_preview(const uint8_t *table0, size_t length0, const uint8_t *table1,
+                                  size_t length1, const uint8_t *table2, size_t length2,
+                                  const uint8_t *table3, size_t length3, uint8_t course,
+                                  uint8_t joiner, uint8_t joinee, uint16_t bib);
+uint64_t silttongs_course_verify(const uint8_t *table0, size_t length0, const uint8_t *table1,
+                                 size_t length1, const uint8_t *table2, size_t length2,
+                                 const uint8_t *table3, size_t length3, uint8_t course,
+                                 const uint8_t *order, size_t order_length);
+uint64_t silttongs_course_bill(const uint8_t *table0, size_t length0, const uint8_t *table1,
+                               size_t length1, const uint8_t *table2, size_t length2,
+                               const uint8_t *table3, size_t length3, uint8_t course,
+                               uint8_t member);
 
 #ifdef __cplusplus
 }

@@ -1,5 +1,5 @@
 -- No claim rests on this file: it serves the code.
--- What is known of a bundle before anything is written, and what its updates leave: 02, U4.
+-- What is known of a bundle before anything is written, and what its updates leave: 02, U4, U12.
 use Prim.Native.Nat.{ℕ, suc}
 use mathlib.Core.Bool.{true, false, cond}
 use mathlib.Core.Path.{_≡_}
@@ -11,8 +11,6 @@ use Rattle.updates.specs.declared.kind.KindCheck.the-variants as kinds
 use Rattle.bundles.specs.declared.entry.Entry.{Entry}
 use Rattle.cells.specs.Sizes.{updates}
 use Rattle.cells.specs.Checks.{isClient, givenOut, joined, isMark, openElsewhere, busyByOther, stale}
-use Rattle.checks.specs.declared.log.LogCheck.{LogCheck}
-use Rattle.checks.specs.declared.log.LogCheck.the-variants as log
 use Rattle.cells.specs.Steps.{updateBytes}
 use Rattle.entries.specs.Stored.{entry}
 use Rattle.entries.specs.Entries.{wrote}
@@ -36,10 +34,6 @@ pub record Going (t : List ℕ) (c n : ℕ) : Type 0 where
 unfoldable pub entryCheck : ℕ → ℕ → KindCheck
 entryCheck k bib = cond (badBib bib) kinds.Unknown (kindCheck k)
 
--- 9 of an entry, where so many updates are taken
-unfoldable pub roomCheck : ℕ → LogCheck
-roomCheck taken = cond (ltb taken updates) log.Room log.Full
-
 abbrev pub onFit : FitCheck → FitCheck → FitCheck
 onFit Fits rest = rest
 onFit (Refused code) rest = Refused code
@@ -49,14 +43,14 @@ abbrev pub fitCode : FitCheck → ℕ
 fitCode Fits = 0
 fitCode (Refused code) = code
 
--- 5, 9 of an entry
-unfoldable pub fitCheck : ℕ → ℕ → ℕ → FitCheck
-fitCheck k bib taken = onKind (entryCheck k bib) (Refused 5) (λ kind. cond (ltb taken updates) Fits (Refused 9))
+-- 5, 9, 20 of an entry, where so many updates are taken, of so many at most
+unfoldable pub fitCheck : ℕ → ℕ → ℕ → ℕ → FitCheck
+fitCheck k bib taken most = onKind (entryCheck k bib) (Refused 5) (λ kind. cond (ltb taken updates) (cond (ltb taken most) Fits (Refused 20)) (Refused 9))
 
 -- the earliest refusal of the updates, each with one taken more than the one before it; the yield behind them is taken
-unfoldable pub sentCheck : List Entry → ℕ → FitCheck
-sentCheck [] taken = Fits
-sentCheck (e ∷ es) taken = onFit (fitCheck (e .kind) (e .bib) taken) (sentCheck es (suc taken))
+unfoldable pub sentCheck : List Entry → ℕ → ℕ → FitCheck
+sentCheck [] taken most = Fits
+sentCheck (e ∷ es) taken most = onFit (fitCheck (e .kind) (e .bib) taken most) (sentCheck es (suc taken) most)
 
 -- the table after an update that is taken, and after several
 unfoldable pub entered : List ℕ → ℕ → ℕ → Entry → List ℕ

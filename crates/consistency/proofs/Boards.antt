@@ -28,8 +28,9 @@ use Rattle.plain.proofs.Steps.{RanTo, all-accepted, did, same-day}
 use Rattle.table.specs.Halves.{cellsOf, high}
 use Rattle.table.specs.Out.{tableBytes}
 use Rattle.table.specs.Calls.{boardOut, freshBoard, freshOut}
+use Rattle.table.specs.Served.{served}
 use Rattle.table.proofs.Brings.{brings-nothing}
-use Rattle.consistency.specs.Table.{calls, served}
+use Rattle.consistency.specs.Table.{calls}
 use Rattle.consistency.specs.Boards.{KeepsBoard, RightThroughout, boardFrom, boardLeft, dayNext, lent, lentAll}
 use Rattle.consistency.proofs.Table.Stands.{Stands}
 use Rattle.consistency.proofs.Table.Calls.{marks}

@@ -12,21 +12,19 @@ use Rattle.lists.specs.Lists.{_∈_}
 use Rattle.lists.proofs.Cases.{cases}
 use Rattle.bundles.specs.declared.entry.Entry.{Entry}
 use Rattle.boards.specs.Board.{boardBytes, isWrongBoard}
-use Rattle.desk.specs.Calls.{Call, Update, Query, Yield, Fork, Join, Sync, Mark, Drop, Bundle, Looks, Show, Fill, Preview, Verify, Bill, Batch, Records, Entries, entriesOf, plainly}
+use Rattle.desk.specs.Calls.{Call, Update, Query, Yield, Fork, Join, Sync, Mark, Drop, Bundle, Looks, Show, Fill, Preview, Verify, Bill, Batch, Records, Entries, entriesOf}
 use Rattle.desk.specs.Checks.{Check, _if_, checks, settle, codesFor}
 use Rattle.desk.proofs.Checks as Rows
 use Rattle.desk.proofs.Checks.{Passed, Refused, Settled, _also_, among-in, code-exactly, goes, refused-only, settled as settled-row, stops}
 use Rattle.table.specs.Answers.{afterTaken, refused, taken}
 use Rattle.table.specs.Out.{Out, tableBytes}
 use Rattle.table.specs.Calls.{asked, batchOut, billOut, bundleOut, dropOut, entriesOut, fillOut, forkOut, freshBoard, freshOut, joinOut, listOut, markOut, noBill, noFill, noProspect, previewOut, queryOut, sentOut, settled, syncOut, updateOut, verdict, verifyOut, yieldOut}
-use Rattle.table.proofs.Brings.{brings-nothing}
-use Rattle.table.proofs.Syncs.{sync-ends}
 use Rattle.table.specs.declared.answer.Answer.{Answer}
 use Rattle.table.specs.declared.answer.Level.{Level}
 use Rattle.table.specs.declared.answer.Prospect.{Prospect}
-use Rattle.consistency.specs.Table.{onBoard, onTable, outReply}
-use Rattle.consistency.proofs.Table.Calls.{levelReply, prospectReply}
-use Rattle.consistency.proofs.Table.Orders.{verdictReply}
+use Rattle.table.specs.Served.{levelReply, onTable, outReply, plainReply, prospectReply}
+use Rattle.table.proofs.Brings.{board-blank}
+use Rattle.table.proofs.Syncs.{sync-ends}
 use Rattle.consistency.specs.Refusals.{FreshRefused, FreshRefusedExactly, RefusalsChangeNothing}
 
 abbrev listed : Call ℕ → List ℕ
@@ -64,10 +62,6 @@ module _ (t : List ℕ) where
   bill-refused : (member : Bool) → (billOut t member .code ≡ 0 → ⊥) → Refused (λ (a : Answer). a .code) noBill (listed (Looks (Bill member))) (billOut t member)
   unfolding billOut
   bill-refused member = refused-only (λ (a : Answer). a .code) noBill (λ k. refl) (asked t) (Looks (Bill member)) _ (λ P h. absurd (h refl))
-
--- a refusal brings nothing to the board
-pub board-blank : (t board : List ℕ) {o : Out} → o ≡ refused t (o .code) → onBoard t board o ≡ record { reply = plainly (o .code) 0 []; table = t; board = board }
-board-blank t board {o} e = ap (onBoard t board) e ∙ ap (λ b. record { reply = plainly (o .code) 0 []; table = t; board = b }) (brings-nothing t board)
 
 -- a sync whose checks find nothing is taken
 sync-refused : (t : List ℕ) (m room : ℕ) → (syncOut t m room .code ≡ 0 → ⊥) → OutRefused t (listed (Sync m room)) (syncOut t m room)
@@ -110,8 +104,8 @@ refusals-change-nothing t (Bundle c n (Entries es) board) e = let r = batch-refu
 refusals-change-nothing t (Looks (Show n s)) e = let r = out-refused t s (Looks (Show n (length s))) _ (λ P h. absurd (h refl)) e in record { number = r .number; blank = ap (λ u. record { reply = outReply u (u .lent); table = t; board = [] }) (r .is) }
 refusals-change-nothing t (Looks (Fill n)) e = let r = level-refused t (Looks (Fill n)) _ (λ P h. absurd (h refl)) e in record { number = r .number; blank = ap (λ f. record { reply = levelReply f; table = t; board = [] }) (r .is) }
 refusals-change-nothing t (Looks (Preview n m bib)) e = let r = preview-refused t n m bib e in record { number = r .number; blank = ap (λ f. record { reply = prospectReply f; table = t; board = [] }) (r .is) }
-refusals-change-nothing t (Looks (Verify file)) e = let r = verify-refused t file e in record { number = r .number; blank = ap (λ a. record { reply = verdictReply a; table = t; board = [] }) (r .is) }
-refusals-change-nothing t (Looks (Bill member)) e = let r = bill-refused t member e in record { number = r .number; blank = ap (λ a. record { reply = plainly (a .code) (a .value) []; table = t; board = [] }) (r .is) }
+refusals-change-nothing t (Looks (Verify file)) e = let r = verify-refused t file e in record { number = r .number; blank = ap (λ a. record { reply = plainReply a; table = t; board = [] }) (r .is) }
+refusals-change-nothing t (Looks (Bill member)) e = let r = bill-refused t member e in record { number = r .number; blank = ap (λ a. record { reply = plainReply a; table = t; board = [] }) (r .is) }
 
 -- of fresh: its two checks
 module _ (t : List ℕ) (single : Bool) (board : List ℕ) where

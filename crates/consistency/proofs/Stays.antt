@@ -36,7 +36,7 @@ use Rattle.table.proofs.Syncs.{joins}
 use Rattle.table.specs.declared.answer.Answer.{Answer}
 use Rattle.table.specs.declared.answer.Level.{Level}
 use Rattle.table.specs.declared.answer.Prospect.{Prospect}
-use Rattle.consistency.specs.Table.{served}
+use Rattle.table.specs.Served.{served}
 use Rattle.consistency.specs.Stays.{FreshMakesTable, LeavesTable, StaysTable}
 
 -- 1 is given exactly if there is no table, where the end does not give it

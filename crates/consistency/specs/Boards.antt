@@ -12,7 +12,8 @@ use Rattle.plain.specs.Answers.{called, dayAfter}
 use Rattle.plain.specs.Boards.{Brings, Right}
 use Rattle.table.specs.Out.{tableBytes}
 use Rattle.table.specs.Calls.{freshBoard, freshOut}
-use Rattle.consistency.specs.Table.{calls, served}
+use Rattle.table.specs.Served.{served}
+use Rattle.consistency.specs.Table.{calls}
 
 -- "Fresh, yield, bundle, join and sync take it, no other call"
 abbrev pub takesBoard : Call (List ℕ) → Bool

@@ -10,7 +10,7 @@ use Rattle.table.specs.Halves.{isTable}
 use Rattle.boards.specs.Board.{boardBytes}
 use Rattle.table.specs.Out.{tableBytes}
 use Rattle.table.specs.Calls.{freshOut}
-use Rattle.consistency.specs.Table.{served}
+use Rattle.table.specs.Served.{served}
 
 -- 1 "buffer length isn't 65,536, or a cell is out of its range": exactly then
 pub record LeavesTable (t : List ℕ) (q : Call (List ℕ)) : Type 0 where

@@ -1,55 +1,15 @@
--- What a caller has of the calls at a table, by the definitions that the code is equal to, and an answer on paper as a caller would have it.
+-- A list of calls at a table, each served by the definitions that the code is equal to, and an answer on paper as a caller would have it.
 use Prim.Native.Nat.{ℕ, _*_}
 use mathlib.Core.List.{List, [], _∷_, _++_}
 use lib.ListN.{length, drop}
-use Rattle.updates.specs.declared.standing.State.the-variants.{Neither}
-use Rattle.desk.specs.Calls.{Call, Update, Query, Yield, Fork, Join, Sync, Mark, Drop, Bundle, Looks, Look, Show, Fill, Preview, Verify, Bill, Records, Entries, Answer, plainly, answerOn, callsOn}
+use Rattle.desk.specs.Calls.{Call, Answer, answerOn, callsOn}
 use Rattle.sheets.specs.Lines.{line}
 use Rattle.plain.specs.Record.{Line}
-use Rattle.table.specs.Out.{Out}
-use Rattle.table.specs.Calls.{boardOut, updateOut, queryOut, yieldOut, forkOut, joinOut, syncOut, markOut, dropOut, listOut, fillOut, bundleOut, entriesOut, previewOut, verifyOut, billOut}
+use Rattle.table.specs.Served.{served, sheetOf}
 
 -- at a table a sheet or a board is bytes; on paper "only the length" is told
 abbrev pub calls : List (Call (List ℕ)) → List (Call ℕ)
 calls qs = callsOn length qs
-
--- what a caller has of a call: its answer, with the bytes of the sheet, if one was lent; the table; and the board, if one was lent
-pub record Served : Type 0 where
-  pub reply : Answer (List ℕ)
-  pub table : List ℕ
-  pub board : List ℕ
-
--- of a call that has bytes lent to be written
-abbrev pub outReply : Out → List ℕ → Answer (List ℕ)
-outReply u sheet = record { code = u .code; state = u .state; value = u .value; total = 0; gain = 0; sheet = sheet }
-
--- calls that only look leave the table
-abbrev pub looked : List ℕ → Look (List ℕ) → Answer (List ℕ)
-looked t (Show n sheet) = let u = listOut t n sheet in outReply u (u .lent)
-looked t (Fill n) = let f = fillOut t n in record { code = f .code; state = Neither; value = f .own; total = f .total; gain = 0; sheet = [] }
-looked t (Preview n m bib) = let f = previewOut t n m bib in record { code = f .code; state = f .state; value = f .value; total = 0; gain = f .gain; sheet = [] }
-looked t (Verify file) = let a = verifyOut t file in record { code = a .code; state = Neither; value = a .value; total = 0; gain = 0; sheet = [] }
-looked t (Bill member) = let a = billOut t member in plainly (a .code) (a .value) []
-
-abbrev pub onTable : Out → Served
-onTable u = record { reply = outReply u []; table = u .lent; board = [] }
-
--- 02, U10: of a call that a board is lent to, besides
-abbrev pub onBoard : List ℕ → List ℕ → Out → Served
-onBoard t board u = record { reply = outReply u []; table = u .lent; board = boardOut t (u .lent) board }
-
-abbrev pub served : List ℕ → Call (List ℕ) → Served
-served t (Update c n k bib v) = onTable (updateOut t c n k bib v)
-served t (Query c n bib) = onTable (queryOut t c n bib)
-served t (Yield c board) = onBoard t board (yieldOut t c (length board))
-served t (Fork n) = onTable (forkOut t n)
-served t (Join n m board) = onBoard t board (joinOut t n m (length board))
-served t (Sync m board) = onBoard t board (syncOut t m (length board))
-served t (Mark n name) = onTable (markOut t n name)
-served t (Drop name) = onTable (dropOut t name)
-served t (Bundle c n (Records bytes) board) = onBoard t board (bundleOut t c n bytes (length board))
-served t (Bundle c n (Entries es) board) = onBoard t board (entriesOut t c n es (length board))
-served t (Looks l) = record { reply = looked t l; table = t; board = [] }
 
 -- the replies of a table to a list of calls, each getting it as the last one left it
 unfoldable pub repliesOn : List ℕ → List (Call (List ℕ)) → List (Answer (List ℕ))
@@ -65,36 +25,6 @@ tableAfter t (q ∷ qs) = tableAfter (served t q .table) qs
 abbrev pub inBytes : List Line → List ℕ
 inBytes [] = []
 inBytes (l ∷ ls) = line (l .entry) (l .number) ++ inBytes ls
-
--- the sheet that a call is lent, if any
-abbrev pub sheetOf : Call (List ℕ) → List ℕ
-sheetOf (Update c n k bib v) = []
-sheetOf (Query c n bib) = []
-sheetOf (Yield c board) = []
-sheetOf (Fork n) = []
-sheetOf (Join n m board) = []
-sheetOf (Sync m board) = []
-sheetOf (Mark n name) = []
-sheetOf (Drop name) = []
-sheetOf (Bundle c n batch board) = []
-sheetOf (Looks (Show n sheet)) = sheet
-sheetOf (Looks (Fill n)) = []
-sheetOf (Looks (Preview n m bib)) = []
-sheetOf (Looks (Verify file)) = []
-sheetOf (Looks (Bill member)) = []
-
--- the board that a call is lent, if any
-abbrev pub boardLent : Call (List ℕ) → List ℕ
-boardLent (Update c n k bib v) = []
-boardLent (Query c n bib) = []
-boardLent (Yield c board) = board
-boardLent (Fork n) = []
-boardLent (Join n m board) = board
-boardLent (Sync m board) = board
-boardLent (Mark n name) = []
-boardLent (Drop name) = []
-boardLent (Bundle c n batch board) = board
-boardLent (Looks l) = []
 
 -- an answer on paper as a caller gets it: the lines come first, and "Bytes from 12 n on stay."
 abbrev pub sheetWith : List Line → List ℕ → List ℕ

@@ -14,9 +14,10 @@ use Rattle.diagram.specs.Names.{isSome}
 use Rattle.plain.specs.Record.{PlainDay}
 use Rattle.table.specs.Out.{Out, tableBytes}
 use Rattle.table.specs.Calls.{freshBoard}
-use Rattle.consistency.specs.Table.{Served, outReply}
-use Rattle.courses.specs.Log.{courses}
-use Rattle.courses.specs.Courses.{Ask, CourseCall, Fresh, Heard, Plain, Tables, alone, gets, heard, madeFresh, tablesAfter, turnedAway, written}
+use Rattle.table.specs.Served.{Served, outReply}
+use Rattle.card.specs.Log.{courses}
+use Rattle.card.specs.Courses.{Ask, CourseCall, Fresh, Plain, Tables, gets, madeFresh, turnedAway, written}
+use Rattle.courses.specs.Heard.{Heard, alone, heard, tablesAfter}
 use Rattle.courses.specs.Days.{toldAlone, toldOf}
 use Rattle.courses.specs.Claims.{Alone, Asked, Begins, DaysAgree, EachMakes, asks, isMade, wasMade}
 use Rattle.courses.proofs.Told.{courses-alone}

@@ -6,25 +6,28 @@ use mathlib.Core.List.{List}
 use native.Mathlib.Omega.{arith}
 use lib.Dec.{eqb, ltb}
 use lib.ListN.{length}
-use borrow.Author.Tests.{eqb-false, eqb-true, lt-ltb, ltb-false, ltb-true}
+use borrow.Author.Tests.{eqb-false, eqb-true, ltb-false, ltb-true}
 use Rattle.lists.specs.Lists.{changed}
 use Rattle.lists.proofs.Cases.{cases, either}
 use Rattle.boards.specs.Board.{boardBytes}
 use Rattle.desk.specs.Calls.{Call, callOn}
 use Rattle.plain.specs.Record.{PlainDay, freshDay}
 use Rattle.plain.specs.Fills.{enters}
-use Rattle.consistency.specs.Table.{Served, served}
+use Rattle.table.specs.Served.{Served, served}
+use Rattle.table.specs.Shared.{countIn}
 use Rattle.consistency.proofs.Table.Stands.{Stands, is-table}
 use Rattle.consistency.proofs.Table.Follows.{table-follows}
-use Rattle.courses.specs.Log.{assured, card, courses, larger, logged}
-use Rattle.courses.specs.Courses.{Ask, CourseCall, Fresh, Plain, Tables, countIn, counts, courseServed, isFull, madeFresh, noFresh, sharing, tablesAfter, written}
+use Rattle.card.specs.Log.{assured, card, courses, larger, logged}
+use Rattle.card.specs.Courses.{Ask, CourseCall, Fresh, Plain, Tables, counts, courseServed, isFull, madeFresh, sharing, written}
+use Rattle.card.proofs.Courses.{IsCourse, course-is, fresh-by-number, served-by-course}
+use Rattle.card.proofs.Log.{assured-room, larger-assured, logged-changed, logged-follows, logged-same, room-left, within-passes}
+use Rattle.courses.specs.Heard.{tablesAfter}
 use Rattle.courses.specs.Claims.{OnceAllMade}
-use Rattle.courses.proofs.Log.{assured-room, larger-assured, logged-changed, logged-follows, logged-same, room-left, within-passes}
 use Rattle.courses.proofs.Shared.{sharing-is}
 use Rattle.courses.proofs.Told.{others-stay, own-written}
 use Rattle.courses.proofs.Counts.{count-is, count-next, sharing-passes, sharing-room}
 use Rattle.courses.proofs.Made.{Days, all-days, made-stands}
-use Rattle.courses.proofs.Codes.{IsCourse, course-is, never-twenty, ones-exactly}
+use Rattle.courses.proofs.Codes.{never-twenty, ones-exactly}
 
 module _ (ts : Tables) (D : Days ts) (i : ℕ) (l : i < courses) where
   abbrev p : PlainDay
@@ -40,8 +43,7 @@ module _ (ts : Tables) (D : Days ts) (i : ℕ) (l : i < courses) where
   C = record { number = l; tables = λ j k. is-table (D .day j k) (ts j) (D .stands j k) }
 
   had-shared : (q : Call (List ℕ)) → courseServed ts i (Plain q) ≡ sharing full (ts i) q
-  unfolding courseServed
-  had-shared q = rw (course-is ts i C)
+  had-shared = served-by-course ts i (course-is ts i C)
 
   pub never-one : (a : Ask) → courseServed ts i a .reply .code ≡ 1 → ⊥
   never-one (Fresh single board) e = ones-exactly ts i .fresh single board .0 e (l, S .size)
@@ -93,10 +95,6 @@ module _ (ts : Tables) (D : Days ts) (i : ℕ) (l : i < courses) where
     abbrev c : CourseCall
     c = record { course = i; ask = Fresh single board }
 
-    had-fresh : courseServed ts i (Fresh single board) ≡ madeFresh (ts i) single board
-    unfolding courseServed noFresh
-    had-fresh = rw (lt-ltb i courses l)
-
     made-taken : madeFresh (ts i) single board .reply .code ≡ 0
     made-taken = rw b (table-follows (ts i) (S .size) single .0)
 
@@ -106,7 +104,7 @@ module _ (ts : Tables) (D : Days ts) (i : ℕ) (l : i < courses) where
     by : (x : ℕ) → counts (written ts c) x ≡ changed (counts ts) i 0 x
     by x =
         cases (eqb x i)
-        (λ e. rw e (ap countIn (own-written ts c x (sym (eqb-true x i e)) ∙ ap (λ (u : Served). u .table) had-fresh) ∙ none-left))
+        (λ e. rw e (ap countIn (own-written ts c x (sym (eqb-true x i e)) ∙ ap (λ (u : Served). u .table) (fresh-by-number ts i l single board)) ∙ none-left))
         (λ e. rw e (ap countIn (others-stay ts c x (eqb-false x i e))))
 
     gives-back : logged (counts (written ts c)) + larger (counts ts i) ≡ logged (counts ts) + assured

@@ -15,12 +15,13 @@ use Rattle.plain.specs.Boards.{Right}
 use Rattle.plain.proofs.Boards.{fresh-is-right}
 use Rattle.table.specs.Out.{Out}
 use Rattle.table.specs.Calls.{freshBoard}
-use Rattle.consistency.specs.Table.{Served, boardLent, served}
+use Rattle.table.specs.Served.{Served, boardLent, served}
 use Rattle.consistency.specs.Boards.{lent, takesBoard}
 use Rattle.consistency.proofs.Boards.{cleared, keeps-board}
 use Rattle.consistency.proofs.Refusals.{still}
 use Rattle.consistency.proofs.Table.Stands.{Stands}
-use Rattle.courses.specs.Courses.{Ask, Fresh, Heard, Plain, turnedAway}
+use Rattle.card.specs.Courses.{Ask, Fresh, Plain, turnedAway}
+use Rattle.courses.specs.Heard.{Heard}
 use Rattle.courses.specs.Days.{Got, Nothing, Told, dayTo, enteredAll, onPaper, toldAlone, toldCalled, toldTo}
 use Rattle.courses.specs.Claims.{Alone}
 use Rattle.courses.specs.Boards.{BoardsStayRight, OneBoard, boardAsked, boardNext, boardTo, takes}

@@ -9,20 +9,22 @@ use borrow.Author.Tests.{eq-eqb, eqb-false, eqb-true}
 use Rattle.lists.proofs.Cases.{cases, either}
 use Rattle.bundles.specs.declared.entry.Entry.{Entry}
 use Rattle.boards.specs.Board.{boardBytes}
-use Rattle.desk.specs.Calls.{Batch, Bundle, Call, Update, Yield, entriesOf, isWrongBatch}
+use Rattle.desk.specs.Calls.{Call, Update, Yield, entriesOf}
 use Rattle.table.specs.Answers.{afterTaken}
 use Rattle.table.specs.Halves.{isTable}
 use Rattle.table.specs.Out.{Out}
 use Rattle.table.specs.Calls.{settled, yieldOut}
-use Rattle.consistency.specs.Table.{Served, onBoard, onTable}
+use Rattle.table.specs.Served.{Served, onTable}
+use Rattle.table.specs.Shared.{countIn, sentShared, updateShared}
 use Rattle.consistency.proofs.Stays.{stays-table}
-use Rattle.courses.specs.Log.{courses}
-use Rattle.courses.specs.Courses.{CourseCall, Plain, Tables, batchShared, countIn, courseServed, gets, heard, isFull, noCourse, sentShared, sharing, tablesAfter, updateShared, written}
+use Rattle.card.specs.Log.{courses}
+use Rattle.card.specs.Courses.{CourseCall, Plain, Tables, gets, isFull, noCourse, sharing, written}
+use Rattle.card.proofs.Log.{passes-same}
+use Rattle.card.proofs.Courses.{bundle-sent, course-is, is-course, served-by-course}
+use Rattle.courses.specs.Heard.{heard, tablesAfter}
 use Rattle.courses.specs.Bundles.{BundlesOneByOne, firstCode, singly}
-use Rattle.courses.proofs.Log.{passes-same}
 use Rattle.courses.proofs.Shared.{sharing-is}
 use Rattle.courses.proofs.Told.{others-stay, own-written}
-use Rattle.courses.proofs.Codes.{course-is, is-course}
 
 only-code : (k : ℕ) → k ≡ cond (eqb k 0) 0 k
 only-code k = cases (eqb k 0) (λ e. rw e (eqb-true k 0 e)) (λ e. rw e)
@@ -37,12 +39,8 @@ module _ (i : ℕ) where
   abbrev calling : Call (List ℕ) → CourseCall
   calling q = record { course = i; ask = Plain q }
 
-  got-is : (ts : Tables) → noCourse ts i ≡ false → (q : Call (List ℕ)) → gets ts (calling q) ≡ sharing (isFull ts i) (ts i) q
-  unfolding courseServed
-  got-is ts e q = rw e
-
   next-is : (ts : Tables) → noCourse ts i ≡ false → (q : Call (List ℕ)) → written ts (calling q) i ≡ sharing (isFull ts i) (ts i) q .table
-  next-is ts e q = own-written ts (calling q) i refl ∙ ap (λ (u : Served). u .table) (got-is ts e q)
+  next-is ts e q = own-written ts (calling q) i refl ∙ ap (λ (u : Served). u .table) (served-by-course ts i e q)
 
   -- the others' counts and tables stay, and its own stays a table
   full-next : (ts : Tables) (q : Call (List ℕ)) (n : ℕ) → isFull (written ts (calling q)) i n ≡ isFull ts i n
@@ -86,7 +84,7 @@ module _ (i : ℕ) where
     yield-sent : (ts : Tables) → noCourse ts i ≡ false → Sent (yieldOut (ts i) c boardBytes) ts (calling (Yield c board) ∷ [])
     unfolding firstCode tablesAfter heard
     yield-sent ts e =
-        let g : gets ts (calling (Yield c board)) .reply .code ≡ yieldOut (ts i) c boardBytes .code = ap (λ (u : Served). u .reply .code) (got-is ts e (Yield c board)) ∙ rw b in
+        let g : gets ts (calling (Yield c board)) .reply .code ≡ yieldOut (ts i) c boardBytes .code = ap (λ (u : Served). u .reply .code) (served-by-course ts i e (Yield c board)) ∙ rw b in
         record { code = only-code (yieldOut (ts i) c boardBytes .code) ∙ sym (first-is ts (Yield c board) [] (yieldOut (ts i) c boardBytes .code) g); lent = λ z. sym (next-is ts e (Yield c board) ∙ rw b) }
 
     -- a call and, if it is taken, those after it
@@ -100,7 +98,7 @@ module _ (i : ℕ) where
 
     update-got : (ts : Tables) → noCourse ts i ≡ false → ((k : ℕ) → full k ≡ isFull ts i k) → (k bib v : ℕ) → gets ts (calling (Update c n k bib v)) ≡ onTable (updateShared full (ts i) c n k bib v)
     unfolding updateShared
-    update-got ts e same k bib v = got-is ts e (Update c n k bib v) ∙ rw (same (suc (countIn (ts i))))
+    update-got ts e same k bib v = served-by-course ts i e (Update c n k bib v) ∙ rw (same (suc (countIn (ts i))))
 
     sent-one-by-one : (es : List Entry) (ts : Tables) → noCourse ts i ≡ false → ((k : ℕ) → full k ≡ isFull ts i k) → Sent (sentShared full (ts i) c n es) ts (singly i c n es board)
     unfolding sentShared
@@ -113,16 +111,10 @@ module _ (i : ℕ) where
         goes-on ts q (singly i c n es board) (updateShared full (ts i) c n (x .kind) (x .bib) (x .v)) (λ d. sentShared full d c n es) g
         (subst (λ d. Sent (sentShared full d c n es) us (singly i c n es board)) (own-written ts (calling q) i refl ∙ ap (λ (u : Served). u .table) g) R)
 
-  -- 1, 14 and 19 don't apply
-  batch-is : (ts : Tables) (c n : ℕ) (batch : Batch) (board : List ℕ) → noCourse ts i ≡ false → isWrongBatch batch ≡ false → length board ≡ boardBytes
-      → courseServed ts i (Plain (Bundle c n batch board)) ≡ onBoard (ts i) board (settled (ts i) (sentShared (isFull ts i) (ts i) c n (entriesOf batch)))
-  unfolding batchShared
-  batch-is ts c n batch board e w b = got-is ts e (Bundle c n batch board) ∙ rw (is-course ts i e .tables i (is-course ts i e .number), w, b)
-
 pub bundles-one-by-one : BundlesOneByOne
 bundles-one-by-one ts i c n batch board e w b =
     let o = sentShared (isFull ts i) (ts i) c n (entriesOf batch) in
     let R = sent-one-by-one i c n board b (isFull ts i) (entriesOf batch) ts e (λ k. refl) in
-    let h = batch-is i ts c n batch board e w b in
+    let h = bundle-sent ts i c n batch board e w b in
     let k = ap (λ (u : Served). u .reply .code) h ∙ settled-code (ts i) o in
     record { code = k ∙ R .code; table = λ z. ap (λ (u : Served). u .table) h ∙ settled-lent (ts i) o (sym k ∙ z) ∙ R .lent (sym k ∙ z) }

@@ -1,49 +1,37 @@
 -- When a call of a course has 1, and when 20, of any four buffers.
 use Prim.Native.Nat.{ℕ, suc, _<_}
-use mathlib.Core.Bool.{Bool, true, false, not, _&&_, true≢false}
+use mathlib.Core.Bool.{Bool, true, false, _&&_, true≢false}
 use mathlib.Core.Logic.{_↔_}
 use mathlib.Core.Path.{_≡_, refl, sym, _∙_, ap, subst}
 use mathlib.Core.List.{List, [], _∷_, List·Memᴰ·head, List·Memᴰ·tail}
 use native.Mathlib.Omega.{arith}
 use lib.Dec.{eqb, ltb}
 use lib.ListN.{length}
-use borrow.Author.Tests.{eqb-true, lt-ltb, ltb-true, not-false}
+use borrow.Author.Tests.{eqb-true, lt-ltb, ltb-true}
 use Rattle.lists.specs.Lists.{_∈_}
 use Rattle.lists.specs.Arranged.{member}
-use Rattle.lists.proofs.Cases.{and-true, cases, cond-all, either, or-false}
+use Rattle.lists.proofs.Cases.{and-true, cases, cond-all, either}
 use Rattle.lists.proofs.Keep.{in-member}
-use Rattle.lists.proofs.Sums.{any-never, any-none}
 use Rattle.bundles.specs.declared.entry.Entry.{Entry}
 use Rattle.desk.specs.Calls.{Call, Update, Query, Yield, Fork, Join, Sync, Mark, Drop, Bundle, Looks, Show, Fill, Preview, Verify, Bill, entriesOf, callOn}
 use Rattle.desk.specs.Checks.{checks, codesFor, settle}
 use Rattle.plain.specs.Fills.{enters}
 use Rattle.table.specs.Answers.{refused}
-use Rattle.table.specs.Halves.{isTable}
 use Rattle.table.specs.Out.{Out}
 use Rattle.table.specs.Calls.{asked, sentOut, settled, updateOut}
-use Rattle.consistency.specs.Table.{Served, onBoard, served}
+use Rattle.table.specs.Served.{Served, onBoard, served}
+use Rattle.table.specs.Shared.{batchShared, findsFull, sentShared, unlessFull, updateShared}
+use Rattle.table.proofs.Shared.{bundle-is}
 use Rattle.consistency.proofs.Refusals.{fresh-refused, fresh-refused-exactly, refusals-change-nothing}
 use Rattle.consistency.proofs.Stays.{stays-table}
-use Rattle.courses.specs.Log.{courses}
-use Rattle.courses.specs.Courses.{Ask, Fresh, Plain, Tables, alone, batchShared, counts, courseServed, findsFull, isFull, noCourse, noFresh, sentShared, sharing, unlessFull, updateShared}
+use Rattle.card.specs.Log.{courses}
+use Rattle.card.specs.Courses.{Ask, Fresh, Plain, Tables, counts, courseServed, isFull, noCourse, noFresh, sharing}
+use Rattle.card.proofs.Log.{over-passes, passes-over}
+use Rattle.card.proofs.Courses.{IsCourse, is-course}
+use Rattle.courses.specs.Heard.{alone}
 use Rattle.courses.specs.Claims.{IsTurnedAway, OnesExactly, RefusalsChangeNothing, TwentyByUpdates, TwentyExactly, codesOf}
-use Rattle.courses.proofs.Log.{over-passes, passes-over}
-use Rattle.courses.proofs.Shared.{bundle-is, sharing-is}
+use Rattle.courses.proofs.Shared.{sharing-is}
 use Rattle.courses.proofs.Told.{refused-alone}
-
-pub record IsCourse (ts : Tables) (i : ℕ) : Type 0 where
-  pub number : i < courses
-  pub tables : (j : ℕ) → j < courses → isTable (ts j) ≡ true
-
-pub is-course : (ts : Tables) (i : ℕ) → noCourse ts i ≡ false → IsCourse ts i
-unfolding noCourse
-is-course ts i e =
-    let o = or-false (not (ltb i courses)) _ e in
-    record { number = ltb-true i courses (not-false _ (o .0)); tables = λ j l. not-false (isTable (ts j)) (any-none courses (λ j. not (isTable (ts j))) (o .1) j l) }
-
-pub course-is : (ts : Tables) (i : ℕ) → IsCourse ts i → noCourse ts i ≡ false
-unfolding noCourse
-course-is ts i C = rw (lt-ltb i courses (C .number)) (any-never courses (λ j. not (isTable (ts j))) (λ j l. rw (C .tables j l)))
 
 -- a table alone never gives 20
 unlisted : (q : Call (List ℕ)) → member 20 (codesFor q) ≡ false

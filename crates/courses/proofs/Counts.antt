@@ -18,12 +18,14 @@ use Rattle.plain.proofs.Fills.{adds}
 use Rattle.table.specs.Answers.{refused, taken}
 use Rattle.table.specs.Out.{Out}
 use Rattle.table.specs.Calls.{asked, sentOut, settled, updateOut, yieldOut}
-use Rattle.consistency.specs.Table.{Served, onBoard, onTable, served}
+use Rattle.table.specs.Served.{Served, onBoard, onTable, served}
+use Rattle.table.specs.Shared.{batchShared, countIn, findsFull, sentShared, unlessFull, updateShared}
+use Rattle.table.proofs.Shared.{bundle-is}
 use Rattle.consistency.proofs.Table.Stands.{Stands, bytes-are}
 use Rattle.consistency.proofs.Table.Calls.{Same, marks, update-same, yield-same}
 use Rattle.consistency.proofs.Table.Follows.{call-same}
-use Rattle.courses.specs.Courses.{batchShared, countIn, findsFull, sentShared, sharing, unlessFull, updateShared}
-use Rattle.courses.proofs.Shared.{bundle-is, update-is}
+use Rattle.card.specs.Courses.{sharing}
+use Rattle.courses.proofs.Shared.{update-is}
 
 pub count-is : (p : PlainDay) (t : List ℕ) → Stands p t → countIn t ≡ p .day .updates
 count-is p t S = bytes-are p t S .follow .same-updates

@@ -11,12 +11,13 @@ use Rattle.desk.specs.Calls.{Call}
 use Rattle.plain.specs.Record.{PlainDay, freshDay}
 use Rattle.table.specs.Out.{Out, tableBytes}
 use Rattle.table.specs.Calls.{freshOut}
-use Rattle.consistency.specs.Table.{Served, outReply}
+use Rattle.table.specs.Served.{Served, outReply}
 use Rattle.consistency.proofs.Table.Stands.{Stands}
 use Rattle.consistency.proofs.Table.Calls.{Same}
 use Rattle.consistency.proofs.Table.Follows.{call-same}
 use Rattle.consistency.proofs.Demand.{demand-three}
-use Rattle.courses.specs.Courses.{Ask, Fresh, Heard, Plain, madeFresh}
+use Rattle.card.specs.Courses.{Ask, Fresh, Plain, madeFresh}
+use Rattle.courses.specs.Heard.{Heard}
 use Rattle.courses.specs.Days.{Got, Nothing, Told, answersTo, enteredAll, onPaper, repliesOf, repliesTo, sheetAsked, toldAlone, toldCalled, toldTo}
 use Rattle.courses.specs.Claims.{Alone, CoursesExplained, FollowsPlainDay, ifUntold, isMade, servedOn, untold, untoldGot}
 use Rattle.courses.proofs.Told.{courses-alone, refused-alone}

@@ -1,5 +1,4 @@
 -- The proofs of the claims about four courses.
-pub mod Log
 pub mod Shared
 pub mod Told
 pub mod Counts
@@ -8,7 +7,6 @@ pub mod Codes
 pub mod Assured
 pub mod Days
 pub mod Agree
-pub mod Examples
 pub mod Boards
 pub mod Bundles
-pub mod Room
+pub mod Light

@@ -20,13 +20,15 @@ use Rattle.entries.specs.Sizes as Upper
 use Rattle.table.specs.Answers.{refused, taken}
 use Rattle.table.specs.Out.{tableBytes}
 use Rattle.table.specs.Calls.{freshOut}
-use Rattle.consistency.specs.Table.{Served}
+use Rattle.table.specs.Served.{Served}
+use Rattle.table.specs.Shared.{countIn}
 use Rattle.consistency.proofs.Table.Stands.{Stands}
 use Rattle.consistency.proofs.Table.Follows.{call-same, fresh-stands}
-use Rattle.courses.specs.Log.{card, courses, logged}
-use Rattle.courses.specs.Courses.{Ask, CourseCall, Fresh, Plain, Tables, countIn, counts, courseServed, gets, heard, isFull, madeFresh, noCourse, noFresh, sharing, tablesAfter, turnedAway, written}
+use Rattle.card.specs.Log.{card, courses, logged}
+use Rattle.card.specs.Courses.{Ask, CourseCall, Fresh, Plain, Tables, counts, courseServed, gets, isFull, madeFresh, noCourse, noFresh, sharing, turnedAway, written}
+use Rattle.card.proofs.Log.{logged-follows, logged-none, room-left}
+use Rattle.courses.specs.Heard.{heard, tablesAfter}
 use Rattle.courses.specs.Claims.{AllMade, isMade, wasMade}
-use Rattle.courses.proofs.Log.{logged-follows, logged-none, room-left}
 use Rattle.courses.proofs.Shared.{sharing-is}
 use Rattle.courses.proofs.Told.{others-stay, own-written, refused-alone}
 use Rattle.courses.proofs.Counts.{count-is, sharing-room}

@@ -8,14 +8,16 @@ use lib.Dec.{eqb}
 use lib.ListN.{length}
 use Rattle.lists.proofs.Cases.{cases, either}
 use Rattle.bundles.specs.declared.entry.Entry.{Entry}
-use Rattle.desk.specs.Calls.{Call, Update, Query, Yield, Fork, Join, Sync, Mark, Drop, Bundle, Looks, Batch, Records, Entries, entriesOf}
+use Rattle.desk.specs.Calls.{Call, Update, Query, Yield, Fork, Join, Sync, Mark, Drop, Bundle, Looks, Batch, entriesOf}
 use Rattle.desk.specs.Checks.{Check, checks, settle}
 use Rattle.table.specs.Answers.{afterTaken, refused}
 use Rattle.table.specs.Out.{Out}
-use Rattle.table.specs.Calls.{asked, batchOut, bundleOut, entriesOut, sentOut, settled, updateOut}
-use Rattle.consistency.specs.Table.{onBoard, onTable, served}
-use Rattle.consistency.proofs.Refusals.{board-blank}
-use Rattle.courses.specs.Courses.{Plain, batchShared, findsFull, sentShared, sharing, turnedAway, unlessFull, updateShared}
+use Rattle.table.specs.Calls.{asked, batchOut, sentOut, settled, updateOut}
+use Rattle.table.specs.Served.{onBoard, onTable, served}
+use Rattle.table.specs.Shared.{batchShared, findsFull, sentShared, unlessFull, updateShared}
+use Rattle.table.proofs.Brings.{board-blank}
+use Rattle.table.proofs.Shared.{bundle-is}
+use Rattle.card.specs.Courses.{Plain, sharing, turnedAway}
 
 -- 20, or what the update alone has
 unless-is : (full : Bool) (t : List ℕ) (o : Out) → (unlessFull full t o ≡ o) ⊎ (unlessFull full t o ≡ refused t 20)
@@ -25,11 +27,6 @@ unless-is full t o = cases (findsFull full o) (λ e. rw e (inr refl)) (λ e. rw 
 stops-or-ends : {A : Type 0} (refusal : ℕ → A) (a b : A) (ks : List Check) → (settle ks refusal a ≡ settle ks refusal b) ⊎ (settle ks refusal a ≡ a)
 stops-or-ends refusal a b [] = inr refl
 stops-or-ends refusal a b (k ∷ ks) = cases (k .applies) (λ e. rw e (inl refl)) (λ e. rw e (stops-or-ends refusal a b ks))
-
-pub bundle-is : (t : List ℕ) (c n : ℕ) (batch : Batch) (board : List ℕ) → served t (Bundle c n batch board) ≡ onBoard t board (batchOut t c n batch (length board))
-unfolding bundleOut entriesOut
-bundle-is t c n (Records bytes) board = refl
-bundle-is t c n (Entries es) board = refl
 
 module _ (full : ℕ → Bool) where
   pub update-is : (t : List ℕ) (c n k bib v : ℕ) → (updateShared full t c n k bib v ≡ updateOut t c n k bib v) ⊎ (updateShared full t c n k bib v ≡ refused t 20)

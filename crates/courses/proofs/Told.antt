@@ -7,15 +7,15 @@ use native.Mathlib.Omega.{arith}
 use lib.Dec.{eqb}
 use lib.ListN.{length}
 use borrow.Author.Tests.{eqb-false, eqb-true}
-use Rattle.lists.specs.Lists.{changed}
 use Rattle.lists.proofs.Cases.{cases, cond-all, either, or-cases}
-use Rattle.lists.proofs.Changed.{changed-other, changed-same}
 use Rattle.desk.specs.Calls.{plainly}
 use Rattle.table.specs.Out.{Out}
 use Rattle.table.specs.Calls.{freshBoard, freshOut}
-use Rattle.consistency.specs.Table.{Served, outReply}
+use Rattle.table.specs.Served.{Served, outReply}
 use Rattle.consistency.proofs.Refusals.{refusals-change-nothing, still, unmade}
-use Rattle.courses.specs.Courses.{Ask, CourseCall, Fresh, Plain, Tables, alone, courseServed, gets, heard, isFull, madeFresh, noCourse, noFresh, turnedAway, written}
+use Rattle.card.specs.Courses.{Ask, CourseCall, Fresh, Plain, Tables, courseServed, gets, isFull, madeFresh, noCourse, noFresh, turnedAway, written}
+use Rattle.card.proofs.Courses.{written-other, written-own}
+use Rattle.courses.specs.Heard.{alone, heard}
 use Rattle.courses.specs.Days.{Got, toldAlone, toldOf}
 use Rattle.courses.specs.Claims.{Alone, CoursesAlone, OthersStay}
 use Rattle.courses.proofs.Shared.{sharing-is}
@@ -62,13 +62,11 @@ pub had-told : (ts : Tables) (i : ℕ) (a : Ask) → courseServed ts i a ≡ tol
 had-told ts i a = told-is (ts i) a (had-is ts i a)
 
 pub others-stay : OthersStay
-unfolding written
-others-stay ts c j h = changed-other ts (c .course) (gets ts c .table) j h
+others-stay = written-other
 
 -- course i's own table after its call
 pub own-written : (ts : Tables) (c : CourseCall) (i : ℕ) → c .course ≡ i → written ts c i ≡ gets ts c .table
-unfolding written
-own-written ts c i e = subst (λ j. changed ts (c .course) (gets ts c .table) j ≡ gets ts c .table) e (changed-same ts (c .course) (gets ts c .table))
+own-written ts c i e = subst (λ j. written ts c j ≡ gets ts c .table) e (written-own ts c)
 
 pub courses-alone : CoursesAlone
 unfolding Alone heard

@@ -5,9 +5,10 @@ use mathlib.Core.Path.{_≡_}
 use mathlib.Core.List.{List, [], _∷_, _++_}
 use Rattle.plain.specs.Record.{freshDay}
 use Rattle.plain.specs.Boards.{Right}
-use Rattle.consistency.specs.Table.{boardLent}
+use Rattle.table.specs.Served.{boardLent}
 use Rattle.consistency.specs.Boards.{takesBoard}
-use Rattle.courses.specs.Courses.{Ask, CourseCall, Fresh, Heard, Plain, Tables, heard}
+use Rattle.card.specs.Courses.{Ask, CourseCall, Fresh, Plain, Tables}
+use Rattle.courses.specs.Heard.{Heard, heard}
 use Rattle.courses.specs.Days.{dayTo, enteredAll}
 
 abbrev pub takes : Ask → Bool

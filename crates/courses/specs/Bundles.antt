@@ -8,7 +8,8 @@ use lib.ListN.{length}
 use Rattle.bundles.specs.declared.entry.Entry.{Entry}
 use Rattle.boards.specs.Board.{boardBytes}
 use Rattle.desk.specs.Calls.{Batch, Bundle, Update, Yield, entriesOf, isWrongBatch}
-use Rattle.courses.specs.Courses.{CourseCall, Heard, Plain, Tables, courseServed, heard, noCourse, tablesAfter}
+use Rattle.card.specs.Courses.{CourseCall, Plain, Tables, courseServed, noCourse}
+use Rattle.courses.specs.Heard.{Heard, heard, tablesAfter}
 
 -- the calls of course i that a bundle stands for
 abbrev pub singly : ℕ → ℕ → ℕ → List Entry → List ℕ → List CourseCall

@@ -7,23 +7,32 @@ use mathlib.Core.List.{List, [], _∷_, _++_}
 use lib.Dec.{eqb}
 use lib.ListN.{length}
 use Rattle.lists.specs.Lists.{_∈_, changed}
+use Rattle.lists.specs.Differences.{differences}
+use Rattle.cells.specs.Words.{Bytes}
 use Rattle.boards.specs.Board.{boardBytes}
-use Rattle.desk.specs.Calls.{Call, Update, callOn}
+use Rattle.desk.specs.Calls.{Call, Join, Sync, Update, callOn}
 use Rattle.desk.specs.Checks.{codesFor}
 use Rattle.plain.specs.Record.{freshDay}
 use Rattle.plain.specs.Fills.{enters}
 use Rattle.table.specs.Halves.{isTable}
 use Rattle.table.specs.Out.{tableBytes}
 use Rattle.table.specs.Calls.{freshOut, updateOut}
-use Rattle.consistency.specs.Table.{Served, served}
+use Rattle.table.specs.Served.{Served, served}
 use Rattle.consistency.specs.Demand.{Explained}
-use Rattle.courses.specs.Log.{assured, card, courses, larger, logged}
-use Rattle.courses.specs.Courses.{Ask, CourseCall, Fresh, Heard, Plain, Tables, counts, courseServed, gets, heard, noCourse, tablesAfter, turnedAway, written}
+use Rattle.card.specs.Log.{assured, card, courses, larger, logged}
+use Rattle.card.specs.Courses.{Ask, CourseCall, Fresh, Plain, Tables, counts, courseServed, gets, noCourse, turnedAway, written}
+use Rattle.courses.specs.Heard.{Heard, heard, tablesAfter}
 use Rattle.courses.specs.Days.{Got, Nothing, Told, answersTo, enteredAll, repliesOf, repliesTo, toldAlone, toldTo}
 
 -- "A call writes in no other course's table."
 abbrev pub OthersStay : Type 0
 OthersStay = (ts : Tables) (c : CourseCall) (j : ℕ) → (j ≡ c .course → ⊥) → written ts c j ≡ ts j
+
+-- 02, U11, on a course: a join leaves its table at most 256 places from its former bytes, a sync 512
+abbrev pub LightCourses : Type 0
+LightCourses =
+    (ts : Tables) (i : ℕ) → Bytes (ts i) → (n m : ℕ) (board : List ℕ)
+    → (differences (ts i) (courseServed ts i (Plain (Join n m board)) .table) ≤ 256) × (differences (ts i) (courseServed ts i (Plain (Sync m board)) .table) ≤ 512)
 
 -- 00, demand 1: "A refused call gives its number from the list with value 0 and changes no byte"
 abbrev pub codesOf : Ask → List ℕ

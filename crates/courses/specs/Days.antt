@@ -8,8 +8,10 @@ use Rattle.boards.specs.Board.{isWrongBoard}
 use Rattle.desk.specs.Calls.{Answer, answerOn, callOn}
 use Rattle.plain.specs.Record.{Line, PlainDay, freshDay}
 use Rattle.plain.specs.Answers.{Outcome, called, refused, taken}
-use Rattle.consistency.specs.Table.{Served, sheetOf, sheetWith}
-use Rattle.courses.specs.Courses.{Ask, AskOf, Fresh, Heard, Plain, alone, turnedAway}
+use Rattle.table.specs.Served.{Served, sheetOf}
+use Rattle.consistency.specs.Table.{sheetWith}
+use Rattle.card.specs.Courses.{Ask, AskOf, Fresh, Plain, turnedAway}
+use Rattle.courses.specs.Heard.{Heard, alone}
 
 -- what the day is told of a call
 pub data Told : Type 0 where

@@ -1,1 +1,1 @@
-// Four tables and one log (02, U12): definitions and theorems, no code yet.
+// Days of four tables and one log (02, U12): theorems, no code.

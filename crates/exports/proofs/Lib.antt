@@ -1,2 +1,3 @@
--- A law of the packed answers.
+-- Laws of the packed answers.
 pub mod Returned
+pub mod Four

@@ -1,2 +1,3 @@
 -- The answers of the calls as numbers, for C and Rust.
 pub mod Packed
+pub mod Four

@@ -10,6 +10,8 @@ ghost use Rattle.table.specs.Calls.{billOut, boardOut, bundleOut, dropOut, fill
 ghost use Rattle.exports.specs.Packed.{exported, exportedAnswer, exportedLevel, exportedProspect, returned, packed, packedGain, packedState, stateNumber};
 use updates::standing::State;
 
+pub mod courses; // courses.rt: the calls on four tables
+
 // The value in the lower 32 bits, the code in the eight above them.
 fn pack(code: u8, value: u32) -> u64
     ensures { λ r. ⌜ r ≡ packed code value ⌝ }
@@ -17,7 +19,7 @@ fn pack(code: u8, value: u32) -> u64
     (code as u64) * 4294967296 + (value as u64)
 }
 
-fn state_number(state: State) -> u64
+pub(crate) fn state_number(state: State) -> u64
     ensures { λ r. ⌜ (r ≡ stateNumber state) × (r ≤ 2) ⌝ }
 {
     match state {

@@ -3,7 +3,7 @@ use Prim.Native.Nat.{ℕ}
 use mathlib.Core.Bool.{true}
 use mathlib.Core.Logic.{inl}
 use mathlib.Core.Path.{_≡_, refl, sym, _∙_, ap, subst}
-use mathlib.Core.List.{List, _++_}
+use mathlib.Core.List.{List, [], _++_}
 use native.Mathlib.Omega.{arith}
 use lib.Dec.{ltb}
 use lib.ListN.{length}
@@ -20,7 +20,7 @@ use Rattle.cells.proofs.Left.{join-leaves}
 use Rattle.cells.proofs.Range.{next-ranged, ranges}
 use Rattle.cells.proofs.Settled.{close-settles, fork-settles, join-settles, since-none}
 use Rattle.cells.proofs.Stays.{Lower, close-stays, fork-stays, join-stays}
-use Rattle.desk.specs.Calls.{Join, Sync, Yield}
+use Rattle.desk.specs.Calls.{Join, Sync, Yield, plainly}
 use Rattle.desk.specs.Checks.{Check, checks, settle}
 use Rattle.desk.proofs.Checks.{Passed, Settled, _also_, goes, settled, stops}
 use Rattle.entries.specs.Sizes as Upper
@@ -29,6 +29,7 @@ use Rattle.table.specs.Halves.{cellsOf, high, isTable, low}
 use Rattle.table.specs.Answers.{left, refused}
 use Rattle.table.specs.Out.{Out, tableBytes}
 use Rattle.table.specs.Calls.{asked, boardOut, joinEnd, joinOut, syncOut, yieldOut}
+use Rattle.table.specs.Served.{onBoard}
 use Rattle.table.specs.declared.answer.Answer.{Answer}
 use Rattle.table.proofs.Halves.{low-of, lower-of, table-of, upper-length}
 use Rattle.table.proofs.Syncs.{joins, left-lower, sync-ends}
@@ -37,6 +38,10 @@ use Rattle.table.proofs.Syncs.{joins, left-lower, sync-ends}
 pub brings-nothing : (t board : List ℕ) → boardOut t t board ≡ board
 unfolding boardOut postedAll
 brings-nothing t board = rw (since-none (cellsOf t .settled) (cellsOf t) (omega arith))
+
+-- so a refusal leaves all that was lent
+pub board-blank : (t board : List ℕ) {o : Out} → o ≡ refused t (o .code) → onBoard t board o ≡ record { reply = plainly (o .code) 0 []; table = t; board = board }
+board-blank t board {o} e = ap (onBoard t board) e ∙ ap (λ b. record { reply = plainly (o .code) 0 []; table = t; board = b }) (brings-nothing t board)
 
 -- t′ is left of the table t, so that what was brought can be found
 pub record Shows (t t′ : List ℕ) : Type 0 where

@@ -6,3 +6,5 @@ pub mod Calls
 pub mod Found
 pub mod Checks
 pub mod Light
+pub mod Served
+pub mod Shared

@@ -1,15 +1,18 @@
 -- No claim rests on this file: it serves the code.
--- What the checks of an update find, in their order.
+-- What the checks of an update find, in their order; and whether a log has room.
 use Prim.{Unit}
 use Prim.Native.Nat.{ℕ, _<_}
 use mathlib.Core.Bool.{cond}
 use mathlib.Core.List.{List}
+use lib.Dec.{ltb}
 use Rattle.updates.specs.Kinds.{kindCheck, badBib}
 use Rattle.cells.specs.Sizes.{clients, revisions, updates}
 use Rattle.cells.specs.Decode.{cells}
 use Rattle.cells.specs.Checks.{joined, isMark, openElsewhere, busyByOther, stale, logFull}
 use Rattle.entries.specs.Sizes.{bibRange}
 use Rattle.checks.specs.Answers.{clientCheck, givenCheck}
+use Rattle.checks.specs.declared.log.LogCheck.{LogCheck}
+use Rattle.checks.specs.declared.log.LogCheck.the-variants as log
 use Rattle.table.specs.Found.{onClient, onGiven, onKind}
 use Rattle.updating.specs.declared.update.UpdateCheck.{UpdateCheck}
 use Rattle.updating.specs.declared.update.UpdateCheck.the-variants as update
@@ -38,3 +41,7 @@ updateIn d bib (update.Allowed x y kind) = (x .0 < clients) × (y .0 < revisions
 abbrev pub updateCode : UpdateCheck → ℕ
 updateCode (update.Refused k) = k
 updateCode (update.Allowed x y kind) = 0
+
+-- room for one more where so many are taken, of so many at most
+unfoldable pub roomCheck : ℕ → ℕ → LogCheck
+roomCheck taken most = cond (ltb taken most) log.Room log.Full

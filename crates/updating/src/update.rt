@@ -1,4 +1,4 @@
-// The call update: an update of a bib at a revision.
+// The call update: an update of a bib at a revision, of a table alone or of one that shares its log (02, U12).
 ghost use mathlib.Core.Bool.{true};
 ghost use mathlib.Core.List.{_++_};
 ghost use mathlib.Core.Path.{_≡_};
@@ -15,7 +15,9 @@ ghost use Rattle.table.specs.Halves.{cellsOf, high, isTable, low};
 ghost use Rattle.table.specs.Out.{tableBytes};
 ghost use Rattle.table.specs.Answers.{left};
 ghost use Rattle.table.specs.Calls.{updateOut};
+ghost use Rattle.table.specs.Shared.{above, updateShared};
 ghost use Rattle.updating.specs.Checks.{updateCheck, updateCode, updateIn};
+use crate::room::check_room;
 use checks::busy::UseCheck;
 use checks::busy::check_use_by_other;
 use checks::client::ClientCheck;
@@ -38,6 +40,7 @@ use sizes::table::Table;
 use table::answer::Answer;
 use table::bib::BibCheck;
 use table::bib::check_bib;
+use table::counts;
 use table::sound;
 use table::sound::TableCheck;
 use updates::kind::Kind;
@@ -141,10 +144,18 @@ pub fn put(t: &mut [u8], c: Client, r: Revision, kind: Kind, bib: u16, v: u32) -
     u as u32
 }
 
-// The call on bytes that are a table.
-fn update_sound(t: &mut [u8], client: u8, revision: u8, kind: u8, bib: u16, v: u32) -> Answer
+// The call on bytes that are a table, which may have so many updates at most. 20 comes after all else.
+fn update_sound(
+    t: &mut [u8],
+    most: usize,
+    client: u8,
+    revision: u8,
+    kind: u8,
+    bib: u16,
+    v: u32,
+) -> Answer
     requires { ⌜ (isTable (now t) ≡ true) × (length (now t) ≡ tableBytes) × (inRange (low (now t)) ≡ true) ⌝ }
-    ensures { λ a. ⌜ left a (now (t .exit)) ≡ updateOut (now (t .entry)) client revision kind bib v ⌝ }
+    ensures { λ a. ⌜ left a (now (t .exit)) ≡ updateShared (above most) (now (t .entry)) client revision kind bib v ⌝ }
 {
     let found = check_update(t, client, revision, kind, bib);
     let UpdateCheck::Allowed(c, r, k) = found else {
@@ -153,15 +164,35 @@ fn update_sound(t: &mut [u8], client: u8, revision: u8, kind: u8, bib: u16, v: u
             value: 0,
         };
     };
+    let taken = counts::taken(t);
+    let LogCheck::Room = check_room(taken, most) else {
+        return Answer { code: 20, value: 0 };
+    };
     let value = put(t, c, r, k, bib, v);
     Answer { code: 0, value }
 }
 
-pub fn update(t: &mut [u8], client: u8, revision: u8, kind: u8, bib: u16, v: u32) -> Answer
-    ensures { λ a. ⌜ left a (now (t .exit)) ≡ updateOut (now (t .entry)) client revision kind bib v ⌝ }
+// The call on a table that may have so many updates at most.
+pub fn update_within(
+    t: &mut [u8],
+    most: usize,
+    client: u8,
+    revision: u8,
+    kind: u8,
+    bib: u16,
+    v: u32,
+) -> Answer
+    ensures { λ a. ⌜ left a (now (t .exit)) ≡ updateShared (above most) (now (t .entry)) client revision kind bib v ⌝ }
 {
     let TableCheck::Sound = sound::check_table(t) else {
         return Answer { code: 1, value: 0 };
     };
-    update_sound(t, client, revision, kind, bib, v)
+    update_sound(t, most, client, revision, kind, bib, v)
+}
+
+// The call on a table alone.
+pub fn update(t: &mut [u8], client: u8, revision: u8, kind: u8, bib: u16, v: u32) -> Answer
+    ensures { λ a. ⌜ left a (now (t .exit)) ≡ updateOut (now (t .entry)) client revision kind bib v ⌝ }
+{
+    update_within(t, Table::UPDATES, client, revision, kind, bib, v)
 }

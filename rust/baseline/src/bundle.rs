@@ -22,6 +22,18 @@ pub fn bundle(
     revision: u8,
     records: &[u8],
 ) -> Result<u32, Code> {
+    bundle_beside(t, 0, board, client, revision, records)
+}
+
+/// As a bundle, with so much of the card held by other tables.
+pub fn bundle_beside(
+    t: &mut [u8],
+    others: usize,
+    board: &mut [u8],
+    client: u8,
+    revision: u8,
+    records: &[u8],
+) -> Result<u32, Code> {
     let mut t = checked(t)?;
     let records = checked_records(records)?;
     let mut board = Board::checked(board)?;
@@ -36,6 +48,7 @@ pub fn bundle(
             t.check_may_enter(client, revision)?;
         }
         t.check_log_after(place)?;
+        t.check_card_after(others, place)?;
     }
 
     let (first, before) = (t.updates(), t.settled());

@@ -1,5 +1,5 @@
-//! The calls on lent bytes: the checks of each in ascending order, 19 after 1, 15 and 16 after 4, then what
-//! it does.
+//! The calls on lent bytes: the checks of each in ascending order, 19 after 1, 15 and 16 after 4, 20 after 9,
+//! then what it does.
 
 use calls::Code;
 
@@ -51,6 +51,19 @@ pub fn update(
     bib: u16,
     v: u32,
 ) -> Result<u32, Code> {
+    update_beside(t, 0, client, revision, kind, bib, v)
+}
+
+/// As an update, with so much of the card held by other tables.
+pub fn update_beside(
+    t: &mut [u8],
+    others: usize,
+    client: u8,
+    revision: u8,
+    kind: u8,
+    bib: u16,
+    v: u32,
+) -> Result<u32, Code> {
     let mut t = checked(t)?;
     let client = Client::checked(client)?;
     let revision = t.check_given(revision)?;
@@ -59,7 +72,8 @@ pub fn update(
     let bib = Bib::checked(bib)?;
     let kind = Kind::checked(kind)?;
     t.check_may_enter(client, revision)?;
-    t.check_log()?;
+    t.check_log_after(0)?;
+    t.check_card_after(others, 0)?;
 
     t.enter(client, revision);
     Ok(u32::from(t.append(revision, Entry::new(kind, client, bib, v))))

@@ -1,8 +1,8 @@
-//! The checks that look at cells: codes 3, 4, 6 to 11 and 15 to 18.
+//! The checks that look at cells: codes 3, 4, 6 to 11, 15 to 18 and 20.
 
 use calls::Code;
 
-use crate::numbers::{Client, Revision, LOG, REVISIONS};
+use crate::numbers::{Client, Revision, ASSURED, CARD, LOG, REVISIONS};
 use crate::parts::{CLOSED, IS_JOINED, IS_MARKED, NAME, NEVER};
 use crate::table::Table;
 
@@ -57,14 +57,21 @@ impl Table<'_> {
         refuse(self.opened().contains(&revision.0), Code::InUse)
     }
 
-    /// Code 9.
-    pub(crate) fn check_log(&self) -> Result<(), Code> {
-        self.check_log_after(0)
-    }
-
     /// Code 9, once so many more updates are accepted.
     pub(crate) fn check_log_after(&self, more: usize) -> Result<(), Code> {
         refuse(usize::from(self.updates()) + more >= LOG, Code::LogFull)
+    }
+
+    /// Code 20, once so many more updates are accepted, where other tables hold so much of the card. A table
+    /// alone never has it.
+    pub(crate) fn check_card_after(&self, others: usize, more: usize) -> Result<(), Code> {
+        let own = usize::from(self.updates()) + more + 1;
+        refuse(own.max(ASSURED) + others > CARD, Code::SharedLogFull)
+    }
+
+    /// How much of the card the table holds: what is assured, or its updates if they are more.
+    pub(crate) fn held(&self) -> usize {
+        usize::from(self.updates()).max(ASSURED)
     }
 
     /// Code 10, or the next revision number.

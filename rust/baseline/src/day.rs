@@ -4,9 +4,9 @@ use calls::{Answer, Call, Code, Line, State};
 
 use crate::bill::bill;
 use crate::board::BOARD;
-use crate::bundle::bundle;
+use crate::bundle::bundle_beside;
 use crate::calls::{
-    drop, fill, fork, fresh, join, list, mark, preview, query, sync, update, yield_,
+    drop, fill, fork, fresh, join, list, mark, preview, query, sync, update_beside, yield_,
 };
 use crate::calls::{Fill, Preview, LISTED};
 use crate::numbers::LOG;
@@ -56,9 +56,19 @@ impl Day {
 
 /// Makes one call on any bytes, with any board lent to it if it takes one.
 pub fn call(t: &mut [u8], board: &mut [u8], call: &Call) -> Result<Answer, Code> {
+    call_beside(t, 0, board, call)
+}
+
+/// As [`call`], with so much of the card held by other tables.
+pub fn call_beside(
+    t: &mut [u8],
+    others: usize,
+    board: &mut [u8],
+    call: &Call,
+) -> Result<Answer, Code> {
     let value = match *call {
         Call::Update { client, revision, kind, bib, v } => {
-            update(t, client, revision, kind, bib, v)?
+            update_beside(t, others, client, revision, kind, bib, v)?
         }
         Call::Query { client, revision, bib } => {
             return query(t, client, revision, bib).map(found);
@@ -72,7 +82,7 @@ pub fn call(t: &mut [u8], board: &mut [u8], call: &Call) -> Result<Answer, Code>
             return Ok(Answer::filled(u32::from(own), u32::from(total)));
         }
         Call::Bundle { client, revision, ref records } => {
-            bundle(t, board, client, revision, records)?
+            bundle_beside(t, others, board, client, revision, records)?
         }
         Call::Preview { joiner, joinee, bib } => {
             let Preview { standing, gain } = preview(t, joiner, joinee, bib)?;
@@ -84,14 +94,11 @@ pub fn call(t: &mut [u8], board: &mut [u8], call: &Call) -> Result<Answer, Code>
         Call::Drop { ref name } => drop(t, name)?,
         Call::Verify { ref order } => verify(t, order)?,
         Call::Bill { member } => bill(t, member)?,
-        Call::OnBoard { length, call: ref inner } => return call_on(t, length, inner),
+        Call::OnBoard { length, ref call } => {
+            return call_beside(t, others, &mut vec![0; length], call);
+        }
     };
     Ok(Answer::accepted(value))
-}
-
-/// Makes a call with a board of so many bytes.
-fn call_on(t: &mut [u8], length: usize, inner: &Call) -> Result<Answer, Code> {
-    call(t, &mut vec![0; length], inner)
 }
 
 /// What a query or a preview answers of a bib that stands so.

@@ -13,6 +13,7 @@ mod calls;
 mod checks;
 mod day;
 mod entry;
+mod federation;
 mod flags;
 mod numbers;
 mod order;
@@ -25,13 +26,14 @@ mod table;
 mod update;
 
 pub use self::calls::{
-    drop, fill, fork, fresh, join, list, mark, preview, query, sync, update, yield_,
+    drop, fill, fork, fresh, join, list, mark, preview, query, sync, update, update_beside, yield_,
 };
 pub use self::calls::{Fill, Preview};
 pub use bill::bill;
 pub use board::{standing, standings, BOARD};
-pub use bundle::bundle;
-pub use day::{call, Day};
+pub use bundle::{bundle, bundle_beside};
+pub use day::{call, call_beside, Day};
+pub use federation::{course, course_call, own_table, Federation};
 pub use orders::verify;
 pub use parts::BYTES;
 pub use update::Standing;

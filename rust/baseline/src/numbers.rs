@@ -8,6 +8,11 @@ pub(crate) const REVISIONS: usize = 64;
 pub(crate) const CLIENTS: usize = 16;
 /// The log has room for 4,096 updates, of all revisions together.
 pub(crate) const LOG: usize = 4_096;
+/// Courses are 0 to 3.
+pub(crate) const COURSES: usize = 4;
+/// The card of four courses has room for 8,192 updates, of which each has 1,024 assured.
+pub(crate) const CARD: usize = 8_192;
+pub(crate) const ASSURED: usize = 1_024;
 /// Bibs are 0 to 999.
 pub(crate) const BIBS: u16 = 1_000;
 

@@ -49,12 +49,14 @@ pub enum Code {
     NoSuchMark = 18,
     /// 02, U10: a board has another length than 5,000 bytes.
     WrongBoard = 19,
+    /// 02, U12: with one update more, the four tables would hold more than their card does.
+    SharedLogFull = 20,
     /// 02, U13: the header of an order does not fit its length.
     BadList = 21,
 }
 
 /// Each code with its name, in the order of their numbers.
-const NAMED: [(Code, &str); 21] = [
+const NAMED: [(Code, &str); 22] = [
     (Code::Accepted, "taken"),
     (Code::NoTable, "no table"),
     (Code::UnknownClient, "strange tablet"),
@@ -75,6 +77,7 @@ const NAMED: [(Code, &str); 21] = [
     (Code::BadName, "bad name"),
     (Code::NoSuchMark, "no such mark"),
     (Code::WrongBoard, "wrong board"),
+    (Code::SharedLogFull, "shared log full"),
     (Code::BadList, "bad list"),
 ];
 
@@ -110,9 +113,8 @@ mod tests {
 
     #[test]
     fn each_number_has_its_code() {
-        let numbers: Vec<u8> = (0..=19).chain([21]).collect();
         for number in 0..=u8::MAX {
-            let known = numbers.contains(&number).then_some(number);
+            let known = (number <= 21).then_some(number);
             assert_eq!(Code::of(number).map(Code::number), known);
         }
     }

@@ -12,11 +12,13 @@
 mod answer;
 mod call;
 mod code;
+mod course;
 mod order;
 mod sizes;
 
 pub use answer::{Answer, Line, State};
 pub use call::{Call, KINDS, STRIKE};
 pub use code::Code;
+pub use course::CourseCall;
 pub use order::order_file;
-pub use sizes::{BIBS, BOARD, BUNDLE, CLIENTS, REVISIONS, SHEET, UPDATES};
+pub use sizes::{ASSURED, BIBS, BOARD, BUNDLE, CARD, CLIENTS, COURSES, REVISIONS, SHEET, UPDATES};

@@ -8,7 +8,7 @@ use std::process::ExitCode;
 
 use dayfile::{
     billed_day, boarded_day, drawn_day, misfit, ordered_day, printed_day, read_file, read_text,
-    shown_day, write_file, write_text, Record, LONGEST,
+    shown_courses, shown_day, write_file, write_text, Record, LONGEST,
 };
 
 const HELP: &str = "\
@@ -23,6 +23,8 @@ usage: dayfile pack   [TEXT [FILE]]   text to day file
        dayfile draw   [FILE [SVG]]    the day's diagram as a picture
        dayfile order  [FILE [ORDER]]  the order of the day's updates, as a file
        dayfile verify FILE ORDER      whether such a file fits the day: yes or no
+       dayfile courses FILE FILE FILE FILE
+                                      four days on one card, one step of each in turn
        dayfile --help                 this text
 
 A missing name or `-` means standard input or standard output. `show`, `print`
@@ -34,6 +36,10 @@ An order has a count and an offset, 4 bytes each, and from the offset on update
 numbers of 2 bytes, least significant byte first. It fits if it has every update
 taken once, no other number, and the updates of every box that is out in the
 order in which that box lists them. Beside a no stands the first reason found.
+
+The four files of `courses` are the days of courses 0 to 3. Their card holds 8,192
+updates, of which each course has 1,024 assured. Each step is shown with its
+course, its index in its own day, code, value and refusal; code 20 is a full card.
 
 A text has one step a line. A # begins a comment; blank lines are left out.
 
@@ -83,10 +89,8 @@ fn main() -> ExitCode {
         ["order", file] => order(file, "-"),
         ["order", file, order_file] => order(file, order_file),
         ["verify", file, order_file] => verify(file, order_file),
-        _ => {
-            eprintln!("dayfile: wrong usage; see dayfile --help");
-            return ExitCode::from(2);
-        }
+        ["courses", a, b, c, d] => courses([a, b, c, d]),
+        _ => return wrong_usage(),
     };
     match done {
         Ok(()) => ExitCode::SUCCESS,
@@ -95,6 +99,11 @@ fn main() -> ExitCode {
             ExitCode::FAILURE
         }
     }
+}
+
+fn wrong_usage() -> ExitCode {
+    eprintln!("dayfile: wrong usage; see dayfile --help");
+    ExitCode::from(2)
 }
 
 fn pack(text: &str, file: &str) -> Result<(), String> {
@@ -127,6 +136,14 @@ fn draw(file: &str, picture: &str) -> Result<(), String> {
 
 fn order(file: &str, order: &str) -> Result<(), String> {
     write_bytes(order, &ordered_day(&records(file)?))
+}
+
+fn courses(files: [&str; 4]) -> Result<(), String> {
+    if files.iter().filter(|&&file| file == "-").count() > 1 {
+        return Err("only one of the four days can come from standard input".to_string());
+    }
+    let [a, b, c, d] = files.map(records);
+    write_bytes("-", shown_courses(&[a?, b?, c?, d?]).as_bytes())
 }
 
 /// A no is printed as such, and its reason is an error besides.

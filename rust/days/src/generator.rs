@@ -3,7 +3,7 @@
 
 use std::collections::BTreeMap;
 
-use calls::{Answer, Call, Code, Line, BOARD, CLIENTS, REVISIONS, SHEET};
+use calls::{Answer, Call, Code, Line, BOARD, CLIENTS, REVISIONS, SHEET, UPDATES};
 
 use crate::profile::Profile;
 use crate::rng::Rng;
@@ -43,6 +43,8 @@ pub(crate) struct Generator<'a> {
     /// Where each client was last, or who took that over.
     pub(crate) last: [u8; CLIENTS as usize],
     pub(crate) updates: usize,
+    /// So many updates the table may have.
+    pub(crate) most: usize,
     /// The numbers that are out, and the updates of each, as they stand in one arbitration order.
     pub(crate) row: Vec<u8>,
     pub(crate) own: [Vec<u16>; REVISIONS as usize],
@@ -54,7 +56,7 @@ pub(crate) struct Generator<'a> {
 type Pick<'a> = fn(&mut Generator<'a>) -> Call;
 
 impl<'a> Generator<'a> {
-    fn new(profile: &'a Profile, seed: u64) -> Self {
+    pub(crate) fn new(profile: &'a Profile, seed: u64) -> Self {
         Generator {
             profile,
             rng: Rng::new(seed),
@@ -69,31 +71,37 @@ impl<'a> Generator<'a> {
             open: [None; CLIENTS as usize],
             last: [0; CLIENTS as usize],
             updates: 0,
+            most: UPDATES,
             row: vec![0],
             own: [const { Vec::new() }; REVISIONS as usize],
             next: None,
         }
     }
 
-    /// Makes a call; now and then one that takes a board is made with a wrong one before, and a bill after
-    /// it.
+    /// Makes a call, with what comes around it.
     pub(crate) fn make(&mut self, call: Call) {
+        self.around(call).into_iter().for_each(|call| self.made(call));
+    }
+
+    /// The call; now and then one that takes a board with a wrong one before it, and a bill after it.
+    pub(crate) fn around(&mut self, call: Call) -> Vec<Call> {
         let often = match call {
             Call::Fresh { .. } => 20,
             Call::Bundle { .. } => 10,
             _ => 2,
         };
+        let mut calls = Vec::new();
         if call.takes_a_board() && self.boards.percent(often) {
-            let any = self.boards.below(2 * BOARD);
+            // With the right length it would be taken, and the day's own board left out of date.
+            let any = Some(self.boards.below(2 * BOARD)).filter(|&any| any != BOARD).unwrap_or(2);
             let length = self.boards.pick(&[0, 1, BOARD - 1, BOARD + 1, any]);
-            let call = Box::new(call.clone());
-            self.made(Call::OnBoard { length, call });
+            calls.push(Call::OnBoard { length, call: Box::new(call.clone()) });
         }
-        self.made(call);
+        calls.push(call);
         if self.bills.percent(4) {
-            let member = self.bills.percent(50);
-            self.made(Call::Bill { member });
+            calls.push(Call::Bill { member: self.bills.percent(50) });
         }
+        calls
     }
 
     fn made(&mut self, call: Call) {
@@ -102,7 +110,7 @@ impl<'a> Generator<'a> {
         self.calls.push(call);
     }
 
-    fn learn(&mut self, call: &Call, answer: &Answer) {
+    pub(crate) fn learn(&mut self, call: &Call, answer: &Answer) {
         if answer.code != Code::Accepted {
             return;
         }
@@ -183,7 +191,7 @@ impl<'a> Generator<'a> {
         (self.row, self.own, self.marks) = (fresh.row, fresh.own, fresh.marks);
     }
 
-    fn pick(&mut self) -> Call {
+    pub(crate) fn pick(&mut self) -> Call {
         if let Some(call) = self.next.take() {
             return call;
         }

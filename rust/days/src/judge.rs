@@ -1,7 +1,7 @@
 //! Whether a check passes on days: a failed one tells the seed, what is wrong, and a short day that
 //! shows it.
 
-use calls::Call;
+use std::fmt::Display;
 
 use crate::sample::Sample;
 
@@ -12,9 +12,9 @@ use crate::sample::Sample;
 /// If the check answers with a complaint. The message has it, and the shortest day found that the
 /// check still finds fault with.
 #[track_caller]
-pub fn must_pass(
-    days: impl IntoIterator<Item = Sample>,
-    check: impl Fn(&[Call]) -> Option<String>,
+pub fn must_pass<C: Clone + Display>(
+    days: impl IntoIterator<Item = Sample<C>>,
+    check: impl Fn(&[C]) -> Option<String>,
 ) {
     let mut judged = 0;
     for day in days {
@@ -33,10 +33,10 @@ pub fn must_pass(
 ///
 /// If the check finds no fault with five of them at least.
 #[track_caller]
-pub fn must_find(
+pub fn must_find<C>(
     wrong: &str,
-    days: impl IntoIterator<Item = Sample>,
-    check: impl Fn(&[Call]) -> Option<String>,
+    days: impl IntoIterator<Item = Sample<C>>,
+    check: impl Fn(&[C]) -> Option<String>,
 ) {
     let complaints: Vec<_> = days.into_iter().map(|day| check(&day.calls)).collect();
     let found = complaints.iter().flatten().count();
@@ -44,7 +44,7 @@ pub fn must_find(
 }
 
 /// The shortest day found that a check finds fault with, and what it says of that.
-fn shortest(calls: &[Call], check: impl Fn(&[Call]) -> Option<String>) -> String {
+fn shortest<C: Clone + Display>(calls: &[C], check: impl Fn(&[C]) -> Option<String>) -> String {
     let day = shrunk(calls, |day| check(day).is_some());
     let complaint = check(&day).unwrap_or_default();
     let steps: String = day.iter().map(|call| format!("    {call}\n")).collect();
@@ -55,7 +55,7 @@ fn shortest(calls: &[Call], check: impl Fn(&[Call]) -> Option<String>) -> String
 const EFFORT: usize = 1_000_000;
 
 /// Leaves out calls, many at once and then one by one, as long as the day still fails.
-fn shrunk(calls: &[Call], fails: impl Fn(&[Call]) -> bool) -> Vec<Call> {
+fn shrunk<C: Clone>(calls: &[C], fails: impl Fn(&[C]) -> bool) -> Vec<C> {
     let mut day = calls.to_vec();
     let mut width = day.len().div_ceil(2);
     let mut replayed = 0;
@@ -78,6 +78,8 @@ fn shrunk(calls: &[Call], fails: impl Fn(&[Call]) -> bool) -> Vec<Call> {
 
 #[cfg(test)]
 mod tests {
+    use calls::Call;
+
     use super::*;
 
     #[test]
@@ -101,7 +103,7 @@ mod tests {
     #[test]
     #[should_panic(expected = "no day was judged")]
     fn no_day_is_no_pass() {
-        must_pass([], |_| None);
+        must_pass::<Call>([], |_| None);
     }
 
     #[test]

@@ -1,7 +1,7 @@
 //! Random days, and the checkers that judge them.
 //!
 //! Days are made from a seed, but for the short ones of [`late_days`]. A failed check prints the
-//! seed, and the shortest day found that still fails. There are thirteen checks:
+//! seed, and the shortest day found that still fails. There are sixteen checks:
 //!
 //! - the literal replay and the baseline agree on every answer;
 //! - an arbitration order (01: line-up) has what demand 3 says of it, by brute force;
@@ -16,7 +16,9 @@
 //! - joins and syncs leave the table but at few places;
 //! - a verify says yes to the day's own line-up, and to others what the literal replay says;
 //! - a board is right after every call, and any other has what its promise says;
-//! - bills are those of the calls before, and never fall.
+//! - bills are those of the calls before, and never fall;
+//! - four courses on one card answer as four literal replays do, and write in their own tables alone;
+//! - they have what 02's U12 asks to show of them.
 
 #![forbid(unsafe_code)]
 
@@ -26,11 +28,15 @@ mod bills;
 mod boards;
 mod branching;
 mod bundles;
+mod card;
 mod chains;
+mod claims;
 mod clubs;
 mod compare;
 mod copies;
+mod courses;
 mod facts;
+mod federating;
 mod fills;
 mod generator;
 mod history;
@@ -61,10 +67,13 @@ pub use arbitration::arbitration_order;
 pub use bills::{bill_of, fault_of_bills};
 pub use boards::{brought, fault_of_boards, post, rightly_left};
 pub use bundles::{fault_of_bundles, updates_of};
+pub use card::{CardProfile, CardStep, Damage};
 pub use chains::chains_of_joins;
+pub use claims::{fault_of_agreement, fault_of_claims};
 pub use compare::{
     disagreement, disagreement_by, disagreement_with_previews, disagreement_with_reads,
 };
+pub use courses::{fault_of_courses, Judged};
 pub use facts::{stands, Facts, Step, View};
 pub use fills::fault_of_fills;
 pub use generator::random_day;

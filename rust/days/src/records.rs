@@ -1,6 +1,6 @@
 //! How the generator makes the records of a bundle.
 
-use calls::{Call, Line, BIBS, BUNDLE, CLIENTS, UPDATES};
+use calls::{Call, Line, BIBS, BUNDLE, CLIENTS};
 
 use crate::generator::Generator;
 
@@ -18,8 +18,8 @@ impl Generator<'_> {
         let few = 1 + self.rng.below(6);
         let any = 1 + self.rng.below(BUNDLE);
         let mut counts = vec![1, few, few, few, few, any, any, BUNDLE - 1, BUNDLE, BUNDLE];
-        // All that the log has room for, and one more.
-        let room = UPDATES - self.updates;
+        // All that there is room for, and one more.
+        let room = self.most - self.updates;
         counts
             .extend([room, room, room + 1].into_iter().filter(|room| (1..=BUNDLE).contains(room)));
         let count = self.rng.pick(&counts);
@@ -31,18 +31,41 @@ impl Generator<'_> {
         self.settled(Some(client), &[revision], call)
     }
 
+    /// More entries than there is room for, where that is fewer than 64. In many cases one of them is bad: the
+    /// first that finds no room, one behind it, or one before it.
+    pub(crate) fn overfull(&mut self) -> Call {
+        let room = self.most - self.updates;
+        let count = room + 1 + self.rng.below(BUNDLE - room);
+        let client = self.client();
+        let revision = self.place(client);
+        let mut lines: Vec<Line> = (0..count).map(|_| self.line()).collect();
+        if self.rng.percent(70) {
+            let [before, behind] = [self.rng.below(room + 1), room + self.rng.below(count - room)];
+            let place = self.rng.pick(&[room, behind, behind, before]);
+            self.spoil(&mut lines[place]);
+        }
+        let records = lines.into_iter().flat_map(Line::to_bytes).collect();
+        let call = Call::Bundle { client, revision, records };
+        self.settled(Some(client), &[revision], call)
+    }
+
     /// So many records; in some cases one of them, or two, with a bad kind or bib.
     fn records(&mut self, count: usize) -> Vec<u8> {
         let mut lines: Vec<Line> = (0..count).map(|_| self.line()).collect();
         while self.rng.percent(12) {
-            let bad = &mut lines[self.rng.below(count)];
-            let any = self.rng.bits();
-            match self.rng.percent(50) {
-                true => bad.kind = self.rng.pick(&[0, 5, any as u8]),
-                false => bad.bib = self.rng.pick(&[BIBS, 1_024, any as u16]),
-            }
+            let place = self.rng.below(count);
+            self.spoil(&mut lines[place]);
         }
         lines.into_iter().flat_map(Line::to_bytes).collect()
+    }
+
+    /// A bad kind or bib, in most cases.
+    fn spoil(&mut self, line: &mut Line) {
+        let any = self.rng.bits();
+        match self.rng.percent(50) {
+            true => line.kind = self.rng.pick(&[0, 5, any as u8]),
+            false => line.bib = self.rng.pick(&[BIBS, 1_024, any as u16]),
+        }
     }
 
     /// Any client and number stand in the record.

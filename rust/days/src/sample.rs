@@ -10,16 +10,16 @@ use crate::profile::Profile;
 
 /// A day, and what tells it from the others.
 #[derive(Clone, Debug, PartialEq, Eq)]
-pub struct Sample {
+pub struct Sample<C = Call> {
     /// The name of its kind.
     pub kind: &'static str,
     /// Its seed; without one, its place among the days of its kind.
     pub seed: u64,
-    /// Its calls.
-    pub calls: Vec<Call>,
+    /// Its calls; of a federation day, its steps.
+    pub calls: Vec<C>,
 }
 
-impl fmt::Display for Sample {
+impl<C> fmt::Display for Sample<C> {
     fn fmt(&self, f: &mut fmt::Formatter<'_>) -> fmt::Result {
         write!(f, "day `{}`, seed {}", self.kind, self.seed)
     }

@@ -1,5 +1,5 @@
-//! The checks behind codes 2 to 12, 14 to 19 and 21, each by itself: 01, "Codes of the desk", and 02, U4,
-//! U7, U8, U9, U10 and U13.
+//! The checks behind codes 2 to 12 and 14 to 21, each by itself: 01, "Codes of the desk", and 02, U4, U7,
+//! U8, U9, U10, U12 and U13.
 
 use calls::Code;
 
@@ -9,6 +9,9 @@ use crate::update::BIBS;
 
 /// 4,096 updates, the sum over all revisions.
 const UPDATES: usize = 4_096;
+/// "the card for all four holds 8,192 updates. Each table .. has 1,024 assured."
+const CARD: usize = 8_192;
+const ASSURED: usize = 1_024;
 /// Bytes of one entry of a listing, and of one record of a bundle.
 pub(crate) const ENTRY: usize = 12;
 
@@ -117,6 +120,14 @@ impl Day {
     /// 9: "4,096 updates taken".
     pub(crate) fn log_has_room(&self) -> Result<(), Code> {
         refuse_if(self.updates.len() >= UPDATES, Code::LogFull)
+    }
+
+    /// 20: "if afterwards the sum, over the four tables, of the larger of 1,024 and its updates would pass
+    /// 8,192". A table without others, of 4,096 updates at most, never has it.
+    pub(crate) fn card_has_room(&self, others: &[&Day]) -> Result<(), Code> {
+        let afterwards = others.iter().map(|day| day.updates.len()).chain([self.updates.len() + 1]);
+        let sum: usize = afterwards.map(|updates| updates.max(ASSURED)).sum();
+        refuse_if(sum > CARD, Code::SharedLogFull)
     }
 
     /// 10: "exactly if 64 boxes are out".

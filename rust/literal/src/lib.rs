@@ -5,7 +5,7 @@
 //! out. It is the measure that the table and the baseline are compared with.
 //!
 //! Revisions go by the order of their starts, without bound; the box numbers of calls and answers
-//! are looked up in the record of 02's U7.
+//! are looked up in the record of 02's U7. Four days on one card are a [`Federation`].
 
 #![forbid(unsafe_code)]
 
@@ -14,10 +14,12 @@ mod checks;
 mod day;
 mod diagram;
 mod effects;
+mod federation;
 mod numbering;
 mod steps;
 mod update;
 
 pub use day::{Day, Name, Revision, Transaction};
 pub use diagram::{Diagram, VertexId, VertexKind};
+pub use federation::Federation;
 pub use update::{Standing, Update};

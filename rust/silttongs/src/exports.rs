@@ -2,6 +2,8 @@
 
 #![allow(unsafe_code)]
 
+pub(crate) mod courses;
+
 use crate::day::Day;
 use crate::fill::Fill;
 use crate::preview::Preview;
@@ -195,7 +197,11 @@ pub(crate) fn preview(t: &[u8], joiner: u8, joinee: u8, bib: u16) -> Result<Prev
 
 pub(crate) fn verify(t: &[u8], order: &[u8]) -> Result<bool, Refusal> {
     // SAFETY: as above. Table and order are only read.
-    let packed = unsafe { silttongs_verify(t.as_ptr(), t.len(), order.as_ptr(), order.len()) };
+    yes(unsafe { silttongs_verify(t.as_ptr(), t.len(), order.as_ptr(), order.len()) })
+}
+
+/// Whether an order fits.
+fn yes(packed: u64) -> Result<bool, Refusal> {
     match answer(packed)? {
         0 => Ok(false),
         1 => Ok(true),

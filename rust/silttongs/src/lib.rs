@@ -83,14 +83,18 @@
 //! assert_eq!(listed(back)?, [(1, 60_000), (3, 5_000)]);
 //! # Ok::<(), Refusal>(())
 //! ```
+//!
+//! On a federation day four tables share one card: see [`Federation`].
 
 #![no_std]
 #![deny(unsafe_code)]
 
 mod board;
+mod course;
 mod day;
 mod entry;
 mod exports;
+mod federation;
 mod fill;
 mod line;
 mod mark;
@@ -101,8 +105,10 @@ mod standing;
 mod table;
 
 pub use board::{Board, BOARD};
+pub use course::{Course, COURSES};
 pub use day::Day;
 pub use entry::{Entry, BUNDLE};
+pub use federation::{Federation, ASSURED, CARD};
 pub use fill::Fill;
 pub use line::{lines, Line, SHEET};
 pub use mark::Mark;

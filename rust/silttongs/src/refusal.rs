@@ -14,7 +14,8 @@ use core::fmt;
 #[non_exhaustive]
 #[repr(u8)]
 pub enum Refusal {
-    /// The bytes are not 65,536, or a cell is out of its range.
+    /// The bytes are not 65,536, or a cell is out of its range; on four courses also those of another
+    /// course, or the course is above 3.
     NoTable = 1,
     /// Tablet above 15.
     UnknownClient = 2,
@@ -51,12 +52,16 @@ pub enum Refusal {
     NoSuchMark = 18,
     /// A board has another length than [`BOARD`](crate::BOARD).
     WrongBoard = 19,
+    /// On four courses: with one update more the [card](crate::CARD) would hold too many. A call that
+    /// would leave its course with no more than its [assured](crate::ASSURED) updates, if it were taken, never
+    /// meets it.
+    SharedLogFull = 20,
     /// The header of an order does not fit its length.
     BadList = 21,
 }
 
 /// In the order of their numbers. 13 is given by the program `day` alone.
-const ALL: [Refusal; 19] = [
+const ALL: [Refusal; 20] = [
     Refusal::NoTable,
     Refusal::UnknownClient,
     Refusal::NeverGiven,
@@ -75,6 +80,7 @@ const ALL: [Refusal; 19] = [
     Refusal::BadName,
     Refusal::NoSuchMark,
     Refusal::WrongBoard,
+    Refusal::SharedLogFull,
     Refusal::BadList,
 ];
 
@@ -105,6 +111,7 @@ impl Refusal {
             Refusal::BadName => "bad name",
             Refusal::NoSuchMark => "no such mark",
             Refusal::WrongBoard => "wrong board",
+            Refusal::SharedLogFull => "shared log full",
             Refusal::BadList => "bad list",
         }
     }
@@ -138,7 +145,7 @@ mod tests {
 
     #[test]
     fn each_number_has_its_refusal() {
-        assert!(ALL.map(Refusal::code).into_iter().eq((1..=12).chain(14..=19).chain([21])));
+        assert!(ALL.map(Refusal::code).into_iter().eq((1..=12).chain(14..=21)));
         for refusal in ALL {
             assert_eq!(answer(u64::from(refusal.code()) << 32), Err(refusal));
         }

@@ -14,7 +14,7 @@ use Rattle.plain.specs.Answers.{Outcome, called, sent}
 use Rattle.table.specs.Answers as Table
 use Rattle.table.specs.Out.{Out}
 use Rattle.table.specs.Calls.{batchOut, bundleOut, entriesOut, sentOut, settled, updateOut}
-use Rattle.consistency.specs.Table.{onTable}
+use Rattle.table.specs.Served.{onTable}
 use Rattle.consistency.proofs.Table.Stands.{Stands, bytes-are}
 use Rattle.consistency.proofs.Table.Rows.{agree}
 use Rattle.consistency.proofs.Table.Calls.{Same, refused-same, same-answer, update-same, yield-same}

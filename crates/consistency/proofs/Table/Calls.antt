@@ -13,7 +13,6 @@ use Rattle.lists.specs.Names.{Name}
 use Rattle.lists.proofs.Cases.{cases, or-false}
 use Rattle.updates.specs.declared.kind.Kind.{Kind}
 use Rattle.updates.specs.declared.standing.State.{State}
-use Rattle.updates.specs.declared.standing.State.the-variants.{Neither}
 use Rattle.updates.specs.Effect.{stateOf, valueIn}
 use Rattle.updates.specs.Kinds.{badBib, kindOf}
 use Rattle.desk.specs.Calls.{Update, Query, Yield, Fork, Join, Mark, Drop, Looks, Show, Fill, Answer, answerOn}
@@ -47,10 +46,9 @@ use Rattle.table.specs.Halves.{low, high, cellsOf}
 use Rattle.table.specs.Answers as Table
 use Rattle.table.specs.Out.{Out}
 use Rattle.table.specs.Calls.{updateOut, queryOut, yieldOut, forkOut, joinEnd, joinOut, markOut, dropOut, listOut, fillOut, noFill, standingAt, told}
-use Rattle.table.specs.declared.answer.Level.{Level}
-use Rattle.table.specs.declared.answer.Prospect.{Prospect}
+use Rattle.table.specs.Served.{Served, levelReply, onTable, outReply}
 use Rattle.following.specs.Reached.{byNumber, stepBytes}
-use Rattle.consistency.specs.Table.{Served, onTable, outReply, sheetWith}
+use Rattle.consistency.specs.Table.{sheetWith}
 use Rattle.consistency.proofs.Table.Stands.{Stands, bytes-are, high-size, numbers-are, stands-next}
 use Rattle.consistency.proofs.Table.Rows.{agree, number}
 use Rattle.consistency.proofs.Table.Values.{same-order, same-sheet, same-standing}
@@ -59,13 +57,6 @@ use Rattle.consistency.proofs.Table.Values.{same-order, same-sheet, sam
 pub record Same (sheet : List ℕ) (s : Served) (o : Outcome) : Type 0 where
   pub reply : s .reply ≡ answerOn (λ ls. sheetWith ls sheet) (o .answer)
   pub stands : Stands (o .next) (s .table)
-
--- what `looked` makes of a fill's answer and of a preview's
-abbrev pub levelReply : Level → Answer (List ℕ)
-levelReply f = record { code = f .code; state = Neither; value = f .own; total = f .total; gain = 0; sheet = [] }
-
-abbrev pub prospectReply : Prospect → Answer (List ℕ)
-prospectReply f = record { code = f .code; state = f .state; value = f .value; total = 0; gain = f .gain; sheet = [] }
 
 pub same-answer : {S : Type 0} {a b : State} {v w g h : ℕ} {s z : S} (code total : ℕ) → a ≡ b → v ≡ w → g ≡ h → s ≡ z
     → _≡_ {A = Answer S} (record { code = code; state = a; value = v; total = total; gain = g; sheet = s }) (record { code = code; state = b; value = w; total = total; gain = h; sheet = z })

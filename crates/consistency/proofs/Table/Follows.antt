@@ -16,10 +16,11 @@ use Rattle.plain.specs.Record.{PlainDay, freshDay}
 use Rattle.plain.specs.Answers.{Outcome, called, answers, answersFrom, dayFrom}
 use Rattle.table.specs.Out.{Out, tableBytes}
 use Rattle.table.specs.Calls.{freshOut}
+use Rattle.table.specs.Served.{onBoard, onTable, served, sheetOf}
 use Rattle.table.proofs.Halves.{low-of}
 use Rattle.following.specs.Reached.{bytesAfter, bytesFrom}
-use Rattle.consistency.specs.Table.{calls, onBoard, onTable, served, sheetOf, repliesOn, tableAfter, replies}
 use Rattle.following.proofs.Follow.{bytes-follow}
+use Rattle.consistency.specs.Table.{calls, repliesOn, tableAfter, replies}
 use Rattle.consistency.proofs.Table.Stands.{Stands}
 use Rattle.consistency.proofs.Table.Calls.{Same, update-same, query-same, yield-same, fork-same, join-same, mark-same, drop-same, list-same, fill-same}
 use Rattle.consistency.proofs.Table.Bundles.{bundle-same, entries-same}

@@ -7,7 +7,6 @@ use mathlib.Core.List.{List, []}
 use lib.Dec.{ltb}
 use borrow.Author.Tests.{ltb-true, not-true}
 use Rattle.lists.proofs.Cases.{and-true, same-truth}
-use Rattle.updates.specs.declared.standing.State.the-variants.{Neither}
 use Rattle.orderfile.specs.File.{numbersIn}
 use Rattle.orderfile.specs.Fits.{Fits}
 use Rattle.orderfile.proofs.Exactly.{fits-exactly}
@@ -17,7 +16,7 @@ use Rattle.cells.specs.Checks.{givenOut}
 use Rattle.diagram.specs.Day.{Day, IsOut, Means, isGiven, meant, numberOf}
 use Rattle.diagram.proofs.Days.Naming.{meant-low}
 use Rattle.diagram.proofs.Order.Reuse.{by-numbers}
-use Rattle.desk.specs.Calls.{Answer, Looks, Verify}
+use Rattle.desk.specs.Calls.{Looks, Verify}
 use Rattle.desk.proofs.Checks.{same-end}
 use Rattle.plain.specs.Record.{PlainDay}
 use Rattle.plain.specs.Answers as Plain
@@ -26,14 +25,10 @@ use Rattle.plain.proofs.Ends.{means}
 use Rattle.plain.proofs.Orders.{fits-day}
 use Rattle.table.specs.Halves.{cellsOf}
 use Rattle.table.specs.Calls.{fitsTable, isOut, verdict, verifyOut}
-use Rattle.table.specs.declared.answer.Answer as Table
+use Rattle.table.specs.Served.{plainReply}
 use Rattle.consistency.proofs.Table.Stands.{Stands, bytes-are, numbers-are}
 use Rattle.consistency.proofs.Table.Rows.{agree}
 use Rattle.consistency.proofs.Table.Calls.{Same, same-answer}
-
--- what `looked` makes of a verify's answer
-abbrev pub verdictReply : Table.Answer → Answer (List ℕ)
-verdictReply a = record { code = a .code; state = Neither; value = a .value; total = 0; gain = 0; sheet = [] }
 
 module _ (p : PlainDay) (t : List ℕ) (S : Stands p t) where
   abbrev y : Day
@@ -85,8 +80,8 @@ module _ (p : PlainDay) (t : List ℕ) (S : Stands p t) where
           in-order = λ n b. let m = meaning n b in rw (m .1) (f .in-order (meant y n) (m .0));
         }
 
-  pub verify-same : (file : List ℕ) → Same [] (record { reply = verdictReply (verifyOut t file); table = t; board = [] }) (called p (Looks (Verify file)))
+  pub verify-same : (file : List ℕ) → Same [] (record { reply = plainReply (verifyOut t file); table = t; board = [] }) (called p (Looks (Verify file)))
   unfolding called verifyOut
   verify-same file =
-      same-end (λ a o. Same [] (record { reply = verdictReply a; table = t; board = [] }) o) (λ code. verdict code false) (Plain.refused p) (λ k. record { reply = refl; stands = S }) _ _ (agree p t S (Looks (Verify file)))
+      same-end (λ a o. Same [] (record { reply = plainReply a; table = t; board = [] }) o) (λ code. verdict code false) (Plain.refused p) (λ k. record { reply = refl; stands = S }) _ _ (agree p t S (Looks (Verify file)))
       (λ P. record { reply = same-answer 0 0 refl (ap (λ b. cond b 1 0) (same-fits (numbersIn file))) refl refl; stands = S })

@@ -17,9 +17,10 @@ use Rattle.plain.specs.Answers as Plain
 use Rattle.plain.specs.Answers.{called, ending, joined}
 use Rattle.plain.proofs.Ends.{BoxesPass, Passes, join-passes, preview-passes}
 use Rattle.table.specs.Calls.{foreseen, joinEnd, noProspect, previewOut, standingAt}
+use Rattle.table.specs.Served.{prospectReply}
 use Rattle.consistency.proofs.Table.Stands.{Stands}
 use Rattle.consistency.proofs.Table.Rows.{agree}
-use Rattle.consistency.proofs.Table.Calls.{OnTable, Same, join-end, prospectReply, same-answer}
+use Rattle.consistency.proofs.Table.Calls.{OnTable, Same, join-end, same-answer}
 use Rattle.consistency.proofs.Table.Values.{same-reading}
 
 -- a join that would be taken: the copy stands for the day with the join

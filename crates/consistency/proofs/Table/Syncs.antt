@@ -13,7 +13,7 @@ use Rattle.plain.proofs.Ends.{BoxesPass, boxes-pass}
 use Rattle.table.specs.Answers as Table
 use Rattle.table.specs.Out.{Out}
 use Rattle.table.specs.Calls.{asOne, forkOut, joinEnd, syncOut}
-use Rattle.consistency.specs.Table.{onTable}
+use Rattle.table.specs.Served.{onTable}
 use Rattle.consistency.proofs.Table.Stands.{Stands}
 use Rattle.consistency.proofs.Table.Rows.{agree}
 use Rattle.consistency.proofs.Table.Calls.{OnTable, Same, fork-same, join-end, refused-same}

@@ -2,6 +2,7 @@
 
 mod bills;
 mod boards;
+mod courses;
 mod files;
 mod orders;
 mod program;

@@ -182,6 +182,7 @@ fn help_goes_to_standard_output() {
         "board",
         "order",
         "verify",
+        "courses FILE FILE FILE FILE",
         "update TABLET/BOX KIND bib BIB V",
     ] {
         assert!(help.contains(word), "{word}");

@@ -4,6 +4,7 @@
 mod bills;
 mod boards;
 mod bundles;
+mod courses;
 mod fills;
 mod marks;
 mod numbers;

@@ -13,12 +13,12 @@ mod sqlite;
 use std::hint::black_box;
 use std::time::Instant;
 
-use calls::{Call, BIBS, CLIENTS, UPDATES};
+use calls::{Call, ASSURED, BIBS, CLIENTS, UPDATES};
 use days::{
     alike, announcing, bib, bringing, bundle, chain, every_query, handed_in, in_turn, mark, marked,
     of_one_bib, sent_off, single_main, update, verify, whole, NAME,
 };
-use sides::{made, Lent, Side, Step};
+use sides::{made, made_courses, Lent, Side, Step};
 use silttongs::SHEET;
 
 /// Each case is timed in so many rounds, between which the others have their turn.
@@ -46,6 +46,12 @@ struct Case {
 impl Case {
     fn of_calls(name: impl Into<String>, day: &[Call], calls: &[Call]) -> Self {
         Case::of_steps(name, day, calls.iter().cloned().map(Step::Made).collect())
+    }
+
+    /// On course 0, with three courses beside it that have 1,024 updates each.
+    fn of_course(name: impl Into<String>, day: &[Call], calls: &[Call]) -> Self {
+        let lent = made_courses(day, &chain(ASSURED, 8));
+        Case { lent, ..Case::of_calls(name, day, calls) }
     }
 
     fn of_steps(name: impl Into<String>, day: &[Call], steps: Vec<Step>) -> Self {
@@ -79,8 +85,11 @@ impl Case {
         values.last().flatten().unwrap_or(0)
     }
 
-    /// The calls of a case that has nothing else; none of another.
+    /// The calls of a case that has nothing else; none of another, or of a course.
     fn calls(&self) -> Vec<Call> {
+        if self.lent.others.is_some() {
+            return Vec::new();
+        }
         let call = |step: &Step| match step {
             Step::Made(call) => Some(call.clone()),
             Step::Board | Step::Bib(_) => None,
@@ -206,6 +215,25 @@ fn verified() -> Vec<Case> {
     ]
 }
 
+/// 02, U12: some of the single calls on a course, for what three more range checks cost.
+fn coursed() -> Vec<Case> {
+    let (middle, full) = (chain(2_048, 8), chain(UPDATES, 8));
+    let on = |name: &str, day: &[Call], calls: &[Call]| {
+        Case::of_course(format!("course: {name}"), day, calls)
+    };
+    let pair = [update(0, 7, 7), Call::Yield { client: 0 }];
+    let query = [Call::Query { client: 0, revision: 7, bib: bib(UPDATES - 100) }];
+    let list = [Call::List { revision: 7, room: SHEET }];
+    vec![
+        on("range check alone", &middle, &[Call::Yield { client: CLIENTS }]),
+        on("update + yield, 2,048 updates, 8 boxes", &middle, &pair),
+        on("bundle of 64, 2,048 updates, 8 boxes", &middle, &[bundle(0, 7, 7)]),
+        on("query, a Time in the last hundred, 8 boxes", &full, &query),
+        on("fork of box 0, 4,096 updates", &chain(UPDATES, 1), &[Call::Fork { revision: 0 }]),
+        on("list of 4,096 updates, 8 boxes", &full, &list),
+    ]
+}
+
 /// 02, U10: "a day of 4,096 updates with a full board read after each hundred"; the same day read by
 /// 1,000 queries each time; and what is read at its end, at once and bib by bib.
 fn announced() -> Vec<Case> {
@@ -291,12 +319,8 @@ fn main() {
     };
 
     let clock = clock();
-    let mut single = single_calls();
-    single.extend(synced());
-    single.extend(marks());
-    single.extend(verified());
-    single.extend(announced());
-    single.extend(reused());
+    let kinds = [single_calls(), synced(), marks(), verified(), announced(), coursed(), reused()];
+    let mut single: Vec<Case> = kinds.into_iter().flatten().collect();
     let mut by_updates = growth(&[64, 1_024, 2_048, 3_072, 4_080], |updates| (updates, 8));
     let mut by_revisions = growth(&[2, 8, 16, 32, 48, 63], |revisions| (2_048, revisions));
     for _ in 0..ROUNDS {

@@ -3,7 +3,7 @@
 use std::hint::black_box;
 
 use calls::{Call, Code};
-use silttongs::{Board, Day, Refusal, Standing, Table, BOARD, BYTES, SHEET};
+use silttongs::{Board, Course, Day, Federation, Refusal, Standing, Table, BOARD, BYTES, SHEET};
 
 /// Code and value; none for a struck bib. The two numbers of a fill, and value and gain of a preview,
 /// are one.
@@ -15,13 +15,15 @@ pub(crate) struct Lent {
     pub(crate) table: Box<[u8]>,
     pub(crate) board: Box<[u8]>,
     pub(crate) sheet: Box<[u8]>,
+    /// If the table is that of course 0: those of the other three.
+    pub(crate) others: Option<[Box<[u8]>; 3]>,
 }
 
 impl Lent {
     fn new() -> Self {
         let [table, board, sheet] =
             [BYTES, BOARD, SHEET].map(|length| vec![0; length].into_boxed_slice());
-        Lent { table, board, sheet }
+        Lent { table, board, sheet, others: None }
     }
 
     /// Table and board as another has them.
@@ -101,11 +103,24 @@ impl Side {
 }
 
 fn call_baseline(lent: &mut Lent, call: &Call) -> Result<Option<u64>, Code> {
-    let Lent { table: t, board, sheet } = lent;
+    let Lent { table, board, sheet, others } = lent;
+    let Some([a, b, c]) = others else { return on_baseline(table, 0, board, sheet, call) };
+    let mut tables = [&mut table[..], a, b, c];
+    let (t, held) = baseline::course(&mut tables, 0)?;
+    on_baseline(t, held, board, sheet, call)
+}
+
+fn on_baseline(
+    t: &mut [u8],
+    held: usize,
+    board: &mut [u8],
+    sheet: &mut [u8],
+    call: &Call,
+) -> Result<Option<u64>, Code> {
     let stands = |standing: baseline::Standing| (!standing.struck).then_some(standing.value.into());
     match *call {
         Call::Update { client, revision, kind, bib, v } => {
-            baseline::update(t, client, revision, kind, bib, v).map(one)
+            baseline::update_beside(t, held, client, revision, kind, bib, v).map(one)
         }
         Call::Query { client, revision, bib } => {
             baseline::query(t, client, revision, bib).map(stands)
@@ -116,7 +131,7 @@ fn call_baseline(lent: &mut Lent, call: &Call) -> Result<Option<u64>, Code> {
         Call::List { revision, room } => baseline::list(t, revision, &mut sheet[..room]).map(one),
         Call::Fill { revision } => baseline::fill(t, revision).map(|f| both(one(f.own), f.total)),
         Call::Bundle { client, revision, ref records } => {
-            baseline::bundle(t, board, client, revision, records).map(one)
+            baseline::bundle_beside(t, held, board, client, revision, records).map(one)
         }
         Call::Preview { joiner, joinee, bib } => {
             baseline::preview(t, joiner, joinee, bib).map(|p| both(stands(p.standing), p.gain))
@@ -132,7 +147,12 @@ fn call_baseline(lent: &mut Lent, call: &Call) -> Result<Option<u64>, Code> {
 }
 
 fn call_library(lent: &mut Lent, call: &Call) -> Result<Option<u64>, Refusal> {
-    let Lent { table: t, board, sheet } = lent;
+    let Lent { table: t, board, sheet, others } = lent;
+    if let Some([a, b, c]) = others {
+        // No call is made on the other three, and none has a board.
+        let boards = [&mut board[..], &mut [], &mut [], &mut []].map(Board::from_bytes);
+        return on_course(Federation::from_bytes([&mut t[..], a, b, c], boards), sheet, call);
+    }
     let mut board = Board::from_bytes(&mut board[..]);
     let stands =
         |standing: Standing| (standing != Standing::Struck).then_some(standing.value().into());
@@ -166,6 +186,34 @@ fn call_library(lent: &mut Lent, call: &Call) -> Result<Option<u64>, Refusal> {
     }
 }
 
+/// The calls that are timed on course 0.
+fn on_course(
+    mut courses: Federation<&mut [u8], &mut [u8]>,
+    sheet: &mut [u8],
+    call: &Call,
+) -> Result<Option<u64>, Refusal> {
+    let course = Course::ALL[0];
+    let stands =
+        |standing: Standing| (standing != Standing::Struck).then_some(standing.value().into());
+    match *call {
+        Call::Update { client, revision, kind, bib, v } => {
+            courses.update(course, client, revision, kind, bib, v).map(one)
+        }
+        Call::Query { client, revision, bib } => {
+            courses.query(course, client, revision, bib).map(stands)
+        }
+        Call::Yield { client } => courses.yield_(course, client).map(|()| one(0_u32)),
+        Call::Fork { revision } => courses.fork(course, revision).map(one),
+        Call::List { revision, room } => {
+            courses.list(course, revision, &mut sheet[..room]).map(one)
+        }
+        Call::Bundle { client, revision, ref records } => {
+            courses.bundle(course, client, revision, records).map(one)
+        }
+        _ => unreachable!("no case of a course has `{call}`"),
+    }
+}
+
 fn one(value: impl Into<u64>) -> Option<u64> {
     Some(value.into())
 }
@@ -180,6 +228,12 @@ fn by_baseline(answer: Result<Option<u64>, Code>) -> Given {
 
 fn by_library(answer: Result<Option<u64>, Refusal>) -> Given {
     answer.map_or_else(|refusal| (refusal.code(), Some(0)), |value| (0, value))
+}
+
+/// The same of course 0, with three courses beside it that made these calls too.
+pub(crate) fn made_courses(calls: &[Call], others: &[Call]) -> Lent {
+    let other = made(others).table;
+    Lent { others: Some([other.clone(), other.clone(), other]), ..made(calls) }
 }
 
 /// Table and board after these calls, all accepted and none a list.

@@ -18,6 +18,11 @@ fn the_protest_answers_as_written() {
     assert_eq!(printed("protest"), include_str!("../../../../examples/c/protest.out"));
 }
 
+#[test]
+fn the_federation_day_answers_as_written() {
+    assert_eq!(printed("federation"), include_str!("../../../../examples/c/federation.out"));
+}
+
 /// What the example of this name prints.
 fn printed(name: &str) -> String {
     let root = Path::new(env!("CARGO_MANIFEST_DIR")).join("../..");

@@ -1,7 +1,7 @@
 //! The library's calls as values, and what they are compared with.
 
-use calls::{Answer, Call, Code, Line, State};
-use silttongs::{Board, Day, Refusal, Standing, Table, BOARD};
+use calls::{Answer, Call, Code, CourseCall, Line, State, COURSES};
+use silttongs::{Board, Course, Day, Federation, Refusal, Standing, Table, BOARD};
 
 use super::{fresh, Lent};
 
@@ -50,56 +50,111 @@ pub(crate) fn sheet(call: &Call) -> Vec<u8> {
     }
 }
 
+/// A call by the methods of a table, to which a board is lent, or by those of a federation, which have a
+/// course before their other arguments. A fresh is made by neither.
+macro_rules! by_methods {
+    ($lent:ident $(, course $course:expr)? $(, board $board:expr)?; $call:expr, $sheet:expr) => {{
+        let started = |number| Answer::accepted(u32::from(number));
+        match *$call {
+            Call::Update { client, revision, kind, bib, v } => {
+                $lent.update($($course,)? client, revision, kind, bib, v).map(Answer::accepted)
+            }
+            Call::Query { client, revision, bib } => {
+                $lent.query($($course,)? client, revision, bib).map(found)
+            }
+            Call::Yield { client } => {
+                $lent.yield_($($course,)? $($board,)? client).map(|()| Answer::accepted(0))
+            }
+            Call::Fork { revision } => $lent.fork($($course,)? revision).map(started),
+            Call::Sync { revision } => $lent.sync($($course,)? $($board,)? revision).map(started),
+            Call::Mark { revision, ref name } => {
+                $lent.mark($($course,)? revision, name).map(started)
+            }
+            Call::Drop { ref name } => {
+                $lent.drop($($course,)? name).map(|()| Answer::accepted(0))
+            }
+            Call::Join { joiner, joinee } => {
+                $lent.join($($course,)? $($board,)? joiner, joinee).map(Answer::accepted)
+            }
+            Call::List { revision, .. } => {
+                $lent.list($($course,)? revision, $sheet).map(Answer::accepted)
+            }
+            Call::Fill { revision } => $lent
+                .fill($($course,)? revision)
+                .map(|fill| Answer::filled(u32::from(fill.own), u32::from(fill.total))),
+            Call::Bundle { client, revision, ref records } => $lent
+                .bundle($($course,)? $($board,)? client, revision, records)
+                .map(Answer::accepted),
+            Call::Preview { joiner, joinee, bib } => $lent
+                .preview($($course,)? joiner, joinee, bib)
+                .map(|preview| Answer { gain: preview.gain, ..found(preview.standing) }),
+            Call::Verify { ref order } => {
+                $lent.verify($($course,)? order).map(|yes| Answer::accepted(u32::from(yes)))
+            }
+            Call::Bill { member } => $lent.bill($($course,)? member).map(Answer::accepted),
+            Call::Fresh { .. } | Call::OnBoard { .. } => unreachable!("made otherwise"),
+        }
+    }};
+}
+
 /// What the library gives. A board is lent to the calls that take one.
 pub(crate) fn library(bytes: &mut [u8], board: &mut [u8], call: &Call) -> Given {
     if let Call::OnBoard { length, call } = call {
-        return library_on(bytes, *length, call);
+        return lent_other(*length, call, |board| library(bytes, board, call));
     }
-    let mut table = Table::from_bytes(&mut *bytes);
     let mut board = Board::from_bytes(board);
     let mut sheet = sheet(call);
-    let started = |number| Answer::accepted(u32::from(number));
-    let answer = match *call {
-        Call::Update { client, revision, kind, bib, v } => {
-            table.update(client, revision, kind, bib, v).map(Answer::accepted)
-        }
-        Call::Query { client, revision, bib } => table.query(client, revision, bib).map(found),
-        Call::Yield { client } => table.yield_(&mut board, client).map(|()| Answer::accepted(0)),
-        Call::Fork { revision } => table.fork(revision).map(started),
-        Call::Sync { revision } => table.sync(&mut board, revision).map(started),
-        Call::Mark { revision, ref name } => table.mark(revision, name).map(started),
-        Call::Drop { ref name } => table.drop(name).map(|()| Answer::accepted(0)),
-        Call::Fresh { single_main } => {
-            Table::fresh(bytes, &mut board, choice(single_main)).map(|_| Answer::accepted(0))
-        }
-        Call::Join { joiner, joinee } => {
-            table.join(&mut board, joiner, joinee).map(Answer::accepted)
-        }
-        Call::List { revision, .. } => table.list(revision, &mut sheet).map(Answer::accepted),
-        Call::Fill { revision } => table
-            .fill(revision)
-            .map(|fill| Answer::filled(u32::from(fill.own), u32::from(fill.total))),
-        Call::Bundle { client, revision, ref records } => {
-            table.bundle(&mut board, client, revision, records).map(Answer::accepted)
-        }
-        Call::Preview { joiner, joinee, bib } => table
-            .preview(joiner, joinee, bib)
-            .map(|preview| Answer { gain: preview.gain, ..found(preview.standing) }),
-        Call::Verify { ref order } => {
-            table.verify(order).map(|yes| Answer::accepted(u32::from(yes)))
-        }
-        Call::Bill { member } => table.bill(member).map(Answer::accepted),
-        Call::OnBoard { .. } => unreachable!("made above"),
+    let answer = if let Call::Fresh { single_main } = *call {
+        Table::fresh(bytes, &mut board, choice(single_main)).map(|_| Answer::accepted(0))
+    } else {
+        let mut table = Table::from_bytes(bytes);
+        by_methods!(table, board &mut board; call, &mut sheet)
     };
     Given { answer: answer.unwrap_or_else(refused), sheet }
 }
 
-/// What the library gives, with a board of so many bytes lent. If it is refused, that board keeps every
-/// byte.
-fn library_on(bytes: &mut [u8], length: usize, call: &Call) -> Given {
+/// What the library gives on a course. Of a number above 3 the wrapper makes none.
+pub(crate) fn course_library(
+    lent: &mut baseline::Federation,
+    CourseCall { course, call }: &CourseCall,
+) -> Given {
+    let course = match Course::new(*course) {
+        Ok(course) => course,
+        Err(refusal) => return Given { answer: refused(refusal), sheet: sheet(call) },
+    };
+    let tables = lent.tables.each_mut().map(Vec::as_mut_slice);
+    let boards = lent.boards.each_mut().map(Vec::as_mut_slice);
+    let Call::OnBoard { length, call } = call else {
+        return on_course(tables, boards, course, call);
+    };
+    lent_other(*length, call, |board| {
+        let mut boards: [&mut [u8]; COURSES] = boards;
+        boards[usize::from(course)] = board;
+        on_course(tables, boards, course, call)
+    })
+}
+
+fn on_course(
+    tables: [&mut [u8]; COURSES],
+    boards: [&mut [u8]; COURSES],
+    course: Course,
+    call: &Call,
+) -> Given {
+    let mut federation = Federation::from_bytes(tables, boards.map(Board::from_bytes));
+    let mut sheet = sheet(call);
+    let answer = if let Call::Fresh { single_main } = *call {
+        federation.fresh(course, choice(single_main)).map(|()| Answer::accepted(0))
+    } else {
+        by_methods!(federation, course course; call, &mut sheet)
+    };
+    Given { answer: answer.unwrap_or_else(refused), sheet }
+}
+
+/// What is given with a board of so many bytes lent. If the call is refused, that board keeps every byte.
+fn lent_other(length: usize, call: &Call, make: impl FnOnce(&mut [u8]) -> Given) -> Given {
     let before: Vec<u8> = (0..length).map(|at| (at * 167 + at / 256) as u8).collect();
     let mut board = before.clone();
-    let given = library(bytes, &mut board, call);
+    let given = make(&mut board);
     let refused = given.answer.code != Code::Accepted;
     assert!(!refused || board == before, "`{call}`: a refusal changes a board of {length} bytes");
     assert!(refused || length == BOARD, "`{call}` is taken with a board of {length} bytes");
@@ -117,10 +172,16 @@ pub(crate) fn choice(single_main: bool) -> Day {
 
 /// What the library answers; of a list, with the lines on its sheet.
 pub(crate) fn answered(Bytes { table, board }: &mut Bytes, call: &Call) -> Answer {
-    let Given { answer, sheet } = library(table, board, call);
-    let (places, _) = sheet.as_chunks();
-    let listed = places.iter().take(answer.value as usize);
-    Answer { lines: listed.map(|&place| Line::from_bytes(place)).collect(), ..answer }
+    library(table, board, call).with_lines()
+}
+
+impl Given {
+    /// The answer; of a list, with the lines on its sheet.
+    pub(crate) fn with_lines(self) -> Answer {
+        let (places, _) = self.sheet.as_chunks();
+        let listed = places.iter().take(self.answer.value as usize);
+        Answer { lines: listed.map(|&place| Line::from_bytes(place)).collect(), ..self.answer }
+    }
 }
 
 fn found(standing: Standing) -> Answer {

@@ -13,7 +13,7 @@ pub(crate) const NAMES: usize = 39_828;
 pub(crate) const SINGLE: usize = 40_084;
 pub(crate) const STARTED: usize = 40_087;
 pub(crate) const MARKED: u8 = 3;
-const UPDATES: usize = 39_824;
+pub(crate) const UPDATES: usize = 39_824;
 
 /// The names in the cells of marks, each once.
 pub(crate) fn names(t: &[u8]) -> Vec<Vec<u8>> {

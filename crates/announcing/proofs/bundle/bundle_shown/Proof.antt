@@ -1,6 +1,7 @@
 -- `announcing::bundle::bundle_shown` meets its contract: the updates and the yield, then what they brought. Assumes nothing.
 use borrow.Author.Needs.{needs}
 use Rattle.bundles.specs.Records.{entriesFrom}
+use Rattle.table.specs.Shared.{above}
 use Rattle.table.proofs.Brings.{brought-out, can-bring}
 use Rattle.announcing.proofs.Sends.{bundle-shows}
 use Rattle.announcing.proofs.bundle.bundle_shown.Statement.{statement}
@@ -17,7 +18,7 @@ bring-requires c κs =
     let at-settled = at-sent .before .before in
     let start = at-settled .before .before .before .before .before in
     let s = start .args in
-    let b = can-bring (s .t .now) _ _ (at-settled .settled .ensures) _ _ (at-sent .bundle-sound .ensures) (bundle-shows (s .t .now) (start .pre .0) (s .client) (s .revision) (entriesFrom (s .b .now) 0 (s .n))) in
+    let b = can-bring (s .t .now) _ _ (at-settled .settled .ensures) _ _ (at-sent .bundle-sound .ensures) (bundle-shows (above (s .most)) (s .t .now) (start .pre .0) (s .client) (s .revision) (entriesFrom (s .b .now) 0 (s .n))) in
     (b .0, b .1, b .2, start .pre .3)
 
 returns : tie.Need-returns

@@ -2,6 +2,7 @@
 use mathlib.Core.Path.{_∙_, ap}
 use borrow.Author.Needs.{needs}
 use Rattle.bundles.specs.Records.{entriesFrom}
+use Rattle.table.specs.Shared.{above}
 use Rattle.updating.specs.Checks.{updateCode}
 use Rattle.bundling.proofs.Bundles.{bundle-going, bundle-refused, bundle-sent}
 use Rattle.bundling.proofs.bundle.bundle_sound.Statement.{statement}
@@ -13,7 +14,7 @@ returns c =
     let start = at-check .before .before .before .before in
     let s = start .args in
     let g = c .before .enum-told .given in
-    rw (c .code .ensures ∙ ap updateCode (g .1)) (bundle-refused (s .t .now) (start .pre .0) (s .client) (s .revision) (s .b .now) (s .n) (start .pre .4) (at-check .check-first .result) (at-check .check-first .ensures) (g .0 .0) (g .1))
+    rw (c .code .ensures ∙ ap updateCode (g .1)) (bundle-refused (above (s .most)) (s .t .now) (start .pre .0) (s .client) (s .revision) (s .b .now) (s .n) (start .pre .4) (at-check .check-first .result) (at-check .check-first .ensures) (g .0 .0) (g .1))
 
 send-requires : tie.Need-send-requires
 send-requires c κs =
@@ -23,7 +24,7 @@ send-requires c κs =
     let s = start .args in
     let g = at-found .found .given in
     let first = at-check .check-first in
-    let going = bundle-going (s .t .now) (start .pre .0) (s .client) (s .revision) (s .b .now) (s .n) (start .pre .4) (first .result) (first .ensures) in
+    let going = bundle-going (above (s .most)) (s .t .now) (start .pre .0) (s .client) (s .revision) (s .b .now) (s .n) (start .pre .4) (first .result) (first .ensures) in
     (going (g .0 .0) (g .0 .1 .0) (g .0 .1 .1 .0) (g .1), start .pre .1, start .pre .3, start .pre .5)
 
 returns-2 : tie.Need-returns-2
@@ -35,7 +36,7 @@ returns-2 c =
     let s = start .args in
     let g = at-found .found .given in
     let first = at-check .check-first in
-    let sent = bundle-sent (s .t .now) (start .pre .0) (s .client) (s .revision) (s .b .now) (s .n) (start .pre .4) (first .result) (first .ensures) in
+    let sent = bundle-sent (above (s .most)) (s .t .now) (start .pre .0) (s .client) (s .revision) (s .b .now) (s .n) (start .pre .4) (first .result) (first .ensures) in
     at-send .send .ensures ∙ sent (g .0 .0) (g .0 .1 .0) (g .0 .1 .1 .0) (g .1) (entriesFrom (s .b .now) 0 (s .n))
 
 pub bundle-sound-spec : {M : Type 1} → statement M

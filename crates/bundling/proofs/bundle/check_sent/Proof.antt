@@ -10,13 +10,13 @@ use Rattle.bundling.proofs.bundle.check_sent.Statement.{statement}
 use Rattle.bundling.proofs.bundle.check_sent.Tie as tie
 
 abbrev Inv-loop : tie.InvT-loop
-Inv-loop b n taken i₀ i = (i ≤ n) × (sentCheck (entriesFrom b 0 n) taken ≡ sentCheck (entriesFrom b i (n - i)) (taken + i))
+Inv-loop b n taken most i₀ i = (i ≤ n) × (sentCheck (entriesFrom b 0 n) taken most ≡ sentCheck (entriesFrom b i (n - i)) (taken + i) most)
 
 abbrev μ-loop : tie.MeasureT-loop
-μ-loop b n taken i₀ i = n - i
+μ-loop b n taken most i₀ i = n - i
 
 loop-holds : tie.Need-loop-holds Inv-loop μ-loop
-loop-holds c = (search needs, check-start _ _ _)
+loop-holds c = (search needs, check-start _ _ _ _)
 
 entry-at-requires : tie.Need-entry-at-requires Inv-loop μ-loop
 entry-at-requires c κs = search needs
@@ -28,8 +28,8 @@ returns c =
     let s = at-loop .before .before .args in
     let l = at-loop .loop in
     let found = c .before .before .check-fit in
-    let is = found .ensures ∙ ap (λ e. fitCheck (e .kind) (e .bib) (s .taken + l .i)) (at-entry .entry-at .ensures) in
-    check-ends (s .b .now) (s .n) (s .taken) (l .i) (omega arith) (found .result) is _ (c .enum-told2 .given .1) ∙ sym (l .inv .1)
+    let is = found .ensures ∙ ap (λ e. fitCheck (e .kind) (e .bib) (s .taken + l .i) (s .most)) (at-entry .entry-at .ensures) in
+    check-ends (s .b .now) (s .n) (s .taken) (s .most) (l .i) (omega arith) (found .result) is _ (c .enum-told2 .given .1) ∙ sym (l .inv .1)
 
 loop-again : tie.Need-loop-again Inv-loop μ-loop
 loop-again c =
@@ -38,15 +38,15 @@ loop-again c =
     let s = at-loop .before .before .args in
     let l = at-loop .loop in
     let found = c .before .before .check-fit in
-    let is = found .ensures ∙ ap (λ e. fitCheck (e .kind) (e .bib) (s .taken + l .i)) (at-entry .entry-at .ensures) in
-    (omega arith, l .inv .1 ∙ check-goes-on (s .b .now) (s .n) (s .taken) (l .i) (omega arith) (found .result) is (c .enum-told .given .1))
+    let is = found .ensures ∙ ap (λ e. fitCheck (e .kind) (e .bib) (s .taken + l .i) (s .most)) (at-entry .entry-at .ensures) in
+    (omega arith, l .inv .1 ∙ check-goes-on (s .b .now) (s .n) (s .taken) (s .most) (l .i) (omega arith) (found .result) is (c .enum-told .given .1))
 
 returns-2 : tie.Need-returns-2 Inv-loop μ-loop
 returns-2 c =
     let at-loop = c .before in
     let s = at-loop .before .before .args in
     let l = at-loop .loop in
-    sym (l .inv .1 ∙ check-last (s .b .now) (s .n) (s .taken) (l .i) (omega arith))
+    sym (l .inv .1 ∙ check-last (s .b .now) (s .n) (s .taken) (s .most) (l .i) (omega arith))
 
 pub check-sent-spec : {M : Type 1} → statement M
 check-sent-spec = tie.close (tie.spec

@@ -4,6 +4,7 @@ use mathlib.Core.Path.{_≡_, sym, _∙_, ap, subst}
 use native.Mathlib.Omega.{arith}
 use borrow.Author.Needs.{needs}
 use Rattle.bundles.specs.Records.{entriesFrom}
+use Rattle.cells.specs.Sizes.{updates}
 use Rattle.table.specs.Halves.{cellsOf}
 use Rattle.bundling.specs.Bundles.{Going, entered, enteredAll, sentCheck}
 use Rattle.bundling.specs.declared.bundle.FitCheck.the-variants as fit
@@ -15,7 +16,7 @@ use Rattle.bundling.proofs.bundle.enter_all.Tie as tie
 
 abbrev Inv-loop : tie.InvT-loop
 Inv-loop t₀ c r b n i₀ t i =
-    (i ≤ n) × Going t (c .0) (r .0) × (sentCheck (entriesFrom b i (n - i)) (cellsOf t .updates) ≡ fit.Fits)
+    (i ≤ n) × Going t (c .0) (r .0) × (sentCheck (entriesFrom b i (n - i)) (cellsOf t .updates) updates ≡ fit.Fits)
     × (enteredAll t₀ (c .0) (r .0) (entriesFrom b 0 n) ≡ enteredAll t (c .0) (r .0) (entriesFrom b i (n - i)))
 
 abbrev μ-loop : tie.MeasureT-loop
@@ -26,7 +27,7 @@ loop-holds c =
     let start = c .before .before in
     let s = start .args in
     let all = entries-all (s .b .now) (s .n) in
-    (search needs, start .pre .0, ap (λ es. sentCheck es (cellsOf (s .t .now) .updates)) (sym all) ∙ start .pre .3, ap (enteredAll (s .t .now) (s .c .0) (s .r .0)) all)
+    (search needs, start .pre .0, ap (λ es. sentCheck es (cellsOf (s .t .now) .updates) updates) (sym all) ∙ start .pre .3, ap (enteredAll (s .t .now) (s .c .0) (s .r .0)) all)
 
 enter-requires : tie.Need-enter-requires Inv-loop μ-loop
 enter-requires c κs =
@@ -47,7 +48,7 @@ loop-again c =
     let is = at-enter .enter .ensures ∙ ap (entered (l .t) (s .c .0) (s .r .0)) (at-entry .entry-at .ensures) in (
       omega arith,
       subst (λ d. Going d (s .c .0) (s .r .0)) (sym is) (o .going),
-      subst (λ d. sentCheck (entriesFrom (s .b .now) (l .i + 1) (s .n - (l .i + 1))) (cellsOf d .updates) ≡ fit.Fits) (sym is) (o .others),
+      subst (λ d. sentCheck (entriesFrom (s .b .now) (l .i + 1) (s .n - (l .i + 1))) (cellsOf d .updates) updates ≡ fit.Fits) (sym is) (o .others),
       l .inv .3 ∙ entered-next (l .t) (s .c .0) (s .r .0) (s .b .now) (l .i) (s .n) (omega arith) ∙ ap (λ d. enteredAll d (s .c .0) (s .r .0) (entriesFrom (s .b .now) (l .i + 1) (s .n - (l .i + 1)))) (sym is),
     )
 

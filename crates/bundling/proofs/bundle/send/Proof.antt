@@ -9,7 +9,7 @@ use Rattle.cells.specs.Steps.{closeBytes}
 use Rattle.table.specs.Halves.{high, low}
 use Rattle.bundling.specs.Bundles.{fitCode}
 use Rattle.bundling.proofs.Going.{client-in, few-taken}
-use Rattle.bundling.proofs.Records.{same-check}
+use Rattle.bundling.proofs.Records.{fits-alone, same-check}
 use Rattle.bundling.proofs.Sent.{settle-fits, settle-refused}
 use Rattle.bundling.proofs.bundle.send.Statement.{statement}
 use Rattle.bundling.proofs.bundle.send.Tie as tie
@@ -27,8 +27,8 @@ returns c =
     let start = at-taken .before .before .before .before in
     let s = start .args in
     let g = c .before .enum-told2 .given in
-    rw (c .code .ensures ∙ ap fitCode (g .1)) (settle-refused (s .t .now) (s .c .0) (s .r .0) (start .pre .0) (entriesFrom (s .b .now) 0 (s .n)) (at-check .check-sent .result)
-    (same-check (entriesFrom (s .b .now) 0 (s .n)) _ _ _ (at-taken .taken .ensures .0) (at-check .check-sent .ensures))
+    rw (c .code .ensures ∙ ap fitCode (g .1)) (settle-refused (s .most) (s .t .now) (s .c .0) (s .r .0) (start .pre .0) (entriesFrom (s .b .now) 0 (s .n)) (at-check .check-sent .result)
+    (same-check (entriesFrom (s .b .now) 0 (s .n)) (s .most) _ _ _ (at-taken .taken .ensures .0) (at-check .check-sent .ensures))
     (g .0 .0) (g .1))
 
 enter-all-requires : tie.Need-enter-all-requires
@@ -37,7 +37,8 @@ enter-all-requires c κs =
     let at-taken = at-check .before in
     let start = at-taken .before .before .before .before in
     let s = start .args in
-    (start .pre .0, start .pre .2, start .pre .3, sym (same-check (entriesFrom (s .b .now) 0 (s .n)) _ _ _ (at-taken .taken .ensures .0) (at-check .check-sent .ensures)) ∙ c .before .enum-told .given .1)
+    let fits = sym (same-check (entriesFrom (s .b .now) 0 (s .n)) (s .most) _ _ _ (at-taken .taken .ensures .0) (at-check .check-sent .ensures)) ∙ c .before .enum-told .given .1 in
+    (start .pre .0, start .pre .2, start .pre .3, fits-alone (entriesFrom (s .b .now) 0 (s .n)) _ (s .most) fits)
 
 close-requires : tie.Need-close-requires
 close-requires c κs =
@@ -56,8 +57,8 @@ returns-2 c =
     let at-taken = at-check .before in
     let start = at-taken .before .before .before .before in
     let s = start .args in
-    settle-fits (s .t .now) (s .c .0) (s .r .0) (start .pre .0) (entriesFrom (s .b .now) 0 (s .n)) (at-check .check-sent .result)
-    (same-check (entriesFrom (s .b .now) 0 (s .n)) _ _ _ (at-taken .taken .ensures .0) (at-check .check-sent .ensures))
+    settle-fits (s .most) (s .t .now) (s .c .0) (s .r .0) (start .pre .0) (entriesFrom (s .b .now) 0 (s .n)) (at-check .check-sent .result)
+    (same-check (entriesFrom (s .b .now) 0 (s .n)) (s .most) _ _ _ (at-taken .taken .ensures .0) (at-check .check-sent .ensures))
     (at-told .enum-told .given .1)
     (at-close .close .ensures ∙ ap (λ d. closeBytes (low d) (s .c .0) ++ high d) (at-enter .enter-all .ensures))
     (at-taken .taken .ensures .0)

@@ -1,24 +1,12 @@
--- `updating::update::update` meets its contract: code 1, then the other checks and the work. Assumes nothing.
-use mathlib.Core.Path.{_∙_, sym}
+-- `updating::update::update` meets its contract: of 4,096 at most, a table is as alone. Assumes nothing.
+use mathlib.Core.Path.{_∙_}
 use borrow.Author.Needs.{needs}
-use Rattle.table.proofs.Buffer.{is-table, no-table}
-use Rattle.updating.proofs.Calls.{no-update}
+use Rattle.table.proofs.Shared.{update-alone}
 use Rattle.updating.proofs.update.update.Statement.{statement}
 use Rattle.updating.proofs.update.update.Tie as tie
 
 returns : tie.Need-returns
-returns c = no-update _ (no-table _ (sym (c .before .before .check-table .ensures) ∙ c .enum-told2 .given .1)) _ _ _ _ _
-
-update-sound-requires : tie.Need-update-sound-requires
-update-sound-requires c κs = is-table _ (sym (c .before .before .before .check-table .ensures) ∙ c .before .enum-told .given .1)
+returns c = c .before .before .update-within .ensures ∙ update-alone _ _ _ _ _ _
 
 pub update-spec : {M : Type 1} → statement M
-update-spec = tie.close (tie.spec
-    (λ c κs. search needs)
-    (λ c. search needs)
-    (λ c. search needs)
-    (λ c. search needs)
-    returns
-    update-sound-requires
-    (λ c. search needs)
-    (λ c. search needs))
+update-spec = tie.close (tie.spec (λ c κs. search needs) (λ c. search needs) returns)

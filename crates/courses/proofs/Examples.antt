@@ -1,8 +1,0 @@
--- The worked examples, by computation.
-use mathlib.Core.Path.{refl}
-use Rattle.courses.specs.Log.{larger, logged, passes}
-use Rattle.courses.specs.Examples.{ExamplesHold}
-
-pub examples-hold : ExamplesHold
-unfolding larger logged passes
-examples-hold = refl

@@ -1,0 +1,14 @@
+-- `exports::courses::silttongs_course_fill` meets its contract: it returns the answer of the call on four tables. Assumes nothing.
+use mathlib.Core.Path.{_∙_, ap}
+use borrow.Author.Needs.{needs}
+use Rattle.exports.specs.Four.{packedReply}
+use Rattle.exports.proofs.courses.silttongs_course_fill.Statement.{statement}
+use Rattle.exports.proofs.courses.silttongs_course_fill.Tie as tie
+
+returns : tie.Need-returns
+returns c =
+    let at-looks = c .before in
+    c .pack-reply .ensures ∙ ap packedReply (at-looks .looks .ensures)
+
+pub silttongs-course-fill-spec : {M : Type 1} → statement M
+silttongs-course-fill-spec = tie.close (tie.spec (λ c. search needs) (λ c κs. search needs) (λ c κs. search needs) returns)
