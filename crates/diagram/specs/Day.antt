@@ -8,6 +8,7 @@ use lib.Dec.{eqb}
 use Rattle.lists.specs.Sums.{anyBelow, lastBelow, sumBelow}
 use Rattle.lists.specs.Names.{Name}
 use Rattle.diagram.specs.Diagram.{root, Diagram}
+use Rattle.diagram.specs.Effects.{view}
 use Rattle.diagram.specs.Numbering.{Numbering, freshNumbering, next}
 use Rattle.diagram.specs.Names.{isName}
 
@@ -98,6 +99,10 @@ IsBusy y r = (c : ℕ) × (t : ℕ) × (y .openBy c ≡ some t) × (y .transacti
 
 abbrev pub IsIdle : Day → ℕ → Type 0
 IsIdle y r = IsBusy y r → ⊥
+
+-- what a revision lists: 01, "the updates visible at the line end"
+abbrev pub shownAt : Day → ℕ → List ℕ
+shownAt y r = view (y .diagram) (y .terminal r)
 
 -- how many are out
 abbrev pub outCount : Day → ℕ

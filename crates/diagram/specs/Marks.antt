@@ -8,7 +8,7 @@ use mathlib.Core.List.{List, [], _∷_, _++_}
 use Rattle.lists.specs.Names.{Name, FourLetters}
 use Rattle.diagram.specs.Effects.{own, view}
 use Rattle.diagram.specs.Construction.{Joinable}
-use Rattle.diagram.specs.Day.{Day, IsOut, IsIdle, isNamed, markNamed}
+use Rattle.diagram.specs.Day.{Day, IsOut, IsIdle, isNamed, markNamed, shownAt}
 use Rattle.diagram.specs.Checks.{marked}
 use Rattle.diagram.specs.Steps.{Step, Fork, Drop, run}
 use Rattle.diagram.specs.Lawful.{MayFollow}
@@ -17,10 +17,6 @@ use Rattle.diagram.specs.Arbitration.{Sees}
 -- name n means revision r
 abbrev pub NameMeans : Day → Name → ℕ → Type 0
 NameMeans y n r = (isNamed y n ≡ true) × (markNamed y n ≡ r)
-
--- what a revision lists: 01, "the updates visible at the line end"
-abbrev pub listed : Day → ℕ → List ℕ
-listed y r = view (y .diagram) (y .terminal r)
 
 -- revision r was started as a mark, whether it was dropped since or not
 pub record StartedAsMark (ss : List Step) (r : ℕ) : Type 0 where
@@ -48,9 +44,9 @@ pub record ByMarks (ss : List Step) : Type 0 where
   pub idle : (r : ℕ) → marked (run ss) r ≡ true → IsIdle (run ss) r
   -- "not written, queried or joined": it lists what its start vertex shows, and lists the same as long as it is out
   pub unwritten : (r : ℕ) → marked (run ss) r ≡ true → own (run ss .diagram) (run ss .terminal r) ≡ []
-  pub still : (r : ℕ) → marked (run ss) r ≡ true → listed (run ss) r ≡ view (run ss .diagram) (run ss .startOf r)
+  pub still : (r : ℕ) → marked (run ss) r ≡ true → shownAt (run ss) r ≡ view (run ss .diagram) (run ss .startOf r)
   pub still-later : (before rest : List Step) (r : ℕ) → ss ≡ before ++ rest → marked (run before) r ≡ true → marked (run ss) r ≡ true
-      → listed (run ss) r ≡ listed (run before) r
+      → shownAt (run ss) r ≡ shownAt (run before) r
   -- "Coming back means forking it": what comes of a mark stays apart. A revision's terminal sees the mark's start vertex exactly if the revision is from it
   pub by-starts : (r x : ℕ) → StartedAsMark ss r → x < run ss .revisions
       → Sees (run ss) (run ss .terminal x) (run ss .startOf r) ↔ FromMark (run ss) r x

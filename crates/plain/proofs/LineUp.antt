@@ -24,7 +24,7 @@ use Rattle.diagram.proofs.Order.Theorem.{Arbitration, arbitration}
 use Rattle.diagram.proofs.Order.Witness.{witness}
 use Rattle.diagram.specs.Arbitration.{Explains, Extends, Shows, WholeAt}
 use Rattle.diagram.specs.Checks.{busy}
-use Rattle.diagram.specs.Day.{Day, IsOut, meant}
+use Rattle.diagram.specs.Day.{Day, IsOut, meant, shownAt}
 use Rattle.diagram.specs.Effects.{entry, number, view}
 use Rattle.diagram.specs.Steps.{Event, Step, after, run}
 use Rattle.diagram.specs.Accepted.{Accepted}
@@ -42,7 +42,7 @@ use Rattle.plain.proofs.Syncs.{never-ten, on-single-main, sync-is}
 use Rattle.plain.proofs.Marks.{on-marks}
 use Rattle.plain.proofs.Steps.{after-steps, all-accepted, day-both, did, marks-after, marks-next, named, ran, same-day, taken-steps}
 use Rattle.plain.specs.Taken.{Taken, endOf, stepsAfter, stepsFrom, stepsOf}
-use Rattle.plain.specs.Answers.{called, dayAfter, dayFrom, ending, sent, shownAt, stepped}
+use Rattle.plain.specs.Answers.{called, dayAfter, dayFrom, ending, sent, stepped}
 use Rattle.plain.specs.Bundles.{AllTaken, Bundled, parts}
 use Rattle.plain.specs.LineUp.{AnsweredBy, GrowsEach, LineUp, ListedBy}
 use Rattle.entries.specs.declared.entry.Entry.{Entry}

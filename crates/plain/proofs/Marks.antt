@@ -12,7 +12,7 @@ use Rattle.lists.proofs.Changed.{changed-other, changed-same}
 use Rattle.desk.specs.Calls.{Call, Fork, Join, Sync, Mark, Drop}
 use Rattle.desk.proofs.Checks as Rows
 use Rattle.desk.proofs.Checks.{_also_}
-use Rattle.diagram.specs.Day.{Day, IsOut, Means, isGiven, isNamed, markNamed, meant, numberOf}
+use Rattle.diagram.specs.Day.{Day, IsOut, Means, isGiven, isNamed, markNamed, meant, numberOf, shownAt}
 use Rattle.diagram.specs.Checks.{marked, notJoinable}
 use Rattle.diagram.specs.Steps as Steps
 use Rattle.diagram.specs.Steps.{after, run}
@@ -26,7 +26,7 @@ use Rattle.diagram.proofs.Order.Constructed.{joinable-iff}
 use Rattle.diagram.proofs.Order.Marked.{by-marks}
 use Rattle.diagram.proofs.Order.Reuse.{by-numbers}
 use Rattle.plain.specs.Record.{PlainDay, freshDay}
-use Rattle.plain.specs.Answers.{called, dayAfter, dayFrom, ending, shownAt}
+use Rattle.plain.specs.Answers.{called, dayAfter, dayFrom, ending}
 use Rattle.plain.specs.Taken.{Taken, endOf, stepsAfter, stepsFrom}
 use Rattle.plain.specs.Marks.{CameOf, DropTaken, MarkTaken, OnMarks}
 use Rattle.plain.proofs.Ends.{BoxesPass, Passes, boxes-pass, fork-accepts, join-passes, mark-accepts, was-taken}

@@ -9,12 +9,12 @@ use Rattle.orderfile.specs.File.{numbersIn, fileOf}
 use Rattle.orderfile.specs.Fits.{Fits}
 use Rattle.orderfile.proofs.Exactly.{else-none, fits-exactly, yes-exactly}
 use Rattle.orderfile.proofs.Numbers.{written-good, written-back}
-use Rattle.diagram.specs.Day.{Day, IsOut}
+use Rattle.diagram.specs.Day.{Day, IsOut, shownAt}
 use Rattle.diagram.specs.Arbitration.{Explains}
 use Rattle.desk.specs.Calls.{Call, Looks, Verify, plainly}
 use Rattle.desk.proofs.Checks as Rows
 use Rattle.desk.proofs.Checks.{_also_}
-use Rattle.plain.specs.Answers.{called, dayAfter, fitsDay, shownAt}
+use Rattle.plain.specs.Answers.{called, dayAfter, fitsDay}
 use Rattle.plain.specs.Taken.{endOf}
 use Rattle.plain.specs.Orders.{GetsYes, Verified, updatesIn}
 use Rattle.plain.proofs.Ends.{was-taken}

@@ -10,12 +10,11 @@ use lib.ListN.{length}
 use Rattle.bundles.specs.declared.entry.Entry.{Entry}
 use Rattle.orderfile.specs.File.{count, offset}
 use Rattle.boards.specs.Board.{boardBytes}
-use Rattle.diagram.specs.Day.{Day, IsOut, IsIdle, isGiven, meant}
+use Rattle.diagram.specs.Day.{Day, IsOut, IsIdle, isGiven, meant, shownAt}
 use Rattle.diagram.specs.Steps as Steps
 use Rattle.diagram.specs.Steps.{Event}
 use Rattle.diagram.specs.Lawful.{MayFollow, EachMayFollow}
 use Rattle.desk.specs.Calls.{Call, Update, Query, Yield, Fork, Join, Sync, Mark, Drop, Bundle, Looks, Show, Fill, Preview, Verify, Bill, Batch, Records, Entries, entriesOf}
-use Rattle.plain.specs.Answers.{shownAt}
 use Rattle.plain.specs.Taken.{endOf, stepsAfter, bundleSteps}
 
 -- 3: number n was given out, and something holds of the revision that it means

@@ -15,8 +15,8 @@ use Rattle.boards.specs.Board.{boardBytes}
 use Rattle.bills.specs.Bill.{bill}
 use Rattle.desk.specs.Calls.{Call, Update, Query, Yield, Fork, Join, Sync, Mark, Drop, Bundle, Looks, Look, Show, Fill, Preview, Verify, Bill, Answer, plainly, reading, level, entriesOf}
 use Rattle.desk.specs.Checks.{Tests, checks, settle}
-use Rattle.diagram.specs.Effects.{own, view}
-use Rattle.diagram.specs.Day.{Day, isGiven, isNamed, markNamed, meant, nextNumber}
+use Rattle.diagram.specs.Effects.{own}
+use Rattle.diagram.specs.Day.{Day, isGiven, isNamed, markNamed, meant, nextNumber, shownAt}
 use Rattle.diagram.specs.Checks.{unknownClient, marked, openElsewhere, busyByOther, busy, stale, logFull, noneLeft, notJoinable, badName}
 use Rattle.diagram.specs.Steps as Steps
 use Rattle.diagram.specs.Steps.{after}
@@ -27,10 +27,7 @@ pub record Outcome : Type 0 where
   pub next : PlainDay
   pub answer : Answer (List Line)
 
--- a revision's line end: what it sees, and what it took itself or by joins
-abbrev pub shownAt : Day → ℕ → List ℕ
-shownAt y r = view (y .diagram) (y .terminal r)
-
+-- what a revision took itself or by joins
 abbrev pub ownAt : Day → ℕ → List ℕ
 ownAt y r = own (y .diagram) (y .terminal r)
 

@@ -5,11 +5,11 @@ use mathlib.Core.Path.{_≡_}
 use mathlib.Core.Option.{some}
 use mathlib.Core.List.{List, [], _∷_, _++_}
 use Rattle.lists.specs.Names.{Name}
-use Rattle.diagram.specs.Day.{Day, Means, meant, numberOf}
+use Rattle.diagram.specs.Day.{Day, Means, meant, numberOf, shownAt}
 use Rattle.diagram.specs.Reuse.{Takes}
 use Rattle.diagram.specs.Marks.{ByMarks, FromMark, StartedAsMark}
 use Rattle.desk.specs.Calls.{Call, Fork, Join, Sync, Mark, Drop}
-use Rattle.plain.specs.Answers.{Outcome, called, dayAfter, shownAt}
+use Rattle.plain.specs.Answers.{Outcome, called, dayAfter}
 use Rattle.plain.specs.Taken.{Taken, endOf, stepsAfter}
 use Rattle.plain.specs.Values.{Forked}
 

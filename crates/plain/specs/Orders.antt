@@ -8,11 +8,11 @@ use Rattle.lists.specs.Lists.{flat}
 use Rattle.orderfile.specs.File.{numbersIn, fileOf}
 use Rattle.orderfile.specs.Fits.{Fits}
 use Rattle.diagram.specs.Effects.{numbers}
-use Rattle.diagram.specs.Day.{Day, IsOut}
+use Rattle.diagram.specs.Day.{Day, IsOut, shownAt}
 use Rattle.diagram.specs.Arbitration.{eventsOf}
 use Rattle.desk.specs.Calls.{Call, Answer, Looks, Verify, plainly}
 use Rattle.plain.specs.Record.{Line}
-use Rattle.plain.specs.Answers.{called, dayAfter, shownAt}
+use Rattle.plain.specs.Answers.{called, dayAfter}
 use Rattle.plain.specs.Taken.{endOf}
 
 -- "Say yes, value 1, and else value 0, exactly if it has every update taken today exactly once, no other number, and every box out has its listed

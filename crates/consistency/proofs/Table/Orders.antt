@@ -13,14 +13,14 @@ use Rattle.orderfile.proofs.Exactly.{fits-exactly}
 use Rattle.cells.specs.Sizes.{revisions}
 use Rattle.cells.specs.Order.{order}
 use Rattle.cells.specs.Checks.{givenOut}
-use Rattle.diagram.specs.Day.{Day, IsOut, Means, isGiven, meant, numberOf}
+use Rattle.diagram.specs.Day.{Day, IsOut, Means, isGiven, meant, numberOf, shownAt}
 use Rattle.diagram.proofs.Days.Naming.{meant-low}
 use Rattle.diagram.proofs.Order.Reuse.{by-numbers}
 use Rattle.desk.specs.Calls.{Looks, Verify}
 use Rattle.desk.proofs.Checks.{same-end}
 use Rattle.plain.specs.Record.{PlainDay}
 use Rattle.plain.specs.Answers as Plain
-use Rattle.plain.specs.Answers.{called, fitsDay, shownAt}
+use Rattle.plain.specs.Answers.{called, fitsDay}
 use Rattle.plain.proofs.Ends.{means}
 use Rattle.plain.proofs.Orders.{fits-day}
 use Rattle.table.specs.Halves.{cellsOf}

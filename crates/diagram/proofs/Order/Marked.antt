@@ -13,12 +13,12 @@ use Rattle.lists.proofs.Names.{four-letters}
 use Rattle.diagram.specs.Checks.{marked}
 use Rattle.diagram.specs.Construction.{Joinable}
 use Rattle.diagram.specs.Effects.{forkVertex, own, view}
-use Rattle.diagram.specs.Day.{Day, markNamed}
+use Rattle.diagram.specs.Day.{Day, markNamed, shownAt}
 use Rattle.diagram.specs.Diagram.{HasPath, leads}
 use Rattle.diagram.specs.Arbitration.{Sees}
 use Rattle.diagram.specs.Steps.{Drop, Step, run, runFrom}
 use Rattle.diagram.specs.Accepted.{Accepted}
-use Rattle.diagram.specs.Marks.{ByMarks, FromMark, StartedAsMark, listed}
+use Rattle.diagram.specs.Marks.{ByMarks, FromMark, StartedAsMark}
 use Rattle.diagram.proofs.Graph.Paths.{leads-path, path-leads, path-trans}
 use Rattle.diagram.proofs.Days.Dropping.{none-open, unwritten}
 use Rattle.diagram.proofs.Days.Marking.{Marks, drop-accepts, name-means}
@@ -47,7 +47,7 @@ module _ (ss : List Step) (A : Accepted ss) where
   nothing-own : (r : ℕ) → marked y r ≡ true → own (y .diagram) (y .terminal r) ≡ []
   nothing-own r e = unwritten y (F .layout) (F .hold) (F .sound) r e (M .out r e)
 
-  still : (r : ℕ) → marked y r ≡ true → listed y r ≡ view (y .diagram) (y .startOf r)
+  still : (r : ℕ) → marked y r ≡ true → shownAt y r ≡ view (y .diagram) (y .startOf r)
   still r e = own-updates ss A r (M .out r e) .listed ∙ ap (λ t. view (y .diagram) (y .startOf r) ++ t) (nothing-own r e) ∙ append-nil _
 
   -- of revision b, which is not the main one, the fork vertex is the day's
@@ -81,7 +81,7 @@ module _ (ss : List Step) (A : Accepted ss) where
     never-main b l p n J = false≢true (sym (I .not-main) ∙ test _ (among 0 b (omega (arith, I .there)) l p n J))
 
 still-later : (ss : List Step) → Accepted ss → (before rest : List Step) (r : ℕ) → ss ≡ before ++ rest
-    → marked (run before) r ≡ true → marked (run ss) r ≡ true → listed (run ss) r ≡ listed (run before) r
+    → marked (run before) r ≡ true → marked (run ss) r ≡ true → shownAt (run ss) r ≡ shownAt (run before) r
 still-later ss A before rest r q m n =
     let B = subst Accepted q A in
     let first = accepted-first before rest B in
