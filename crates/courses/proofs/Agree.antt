@@ -1,6 +1,7 @@
--- Two days that begin by making all four fresh, and agree in a course's calls and in which of them got 20, agree in all that it had.
+-- Two days that begin by making all four fresh, and agree in a course's calls and in which of them got 20, agree in its answers; if they agree in the lent bytes
+-- too, in all that it had.
 use Prim.Native.Nat.{ℕ, _<_}
-use mathlib.Core.Bool.{Bool, true, cond, false≢true}
+use mathlib.Core.Bool.{Bool, true, false, cond, false≢true}
 use mathlib.Core.Option.{Option}
 use mathlib.Core.Path.{_≡_, refl, sym, _∙_, ap, subst}
 use mathlib.Core.List.{List, [], _∷_, _++_}
@@ -11,25 +12,28 @@ use borrow.Author.Tests.{eqb-true, ne-eqb}
 use Rattle.lists.proofs.Cases.{cases}
 use Rattle.boards.specs.Board.{boardBytes}
 use Rattle.diagram.specs.Names.{isSome}
-use Rattle.plain.specs.Record.{PlainDay}
+use Rattle.desk.specs.Calls.{Answer, answerOn}
+use Rattle.plain.specs.Record.{PlainDay, freshDay}
 use Rattle.table.specs.Out.{Out, tableBytes}
 use Rattle.table.specs.Calls.{freshBoard}
 use Rattle.table.specs.Served.{Served, outReply}
+use Rattle.consistency.specs.Table.{sheetWith}
+use Rattle.consistency.proofs.Table.Stands.{Stands}
 use Rattle.card.specs.Log.{courses}
 use Rattle.card.specs.Courses.{Ask, CourseCall, Fresh, Plain, Tables, gets, madeFresh, turnedAway, written}
 use Rattle.courses.specs.Heard.{Heard, alone, heard, tablesAfter}
-use Rattle.courses.specs.Days.{toldAlone, toldOf}
-use Rattle.courses.specs.Claims.{Alone, Asked, Begins, DaysAgree, EachMakes, asks, isMade, wasMade}
+use Rattle.courses.specs.Days.{Entered, Got, Nothing, Told, answersTo, enteredAll, onPaper, repliesOf, repliesTo, sheetAsked, toldAlone, toldCalled, toldOf}
+use Rattle.courses.specs.Claims.{Alone, Asked, Begins, DaysAgree, DaysSame, EachMakes, asks, isMade, wasMade}
 use Rattle.courses.proofs.Told.{courses-alone}
 use Rattle.courses.proofs.Made.{Known, fresh-right, fresh-taken, from-any, known-days, onward}
 use Rattle.courses.proofs.Assured.{never-one}
-use Rattle.courses.proofs.Days.{made-first}
+use Rattle.courses.proofs.Days.{made-first, made-same, replies-are}
 
 -- a table alone, where it is known which calls got 20
-abbrev soloServed : List ℕ → Asked → Served
+abbrev soloServed : List ℕ → Asked (List ℕ) → Served
 soloServed t a = cond (a .twenty) (turnedAway 20 t (a .ask)) (alone t (a .ask))
 
-unfoldable solo : List ℕ → List Asked → List Heard
+unfoldable solo : List ℕ → List (Asked (List ℕ)) → List Heard
 solo t [] = []
 solo t (a ∷ more) = record { ask = a .ask; got = soloServed t a } ∷ solo (soloServed t a .table) more
 
@@ -43,12 +47,12 @@ solo-is t a g n e =
     (λ q. rw q (subst (λ k. g ≡ toldAlone t a (toldOf k)) (eqb-true (g .reply .code) 20 q) e))
     (λ q. rw q (rw (ne-eqb (g .reply .code) 1 n, q) at e))
 
-solo-from : (hs : List Heard) (t : List ℕ) → Alone t hs → NoOne hs → hs ≡ solo t (asks hs)
+solo-from : (hs : List Heard) (t : List ℕ) → Alone t hs → NoOne hs → hs ≡ solo t (asks (λ x. x) hs)
 unfolding Alone NoOne solo
 solo-from [] t A N = refl
 solo-from (h ∷ hs) t A N =
     let g = solo-is t (h .ask) (h .got) (N .0) (A .0) in
-    let rest = solo-from hs (h .got .table) (A .1) (N .1) ∙ ap (λ (u : Served). solo (u .table) (asks hs)) g in
+    let rest = solo-from hs (h .got .table) (A .1) (N .1) ∙ ap (λ (u : Served). solo (u .table) (asks (λ x. x) hs)) g in
     λ i. record { ask = h .ask; got = g i } ∷ rest i
 
 -- no call of a course that was made fresh has 1
@@ -120,7 +124,7 @@ made-alike t u single board l k b =
 
 record Found (t : List ℕ) (hs : List Heard) : Type 0 where
   size : length t ≡ tableBytes
-  alike : (u : List ℕ) → length u ≡ tableBytes → solo t (asks hs) ≡ solo u (asks hs)
+  alike : (u : List ℕ) → length u ≡ tableBytes → solo t (asks (λ x. x) hs) ≡ solo u (asks (λ x. x) hs)
 
 found : (t : List ℕ) (hs : List Heard) → Alone t hs → Starts hs → Found t hs
 unfolding Alone solo
@@ -130,10 +134,13 @@ found t hs A H = subst (Found t) (sym (H .is)) (by (subst (Alone t) (H .is) A))
     by B =
         let m = made-first t (H .first) (H .single) (H .board) (H .asked) (H .code) (B .0) in
         let f = fresh-taken t (H .single) (length (H .board)) (sym (ap (λ (u : Served). u .reply .code) m) ∙ H .code) in
-        record { size = f .0; alike = λ u k. rw (H .asked, H .code) (ap (λ (g : Served). record { ask = Fresh (H .single) (H .board); got = g } ∷ solo (g .table) (asks (H .later))) (made-alike t u (H .single) (H .board) (f .0) k (f .1))) }
+        record { size = f .0; alike = λ u k. rw (H .asked, H .code) (ap (λ (g : Served). record { ask = Fresh (H .single) (H .board); got = g } ∷ solo (g .table) (asks (λ x. x) (H .later))) (made-alike t u (H .single) (H .board) (f .0) k (f .1))) }
 
-pub days-agree : DaysAgree
-days-agree i l ts us cs ds B C e =
+begun : (i : ℕ) → i < courses → (ts : Tables) (cs : List CourseCall) → (B : Begins ts cs) → Starts (heard i ts cs)
+begun i l ts cs B = subst (λ xs. Starts (heard i ts xs)) (sym (B .is)) (starts i (B .opening) (B .rest) ts (B .each) (B .all i l))
+
+pub days-same : DaysSame
+days-same i l ts us cs ds B C e =
     let hs = heard i ts cs in
     let ks = heard i us ds in
     let F = found (ts i) hs (courses-alone i ts cs) (begun i l ts cs B) in
@@ -141,6 +148,56 @@ days-agree i l ts us cs ds B C e =
     solo-from hs (ts i) (courses-alone i ts cs) (no-one i l ts cs B)
     ∙ F .alike (us i) (G .size) ∙ ap (solo (us i)) e
     ∙ sym (solo-from ks (us i) (courses-alone i us ds) (no-one i l us ds C))
+
+-- what the plain day is fed, where no call got 1
+abbrev entered : Asked ℕ → Entered
+entered a = record { ask = a .ask; told = cond (a .twenty) (Got 20) Nothing }
+
+enteredBy : List (Asked ℕ) → List Entered
+enteredBy [] = []
+enteredBy (a ∷ more) = entered a ∷ enteredBy more
+
+told-twenty : (k : ℕ) → (k ≡ 1 → ⊥) → toldOf k ≡ cond (eqb k 20) (Got 20) Nothing
+told-twenty k n = rw (ne-eqb k 1 n) (cases (eqb k 20) (λ q. rw q (ap Got (eqb-true k 20 q))) (λ q. rw q))
+
+entered-is : (hs : List Heard) → NoOne hs → enteredAll hs ≡ enteredBy (asks onPaper hs)
+unfolding NoOne enteredBy
+entered-is [] N = refl
+entered-is (h ∷ hs) N =
+    let first = told-twenty (h .got .reply .code) (N .0) in
+    let rest = entered-is hs (N .1) in
+    λ i. record { ask = onPaper (h .ask); told = first i } ∷ rest i
+
+-- from where the course is made fresh, its callers have the plain day's answers, whatever the day and the table were
+fresh-answers : (p : PlainDay) (t : List ℕ) (hs : List Heard) → Alone t hs → Starts hs → repliesOf hs ≡ repliesTo hs (answersTo p (enteredAll hs))
+unfolding Alone repliesTo answersTo
+fresh-answers p t hs A H = subst Answered (sym (H .is)) (by (subst (Alone t) (H .is) A))
   where
-    begun : (i : ℕ) → i < courses → (ts : Tables) (cs : List CourseCall) → (B : Begins ts cs) → Starts (heard i ts cs)
-    begun i l ts cs B = subst (λ xs. Starts (heard i ts xs)) (sym (B .is)) (starts i (B .opening) (B .rest) ts (B .each) (B .all i l))
+    Answered : List Heard → Type 0
+    Answered ks = repliesOf ks ≡ repliesTo ks (answersTo p (enteredAll ks))
+
+    expected : Ask → Told → List (Answer (List ℕ))
+    expected a told = answerOn (λ ls. sheetWith ls (sheetAsked a)) (toldCalled p (onPaper a) told .answer) ∷ repliesTo (H .later) (answersTo (toldCalled p (onPaper a) told .next) (enteredAll (H .later)))
+
+    by : Alone t (H .first ∷ H .later) → Answered (H .first ∷ H .later)
+    by B =
+        let m = made-first t (H .first) (H .single) (H .board) (H .asked) (H .code) (B .0) in
+        let f = fresh-taken t (H .single) (length (H .board)) (sym (ap (λ (u : Served). u .reply .code) m) ∙ H .code) in
+        let s = made-same p t (H .single) (H .board) (f .0) (rw (f .1)) in
+        let next = toldCalled p (Fresh (H .single) (length (H .board))) Nothing .next in
+        let first = ap (λ (u : Served). u .reply) m ∙ s .reply in
+        let rest = replies-are (H .later) next (H .first .got .table) (subst (λ (u : Served). Stands next (u .table)) (sym m) (s .stands)) (B .1) in
+        let told : toldOf (H .first .got .reply .code) ≡ Nothing = ap toldOf (H .code) in
+        (λ i. first i ∷ rest i) ∙ (λ j. expected (sym (H .asked) j) (sym told j))
+
+pub days-agree : DaysAgree
+days-agree i l ts us cs ds B C e =
+    let hs = heard i ts cs in
+    let ks = heard i us ds in
+    let p = freshDay false in
+    let same : enteredAll hs ≡ enteredAll ks = entered-is hs (no-one i l ts cs B) ∙ ap enteredBy e ∙ sym (entered-is ks (no-one i l us ds C)) in
+    record {
+      answers = answersTo p (enteredAll hs);
+      one = fresh-answers p (ts i) hs (courses-alone i ts cs) (begun i l ts cs B);
+      other = fresh-answers p (us i) ks (courses-alone i us ds) (begun i l us ds C) ∙ ap (λ es. repliesTo ks (answersTo p es)) (sym same);
+    }

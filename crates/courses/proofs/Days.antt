@@ -23,13 +23,20 @@ use Rattle.courses.specs.Claims.{Alone, CoursesExplained, FollowsPlainDa
 use Rattle.courses.proofs.Told.{courses-alone, refused-alone}
 use Rattle.courses.proofs.Made.{fresh-right, fresh-taken, fresh-wrong, made-stands}
 
--- made fresh on the day and on the table
+-- made fresh on the day and on the table, whatever these were
+pub made-same : (p : PlainDay) (t : List ℕ) (single : Bool) (board : List ℕ) → length t ≡ tableBytes → isWrongBoard (length board) ≡ false
+    → Same [] (madeFresh t single board) (toldCalled p (Fresh single (length board)) Nothing)
+unfolding toldCalled
+made-same p t single board l e =
+    let u = fresh-right t single (length board) l e in
+    rw e (record { reply = ap (λ (o : Out). outReply o []) u; stands = made-stands t single board (ap (λ (o : Out). o .code) u) })
+
 fresh-same : (p : PlainDay) (t : List ℕ) → Stands p t → (single : Bool) (board : List ℕ) → Same [] (madeFresh t single board) (toldCalled p (Fresh single (length board)) Nothing)
 unfolding toldCalled
 fresh-same p t S single board =
     cases (isWrongBoard (length board))
     (λ e. let u = fresh-wrong t single (length board) (S .size) e in rw e (record { reply = ap (λ (o : Out). outReply o []) u; stands = subst (λ (o : Out). Stands p (o .lent)) (sym u) S }))
-    (λ e. let u = fresh-right t single (length board) (S .size) e in rw e (record { reply = ap (λ (o : Out). outReply o []) u; stands = made-stands t single board (ap (λ (o : Out). o .code) u) }))
+    (made-same p t single board (S .size))
 
 pub told-same : (p : PlainDay) (t : List ℕ) → Stands p t → (a : Ask) (told : Told) → Same (sheetAsked a) (toldAlone t a told) (toldCalled p (onPaper a) told)
 unfolding toldCalled
@@ -38,7 +45,7 @@ told-same p t S (Plain q) (Got code) = record { reply = refl; stands = S }
 told-same p t S (Fresh single board) Nothing = fresh-same p t S single board
 told-same p t S (Plain q) Nothing = call-same p t S q
 
-replies-are : (hs : List Heard) (p : PlainDay) (t : List ℕ) → Stands p t → Alone t hs → repliesOf hs ≡ repliesTo hs (answersTo p (enteredAll hs))
+pub replies-are : (hs : List Heard) (p : PlainDay) (t : List ℕ) → Stands p t → Alone t hs → repliesOf hs ≡ repliesTo hs (answersTo p (enteredAll hs))
 unfolding Alone repliesTo answersTo
 replies-are [] p t S A = refl
 replies-are (h ∷ hs) p t S A =

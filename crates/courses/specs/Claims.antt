@@ -10,9 +10,9 @@ use Rattle.lists.specs.Lists.{_∈_, changed}
 use Rattle.lists.specs.Differences.{differences}
 use Rattle.cells.specs.Words.{Bytes}
 use Rattle.boards.specs.Board.{boardBytes}
-use Rattle.desk.specs.Calls.{Call, Join, Sync, Update, callOn}
+use Rattle.desk.specs.Calls.{Answer, Call, Join, Sync, Update, callOn}
 use Rattle.desk.specs.Checks.{codesFor}
-use Rattle.plain.specs.Record.{freshDay}
+use Rattle.plain.specs.Record.{Line, freshDay}
 use Rattle.plain.specs.Fills.{enters}
 use Rattle.table.specs.Halves.{isTable}
 use Rattle.table.specs.Out.{tableBytes}
@@ -20,9 +20,9 @@ use Rattle.table.specs.Calls.{freshOut, updateOut}
 use Rattle.table.specs.Served.{Served, served}
 use Rattle.consistency.specs.Demand.{Explained}
 use Rattle.card.specs.Log.{assured, card, courses, larger, logged}
-use Rattle.card.specs.Courses.{Ask, CourseCall, Fresh, Plain, Tables, counts, courseServed, gets, noCourse, turnedAway, written}
+use Rattle.card.specs.Courses.{Ask, AskOf, CourseCall, Fresh, Plain, Tables, counts, courseServed, gets, noCourse, turnedAway, written}
 use Rattle.courses.specs.Heard.{Heard, heard, tablesAfter}
-use Rattle.courses.specs.Days.{Got, Nothing, Told, answersTo, enteredAll, repliesOf, repliesTo, toldAlone, toldTo}
+use Rattle.courses.specs.Days.{Got, Nothing, Told, answersTo, enteredAll, onPaper, repliesOf, repliesTo, toldAlone, toldTo}
 
 -- "A call writes in no other course's table."
 abbrev pub OthersStay : Type 0
@@ -151,17 +151,30 @@ pub record Begins (ts : Tables) (cs : List CourseCall) : Type 0 where
   pub each : EachMakes ts opening
   pub all : AllMade ts opening
 
--- what was asked, and whether it "got 20"
-pub record Asked : Type 0 where
-  pub ask : Ask
+-- what was asked, at a table or on paper, and whether it "got 20"
+pub record Asked (Sheet : Type 0) : Type 0 where
+  pub ask : AskOf Sheet
   pub twenty : Bool
 
-abbrev pub asks : List Heard → List Asked
-asks [] = []
-asks (h ∷ hs) = record { ask = h .ask; twenty = eqb (h .got .reply .code) 20 } ∷ asks hs
+abbrev pub asks : {S : Type 0} → (Ask → AskOf S) → List Heard → List (Asked S)
+asks on [] = []
+asks on (h ∷ hs) = record { ask = on (h .ask); twenty = eqb (h .got .reply .code) 20 } ∷ asks on hs
 
--- "two days that begin by making all four fresh and agree in one course's calls, and in which of them got 20, agree in all its answers", and in its tables and boards
+-- the same answers on paper, each as its caller gets it
+pub record SameAnswers (hs ks : List Heard) : Type 0 where
+  pub answers : List (Answer (List Line))
+  pub one : repliesOf hs ≡ repliesTo hs answers
+  pub other : repliesOf ks ≡ repliesTo ks answers
+
+-- "two days that begin by making all four fresh and agree in one course's calls, and in which of them got 20, agree in all its answers": of a sheet or a board
+-- only the length need be the same
 abbrev pub DaysAgree : Type 0
 DaysAgree =
     (i : ℕ) → i < courses → (ts us : Tables) (cs ds : List CourseCall) → Begins ts cs → Begins us ds
-    → asks (heard i ts cs) ≡ asks (heard i us ds) → heard i ts cs ≡ heard i us ds
+    → asks onPaper (heard i ts cs) ≡ asks onPaper (heard i us ds) → SameAnswers (heard i ts cs) (heard i us ds)
+
+-- and if their bytes are the same too, the days agree in all that its callers had, tables and boards included
+abbrev pub DaysSame : Type 0
+DaysSame =
+    (i : ℕ) → i < courses → (ts us : Tables) (cs ds : List CourseCall) → Begins ts cs → Begins us ds
+    → asks (λ a. a) (heard i ts cs) ≡ asks (λ a. a) (heard i us ds) → heard i ts cs ≡ heard i us ds
