@@ -3,7 +3,7 @@ use Prim.Native.Nat.{ℕ, _+_, _<_}
 use mathlib.Core.Path.{_≡_, _∙_, ap}
 use mathlib.Core.List.{List, [], _++_, append-nil}
 use native.Mathlib.Omega.{arith}
-use lib.ListN.{length, take, drop, length-drop, length-append}
+use lib.ListN.{length, take, drop, length-append}
 use lib.Seq.{drop-length}
 use Rattle.cells.specs.Sizes as Lower
 use Rattle.cells.specs.Sizes.{updates}
@@ -12,19 +12,12 @@ use Rattle.entries.specs.Entries.{wrote}
 use Rattle.entries.specs.declared.entry.Entry.{Entry}
 use Rattle.table.specs.Halves.{low, high}
 use Rattle.table.specs.Out.{tableBytes}
-use Rattle.table.proofs.Halves.{low-of, high-of, high-whole}
+use Rattle.table.proofs.Halves.{low-of, high-of, high-whole, upper-length}
 
 pub below : (u w : ℕ) → u ≡ w → w < updates → u < updates
 below u w e h = omega arith
 
 -- the lengths of the halves
-length-rest : (a k : ℕ) (t : List ℕ) → length t ≡ a + k → length (drop a t) ≡ k
-length-rest a k t h = rw length-drop (omega arith)
-
-pub length-high : (t : List ℕ) → length t ≡ tableBytes → length (high t) ≡ Upper.entryBytes
-unfolding high
-length-high t h = length-rest Lower.lowerBytes Upper.entryBytes t h
-
 length-first : (l r t : List ℕ) (a k : ℕ) → t ≡ l ++ r → length t ≡ a + k → length r ≡ k → length l ≡ a
 length-first l r t a k e h hr = let s : length t ≡ length l + length r = rw (e, length-append) in omega arith
 
@@ -35,14 +28,14 @@ end-nil k r h = rw (← h) (drop-length r)
 pub store-done : (t q : List ℕ) (n : ℕ) (e : Entry) → length t ≡ tableBytes → q ≡ wrote (take Upper.entryBytes (high t)) n e
     → low t ++ (q ++ drop Upper.entryBytes (high t)) ≡ low t ++ wrote (high t) n e
 store-done t q n e h eq =
-    ap (λ (x : List ℕ). low t ++ (q ++ x)) (end-nil Upper.entryBytes (high t) (length-high t h))
+    ap (λ (x : List ℕ). low t ++ (q ++ x)) (end-nil Upper.entryBytes (high t) (upper-length t h))
     ∙ ap (λ (x : List ℕ). low t ++ x) (append-nil q ∙ eq ∙ ap (λ (x : List ℕ). wrote x n e) (high-whole t h))
 
 -- the update appended in the low half, then its entry stored in the high half
 pub put-done : (t t1 t2 l : List ℕ) (u w : ℕ) (e : Entry) → length t ≡ tableBytes → length t1 ≡ tableBytes → u ≡ w → t1 ≡ l ++ high t
     → t2 ≡ low t1 ++ wrote (high t1) u e → t2 ≡ l ++ wrote (high t) w e
 put-done t t1 t2 l u w e h h1 eu e1 e2 =
-    let k : length l ≡ Lower.lowerBytes = length-first l (high t) t1 Lower.lowerBytes Upper.entryBytes e1 h1 (length-high t h) in
+    let k : length l ≡ Lower.lowerBytes = length-first l (high t) t1 Lower.lowerBytes Upper.entryBytes e1 h1 (upper-length t h) in
     e2 ∙ ap (λ (x : List ℕ). low x ++ wrote (high x) u e) e1
     ∙ ap (λ (x : List ℕ). x ++ wrote (high (l ++ high t)) u e) (low-of l (high t) k)
     ∙ ap (λ (x : List ℕ). l ++ wrote x u e) (high-of l (high t) k)

@@ -10,7 +10,7 @@ use borrow.Author.Tests.{eq-eqb}
 use Rattle.diagram.specs.Day.{Day, fresh}
 use Rattle.diagram.specs.Steps.{Step, Event, Yield, Fork, Join, Drop, after, run, runFrom}
 use Rattle.diagram.specs.Accepted.{Accepted, accepted}
-use Rattle.diagram.proofs.Order.Runs.{accepted-both, run-step}
+use Rattle.diagram.proofs.Order.Runs.{accepted-more, run-step}
 use Rattle.cells.specs.Sizes as Lower
 use Rattle.entries.specs.Sizes as Upper
 use Rattle.entries.specs.Entries.{entryAt}
@@ -45,10 +45,6 @@ bytes-both (a ∷ ss) s y d = bytes-both ss s (after y a) (stepBytes d (byNumber
 bytes-step : (single : Bool) (ss : List Step) (s : Step) → bytesAfter single (ss ++ (s ∷ [])) ≡ stepBytes (bytesAfter single ss) (byNumber (run ss) s)
 unfolding bytesAfter run
 bytes-step single ss s = bytes-both ss s fresh _
-
-accepted-one : (ss : List Step) (s : Step) → Accepted ss → accepted (run ss) s ≡ true → Accepted (ss ++ (s ∷ []))
-unfolding run
-accepted-one ss s A e = accepted-both ss (s ∷ []) fresh A (e, tt)
 
 -- a count that stops, step by step, is the whole count where it stops
 same-count : (a b : ℕ) → a ≡ b → counted a ≡ counted b
@@ -103,7 +99,7 @@ module _ (p : PlainDay) (t : List ℕ) (S : Stands p t) where
   }
     where
       ok′ : Accepted (S .steps ++ (s ∷ []))
-      ok′ = accepted-one (S .steps) s (S .ok) (ap (λ z. accepted z s) (sym (S .day-is)) ∙ e)
+      ok′ = accepted-more (S .steps) s (S .ok) (ap (λ z. accepted z s) (sym (S .day-is)) ∙ e)
 
       is : stepBytes (low t) (byNumber (p .day) s) ≡ bytesAfter (p .single) (S .steps ++ (s ∷ []))
       is = ap (λ z. stepBytes z (byNumber (p .day) s)) (S .low-is) ∙ ap (λ z. stepBytes (bytesAfter (p .single) (S .steps)) (byNumber z s)) (S .day-is) ∙ sym (bytes-step (p .single) (S .steps) s)
