@@ -262,7 +262,8 @@ uint64_t silttongs_bill(const uint8_t *table, size_t length, uint8_t member);
  * its course, then what the call on that table takes, the board first. None of table0 to table3 may be
  * null, whichever course is named, and all lent buffers lie apart from one another: the four tables,
  * and the board, sheet, records, name or order. No byte of the other three tables is changed. A call
- * answers and writes as the call on the course's table does, but for two codes:
+ * answers and writes as the call on the course's table does (so a join changes at most 256 places of it,
+ * a sync 512), but for two codes:
  *
  * SILTTONGS_NO_TABLE, if the number is above 3, or any of the four buffers has a wrong length or a cell
  * out of its range. silttongs_course_fresh looks at the number and at the length of its own table alone.
