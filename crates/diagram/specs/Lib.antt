@@ -3,6 +3,7 @@
 pub mod Sizes
 pub mod Diagram
 pub mod Effects
+pub mod Views
 pub mod RootPaths
 pub mod Construction
 pub mod Numbering

@@ -6,7 +6,7 @@ use mathlib.Core.Logic.{_↔_}
 use mathlib.Core.Option.{some}
 use mathlib.Core.List.{List, [], _∷_, _++_}
 use Rattle.lists.specs.Names.{Name, FourLetters}
-use Rattle.diagram.specs.Effects.{own, view}
+use Rattle.diagram.specs.Views.{own, view}
 use Rattle.diagram.specs.Construction.{Joinable}
 use Rattle.diagram.specs.Day.{Day, IsOut, IsIdle, isNamed, markNamed, shownAt}
 use Rattle.diagram.specs.Checks.{marked}

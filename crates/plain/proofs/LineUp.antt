@@ -25,7 +25,8 @@ use Rattle.diagram.proofs.Order.Witness.{witness}
 use Rattle.diagram.specs.Arbitration.{Explains, Extends, Shows, WholeAt}
 use Rattle.diagram.specs.Checks.{busy}
 use Rattle.diagram.specs.Day.{Day, IsOut, meant, shownAt}
-use Rattle.diagram.specs.Effects.{entry, number, view}
+use Rattle.diagram.specs.Effects.{entry, number}
+use Rattle.diagram.specs.Views.{view}
 use Rattle.diagram.specs.Steps.{Event, Step, after, run}
 use Rattle.diagram.specs.Accepted.{Accepted}
 use Rattle.lists.proofs.Blocks.{flat-from}

@@ -10,7 +10,7 @@ use Rattle.updates.specs.Effect.{stateOf, valueIn}
 use Rattle.desk.specs.Calls.{Call, Query, Join, Looks, Preview}
 use Rattle.diagram.specs.Diagram.{event}
 use Rattle.diagram.specs.Day.{meant, isGiven}
-use Rattle.diagram.specs.Effects.{view, viewStep}
+use Rattle.diagram.specs.Views.{view, viewStep}
 use Rattle.diagram.specs.Steps as Steps
 use Rattle.diagram.specs.Steps.{after}
 use Rattle.diagram.proofs.Graph.Tables.{tabulate-newest}

@@ -15,7 +15,7 @@ use Rattle.boards.specs.Board.{boardBytes}
 use Rattle.bills.specs.Bill.{bill}
 use Rattle.desk.specs.Calls.{Call, Update, Query, Yield, Fork, Join, Sync, Mark, Drop, Bundle, Looks, Look, Show, Fill, Preview, Verify, Bill, Answer, plainly, reading, level, entriesOf}
 use Rattle.desk.specs.Checks.{Tests, checks, settle}
-use Rattle.diagram.specs.Effects.{own}
+use Rattle.diagram.specs.Views.{own}
 use Rattle.diagram.specs.Day.{Day, isGiven, isNamed, markNamed, meant, nextNumber, shownAt}
 use Rattle.diagram.specs.Checks.{unknownClient, marked, openElsewhere, busyByOther, busy, stale, logFull, noneLeft, notJoinable, badName}
 use Rattle.diagram.specs.Steps as Steps

@@ -8,7 +8,7 @@ use Rattle.updates.specs.declared.kind.Kind.the-variants.{Time}
 use Rattle.updates.specs.declared.standing.Standing.{Standing}
 use Rattle.updates.specs.Applied.{applied, freshStanding, ofBib}
 use Rattle.entries.specs.declared.entry.Entry.{Entry}
-use Rattle.diagram.specs.Effects.{view}
+use Rattle.diagram.specs.Views.{view}
 use Rattle.diagram.specs.Day as Day
 use Rattle.diagram.specs.Day.{Day}
 use Rattle.diagram.specs.Steps.{Event, after}

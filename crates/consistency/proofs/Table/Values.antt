@@ -7,7 +7,7 @@ use lib.ListN.{length, drop}
 use Rattle.lists.specs.Lists.{_∈_}
 use Rattle.updates.specs.Applied.{applied, freshStanding}
 use Rattle.diagram.specs.Day.{Day, meant, isGiven}
-use Rattle.diagram.specs.Effects.{view}
+use Rattle.diagram.specs.Views.{view}
 use Rattle.diagram.specs.Steps.{Event, Step, run}
 use Rattle.diagram.specs.Accepted.{Accepted}
 use Rattle.diagram.proofs.Order.Runs.{fine-run}

@@ -12,7 +12,8 @@ use Rattle.lists.proofs.Cases.{cases}
 use Rattle.lists.proofs.Names.{four-letters}
 use Rattle.diagram.specs.Checks.{marked}
 use Rattle.diagram.specs.Construction.{Joinable}
-use Rattle.diagram.specs.Effects.{forkVertex, own, view}
+use Rattle.diagram.specs.Effects.{forkVertex}
+use Rattle.diagram.specs.Views.{own, view}
 use Rattle.diagram.specs.Day.{Day, markNamed, shownAt}
 use Rattle.diagram.specs.Diagram.{HasPath, leads}
 use Rattle.diagram.specs.Arbitration.{Sees}
