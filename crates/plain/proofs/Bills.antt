@@ -13,7 +13,7 @@ use Rattle.plain.specs.Record.{PlainDay, freshDay}
 use Rattle.plain.specs.Answers.{answers, answersFrom, called, dayAfter, dayFrom, startsBox}
 use Rattle.plain.specs.Taken.{bundleSteps, stepOf, stepsFrom}
 use Rattle.plain.specs.Fills.{codesOf}
-use Rattle.plain.specs.Bills.{Billed, billAfter, billIn, startedIn, starts}
+use Rattle.plain.specs.Bills.{billAfter, billIn, startedIn, starts}
 use Rattle.plain.proofs.Steps.{RanTo, day-both, marks-after, ran, sumOver}
 use Rattle.plain.proofs.Fills.{counted, tallied}
 
@@ -51,12 +51,9 @@ module _ (single : Bool) where
   unfolding dayAfter
   ran-on before rest = subst (λ q. RanTo (dayAfter single before) q (stepsFrom (dayAfter single before) rest)) (sym (day-both before rest (freshDay single))) (ran rest (dayAfter single before) (marks-after single before))
 
-  pub grows : (before rest : List (Call ℕ)) (member : Bool) → billAfter single before member .value ≤ billAfter single (before ++ rest) member .value
+  further : (before rest : List (Call ℕ)) (member : Bool) → billAfter single before member .value ≤ billAfter single (before ++ rest) member .value
   unfolding called
-  grows before rest member = let R = ran-on before rest in bill-grows _ _ _ _ member (let b = R .boxes in omega arith) (R .more)
+  further before rest member = let R = ran-on before rest in bill-grows _ _ _ _ member (let b = R .boxes in omega arith) (R .more)
 
-  pub billed : (cs : List (Call ℕ)) → Billed single cs
-  billed cs = record {
-    told = λ before rest place. told before;
-    grows = λ before rest place member. subst (λ cs. billAfter single before member .value ≤ billAfter single cs member .value) (sym place) (grows before rest member);
-  }
+  pub bills-grow : (cs before rest : List (Call ℕ)) → cs ≡ before ++ rest → (member : Bool) → billAfter single before member .value ≤ billAfter single cs member .value
+  bills-grow cs before rest place member = subst (λ cs. billAfter single before member .value ≤ billAfter single cs member .value) (sym place) (further before rest member)

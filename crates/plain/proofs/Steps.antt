@@ -219,6 +219,11 @@ unfolding dayFrom
 day-both [] b p = refl
 day-both (c ∷ a) b p = day-both a b (called p c .next)
 
+-- the day after one call more
+pub next-is : (single : Bool) (before : List (Call ℕ)) (c : Call ℕ) → dayAfter single (before ++ (c ∷ [])) ≡ called (dayAfter single before) c .next
+unfolding dayAfter dayFrom
+next-is single before c = day-both before (c ∷ []) (freshDay single)
+
 pub steps-both : (a b : List (Call ℕ)) (p : PlainDay) → stepsFrom p (a ++ b) ≡ stepsFrom p a ++ stepsFrom (dayFrom p a) b
 unfolding stepsFrom dayFrom
 steps-both [] b p = refl
@@ -228,6 +233,10 @@ steps-both (c ∷ a) b p = ap (λ ss. stepsOf p c ++ ss) (steps-both a b (called
 module _ (single : Bool) (cs before : List (Call ℕ)) (c : Call ℕ) (rest : List (Call ℕ)) (T : Taken single cs before c rest) where
   abbrev p : PlainDay
   p = dayAfter single before
+
+  pub day-is : dayAfter single cs ≡ dayFrom p (c ∷ rest)
+  unfolding dayAfter
+  day-is = ap (dayFrom (freshDay single)) (T .place) ∙ day-both before (c ∷ rest) (freshDay single)
 
   pub after-steps : stepsAfter single cs ≡ stepsAfter single before ++ (stepsOf p c ++ stepsFrom (called p c .next) rest)
   unfolding stepsFrom dayAfter

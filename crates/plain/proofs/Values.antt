@@ -22,14 +22,13 @@ use Rattle.diagram.specs.Steps as Steps
 use Rattle.diagram.specs.Steps.{after}
 use Rattle.diagram.specs.Accepted.{accepted}
 use Rattle.diagram.specs.Reuse.{Takes}
-use Rattle.diagram.specs.Arbitration.{Numbered}
 use Rattle.diagram.specs.Counts.{OwnUpdates, SeenSince}
 use Rattle.diagram.proofs.Days.Moves.{CanFork, can-fork, can-join}
 use Rattle.diagram.proofs.Days.Found.{found-means}
 use Rattle.diagram.proofs.Days.Naming.{Named, meant-low, meant-new, meant-number, meant-old, next-apart}
 use Rattle.diagram.proofs.Order.Growth.{Fine, busy-idle}
 use Rattle.diagram.proofs.Order.Reuse.{takes}
-use Rattle.diagram.proofs.Order.Runs.{fine-run, numbered-run}
+use Rattle.diagram.proofs.Order.Runs.{fine-run}
 use Rattle.diagram.proofs.Order.Since.{fork-shows, join-gains, own-updates}
 use Rattle.plain.specs.Record.{PlainDay}
 use Rattle.plain.specs.Answers.{Outcome, asked, called, dayAfter, ending, forked, ownAt, refused}
@@ -121,7 +120,7 @@ module _ (single : Bool) (before : List (Call ℕ)) where
   join-value n m room e =
       let w = was-taken p (Join n m room) e in
       let a = join-passes p n m (boxes-pass p n m room (w .0)) .accepts in
-      subst (Gained y (meant y n) (meant y m)) (sym (w .1)) (record { updates = _; gained = gains (meant y n) (meant y m) a; brought = owns (meant y m) (can-join y (meant y n) (meant y m) a .out-b); value = refl })
+      subst (Gained y (meant y n) (meant y m)) (sym (w .1)) (record { updates = _; gained = gains (meant y n) (meant y m) a; brought = owns (meant y m) (can-join y (meant y n) (meant y m) a .out-b); is = refl })
 
   fill-out : (n : ℕ) → Passes p (Looks (Fill n)) → IsOut y (meant y n)
   fill-out n (e1 also e3 also e4 also Rows.none) = (meant-low y n (meant y n) (means p n e3), e4)
@@ -129,5 +128,4 @@ module _ (single : Bool) (before : List (Call ℕ)) where
   pub fill-value : (n : ℕ) → called p (Looks (Fill n)) .answer .code ≡ 0 → Filled y (meant y n) (called p (Looks (Fill n)) .answer)
   fill-value n e =
       let w = was-taken p (Looks (Fill n)) e in
-      let all = subst (λ y. Numbered (y .diagram) (y .updates)) (sym (same-day single before)) (numbered-run (stepsAfter single before) (all-accepted single before)) in
-      subst (λ (o : Outcome). Filled y (meant y n) (o .answer)) (sym (w .1)) (record { updates = _; own-updates = owns (meant y n) (fill-out n (w .0)); value = refl; all = all })
+      subst (λ (o : Outcome). Filled y (meant y n) (o .answer)) (sym (w .1)) (record { updates = _; own-updates = owns (meant y n) (fill-out n (w .0)); is = refl })
