@@ -10,7 +10,7 @@ use lib.ListN.{length, replicate}
 use borrow.Author.Tests.{eqb-true, ne-eqb}
 use Rattle.lists.proofs.Cases.{cases}
 use Rattle.boards.specs.Board.{boardBytes}
-use Rattle.diagram.specs.Names.{isSome}
+use Rattle.diagram.specs.Checks.{isSome}
 use Rattle.plain.specs.Record.{PlainDay}
 use Rattle.table.specs.Out.{Out, tableBytes}
 use Rattle.table.specs.Calls.{freshBoard}

@@ -2,6 +2,7 @@
 -- claims about every run of accepted steps, and the count of own updates. No bibs, values or bytes.
 pub mod Sizes
 pub mod Diagram
+pub mod Leads
 pub mod Effects
 pub mod Views
 pub mod RootPaths

@@ -5,7 +5,8 @@ use mathlib.Core.Path.{_≡_}
 use mathlib.Core.Logic.{_↔_}
 use mathlib.Core.Option.{some}
 use mathlib.Core.List.{List, [], _∷_, _++_}
-use Rattle.lists.specs.Names.{Name, FourLetters}
+use Rattle.lists.specs.Names.{Name}
+use Rattle.lists.specs.Letters.{FourLetters}
 use Rattle.diagram.specs.Views.{view}
 use Rattle.diagram.specs.Construction.{Joinable}
 use Rattle.diagram.specs.Day.{Day, IsOut, IsIdle, isNamed, markNamed, shownAt}

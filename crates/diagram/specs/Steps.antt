@@ -81,9 +81,10 @@ newUpdate y u = cond u (some (y .updates)) none
 abbrev pub enter : Day → ℕ → ℕ → Bool → Day
 enter y c r u =
     let t = entersInto y (y .openBy c) in
-    let events = eventsBefore y (y .openBy c) ++ (length (y .diagram) ∷ []) in
-    withClients (grown y r (event (y .terminal r) c (newUpdate y u))) (cond u (suc (y .updates)) (y .updates)) (changed (y .lastEvent) c (some (length (y .diagram))))
-    (changed (y .openBy) c (some t)) (countedWith y (y .openBy c)) (changed (y .transaction) t (record { client = c; revision = r; events = events; closed = none }))
+    let now = length (y .diagram) in
+    let entered : Transaction = record { client = c; revision = r; events = eventsBefore y (y .openBy c) ++ (now ∷ []); closed = none } in
+    withClients (grown y r (event (y .terminal r) c (newUpdate y u))) (cond u (suc (y .updates)) (y .updates)) (changed (y .lastEvent) c (some now))
+    (changed (y .openBy) c (some t)) (countedWith y (y .openBy c)) (changed (y .transaction) t entered)
 
 -- "Yield: the open transaction, if any, is closed."
 abbrev pub closedNow : Day → Transaction → Transaction
@@ -91,7 +92,8 @@ closedNow y t = record { client = t .client; revision = t .revision; events = t 
 
 abbrev pub yield : Day → ℕ → Option ℕ → Day
 yield y c none = y
-yield y c (some t) = withClients y (y .updates) (y .lastEvent) (changed (y .openBy) c none) (y .transactions) (changed (y .transaction) t (closedNow y (y .transaction t)))
+yield y c (some t) =
+    withClients y (y .updates) (y .lastEvent) (changed (y .openBy) c none) (y .transactions) (changed (y .transaction) t (closedNow y (y .transaction t)))
 
 -- "Fork: the fork vertex and a new box." 02, U9: "A mark forks an idle box, marked or not, and gives the new box a name"
 abbrev pub forkAt : Day → ℕ → Option Name → Day

@@ -40,7 +40,7 @@ use Rattle.plain.proofs.Orders.{own-orders, verified}
 use Rattle.plain.proofs.Bills.{bills-grow, told}
 use Rattle.plain.proofs.Syncs.{never-ten, on-single-main, sync-is}
 use Rattle.plain.proofs.Marks.{drop-value, mark-value, on-marks}
-use Rattle.plain.proofs.Steps.{after-steps, all-accepted, day-is, did, marks-after, marks-next, named, ran, same-day, taken-steps}
+use Rattle.plain.proofs.Steps.{after-steps, all-accepted, day-is, did, marks-after, marks-next, named, next-is, ran, same-day, taken-steps}
 use Rattle.plain.specs.Taken.{Taken, endOf, stepsAfter, stepsFrom, stepsOf}
 use Rattle.plain.specs.Answers.{called, dayAfter, dayFrom, ending, sent, stepped}
 use Rattle.plain.specs.Bundles.{AllTaken, Bundled, part, parts}
@@ -73,12 +73,12 @@ show-idle : (p : PlainDay) (n room : ℕ) → Passes p (Looks (Show n room)) →
 show-idle p n room (e1 also e3 also e4 also e7 also P) = ((meant-low (p .day) n (meant (p .day) n) (means p n e3), e4), e7)
 
 -- growth at a call, along its steps
-grows : (single : Bool) (before : List (Call ℕ)) (c : Call ℕ) → Extends (endOf single before) (called (dayAfter single before) c .next .day)
+grows : (single : Bool) (before : List (Call ℕ)) (c : Call ℕ) → Extends (endOf single before) (endOf single (before ++ (c ∷ [])))
 grows single before c =
     let p = dayAfter single before in
     let d = did p (marks-after single before) c in
     let F = subst Fine (sym (same-day single before)) (fine-run (stepsAfter single before) (all-accepted single before)) in
-    subst (λ y. Extends (p .day) y) (sym (d .same)) (extends-run (stepsOf p c) (p .day) F (d .accepts))
+    subst (λ y. Extends (p .day) y) (sym (ap (λ q. q .day) (next-is single before c) ∙ d .same)) (extends-run (stepsOf p c) (p .day) F (d .accepts))
 
 module _ (single : Bool) (cs : List (Call ℕ)) where
   abbrev A : Arbitration (stepsAfter single cs)
@@ -139,7 +139,7 @@ module _ (single : Bool) (cs : List (Call ℕ)) where
       kept : (n : ℕ) → n ∈ shown → q .entries n ≡ dayAfter single cs .entries n
       kept n i = entries-stay before (Query c _ bib) rest T n (rw (same-day single before) (low n i))
 
-      stands : pathResult (stepped q (Event c r false)) (length (q .day .diagram)) bib ≡ standingOf (dayAfter single cs .entries) bib shown
+      stands : pathResult (stepped q (Event c r false) 0) (length (q .day .diagram)) bib ≡ standingOf (dayAfter single cs .entries) bib shown
       stands =
           ap (λ y. standingOf (q .entries) bib (view (after y (Event c r false) .diagram) (length (y .diagram)))) (same-day single before)
           ∙ ap (λ us. applied us freshStanding) (ofBib-same (q .entries) (dayAfter single cs .entries) bib shown kept)

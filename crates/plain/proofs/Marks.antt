@@ -47,7 +47,7 @@ module _ (single : Bool) (before : List (Call ℕ)) where
       let w = was-taken p (Mark n name) e in
       subst (MarkTaken y n name) (sym (w .1))
       (record {
-        forked = forks single before n (some name) (named single before) (mark-accepts p n name (w .0));
+        forked = forks single before n (some name) 0 (named single before) (mark-accepts p n name (w .0));
         named = changed-same (y .mark) (y .revisions) (some name);
         others = λ r d. changed-other (y .mark) (y .revisions) (some name) r d;
       })

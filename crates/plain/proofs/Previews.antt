@@ -22,7 +22,7 @@ use Rattle.plain.proofs.Ends.{preview-passes, was-taken}
 use Rattle.plain.proofs.Exactly.{passed-is}
 
 -- a query reads what its revision's terminal shows
-pub reads-terminal : (q : PlainDay) (c r bib : ℕ) → pathResult (stepped q (Steps.Event c r false)) (length (q .day .diagram)) bib ≡ pathResult q (q .day .terminal r) bib
+pub reads-terminal : (q : PlainDay) (c r bib : ℕ) → pathResult (stepped q (Steps.Event c r false) 0) (length (q .day .diagram)) bib ≡ pathResult q (q .day .terminal r) bib
 unfolding after
 reads-terminal q c r bib = ap (standingOf (q .entries) bib) (tabulate-newest viewStep [] (event (q .day .terminal r) c none) (q .day .diagram) ∙ append-nil (view (q .day .diagram) (q .day .terminal r)))
 

@@ -79,9 +79,9 @@ module _ (single : Bool) (before : List (Call ℕ)) where
       subst (λ y. SeenSince (y .diagram) (y .terminal r) (after y (Steps.Fork r name) .diagram) (after y (Steps.Fork r name) .terminal (y .revisions)) []) (sym (same-day single before))
       (fork-shows (stepsAfter single before) (all-accepted single before) r name (subst (λ y. accepted y (Steps.Fork r name) ≡ true) (same-day single before) e))
 
-  pub forks : (n : ℕ) (name : Option Name) → Named y → accepted y (Steps.Fork (meant y n) name) ≡ true → Forked y n (forked p n name)
+  pub forks : (n : ℕ) (name : Option Name) (boxes : ℕ) → Named y → accepted y (Steps.Fork (meant y n) name) ≡ true → Forked y n (forked p n name boxes)
   unfolding nextNumber after
-  forks n name N e =
+  forks n name boxes N e =
       let C : CanFork y (meant y n) name = can-fork y (meant y n) name e in
       let z = after y (Steps.Fork (meant y n) name) in
       record {
@@ -93,7 +93,7 @@ module _ (single : Bool) (before : List (Call ℕ)) where
       }
 
   pub fork-value : (n : ℕ) → Named y → called p (Fork n) .answer .code ≡ 0 → Forked y n (called p (Fork n))
-  fork-value n N e = let w = was-taken p (Fork n) e in subst (Forked y n) (sym (w .1)) (forks n none N (fork-accepts p n (w .0)))
+  fork-value n N e = let w = was-taken p (Fork n) e in subst (Forked y n) (sym (w .1)) (forks n none 1 N (fork-accepts p n (w .0)))
 
   -- the number is the one by 02, U7
   forks-take : (n : ℕ) (name : Option Name) → accepted y (Steps.Fork (meant y n) name) ≡ true → Takes (stepsAfter single before) (nextNumber y)

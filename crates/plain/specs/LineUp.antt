@@ -5,7 +5,7 @@ use Prim.Native.Nat.{ℕ, _≤_}
 use mathlib.Core.Bool.{Bool, true}
 use mathlib.Core.Path.{_≡_}
 use mathlib.Core.Logic.{_↔_}
-use mathlib.Core.List.{List, _∷_, _++_}
+use mathlib.Core.List.{List, [], _∷_, _++_}
 use Rattle.diagram.specs.Sizes.{revisionLimit}
 use Rattle.diagram.specs.Day.{IsOut, IsIdle, outCount}
 use Rattle.diagram.specs.Steps.{run}
@@ -45,9 +45,10 @@ pub record LineUp (single : Bool) (cs : List (Call ℕ)) : Type 0 where
   pub order : List ℕ
   pub explains : Explains (endOf single cs) order
   -- what each taken call tells
-  pub tells : (before rest : List (Call ℕ)) (c : Call ℕ) → Taken single cs before c rest → Told single before (dayAfter single cs) order c (called (dayAfter single before) c)
+  pub tells : (before rest : List (Call ℕ)) (c : Call ℕ) → Taken single cs before c rest
+      → Told single before (dayAfter single cs) order c (called (dayAfter single before) c)
   -- "For a box that stays out, the list before a call begins the list after it."
-  pub grows : (before rest : List (Call ℕ)) (c : Call ℕ) → cs ≡ before ++ (c ∷ rest) → Extends (endOf single before) (called (dayAfter single before) c .next .day)
+  pub grows : (before rest : List (Call ℕ)) (c : Call ℕ) → cs ≡ before ++ (c ∷ rest) → Extends (endOf single before) (endOf single (before ++ (c ∷ [])))
   -- 02, U8: on any day a sync "never meets 10"
   pub never-ten : (before rest : List (Call ℕ)) (m room : ℕ) → cs ≡ before ++ (Sync m room ∷ rest) → called (dayAfter single before) (Sync m room) .answer .code ≡ 10 → ⊥
   pub single-main : single ≡ true → OnSingleMain cs
@@ -56,4 +57,4 @@ pub record LineUp (single : Bool) (cs : List (Call ℕ)) : Type 0 where
   -- 02, U13: after all calls this line-up, as any that explains the day, gets a yes when written as a file
   pub own-orders : (own : List ℕ) → Explains (endOf single cs) own → GetsYes single cs own
   -- 02, U14: "Show that within a day no further step ever lowers a bill."
-  pub bills-grow : (before rest : List (Call ℕ)) → cs ≡ before ++ rest → (member : Bool) → billAfter single before member .value ≤ billAfter single cs member .value
+  pub bills-grow : (before rest : List (Call ℕ)) → cs ≡ before ++ rest → (member : Bool) → billAfter single before member ≤ billAfter single cs member

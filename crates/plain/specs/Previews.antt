@@ -21,4 +21,4 @@ pub record Foresees (p : PlainDay) (n m bib : ℕ) (answer : Answer (List Line))
   pub joins : joinOf p n m .answer .code ≡ 0
   pub is : answer ≡ seenAfter p n m bib (joinOf p n m .answer .value)
   -- so a query of the joiner that is taken right after that join, whoever asks, would answer the same
-  pub query : (c : ℕ) → called (joinOf p n m .next) (Query c n bib) .answer .code ≡ 0 → called (joinOf p n m .next) (Query c n bib) .answer ≡ seenAfter p n m bib 0
+  pub query : (c : ℕ) → let o = called (joinOf p n m .next) (Query c n bib) in o .answer .code ≡ 0 → o .answer ≡ seenAfter p n m bib 0

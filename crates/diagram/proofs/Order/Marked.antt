@@ -15,7 +15,8 @@ use Rattle.diagram.specs.Construction.{Joinable}
 use Rattle.diagram.specs.Effects.{forkVertex}
 use Rattle.diagram.specs.Views.{own, view}
 use Rattle.diagram.specs.Day.{Day, markNamed, shownAt}
-use Rattle.diagram.specs.Diagram.{HasPath, leads}
+use Rattle.diagram.specs.Diagram.{HasPath}
+use Rattle.diagram.specs.Leads.{leads}
 use Rattle.diagram.specs.Arbitration.{Sees}
 use Rattle.diagram.specs.Steps.{Drop, Step, run, runFrom}
 use Rattle.diagram.specs.Accepted.{Accepted}
