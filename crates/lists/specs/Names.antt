@@ -1,6 +1,5 @@
 -- Tests of names. They need not be believed: a mark is taken exactly if its name is of `FourLetters` and not in use (`LineUp.exactly`, crate plain), and a name
 -- means the mark that bears it (`ByMarks.means`, crate diagram).
-use Prim.Native.Nat.{ℕ}
 use mathlib.Core.Bool.{Bool, true, false, _&&_}
 use mathlib.Core.List.{[], _∷_}
 use lib.ListN.{length}

@@ -1,7 +1,7 @@
 -- A bill is that of the history, and no further call lowers it (02, U14).
-use Prim.Native.Nat.{ℕ, _+_, _≤_}
+use Prim.Native.Nat.{ℕ, _≤_}
 use mathlib.Core.Bool.{Bool}
-use mathlib.Core.Path.{_≡_, refl, sym, _∙_, ap, ap₂, subst}
+use mathlib.Core.Path.{_≡_, refl, sym, _∙_, ap₂, subst}
 use mathlib.Core.List.{List, [], _∷_, _++_}
 use native.Mathlib.Omega.{arith}
 use Rattle.bundles.specs.declared.entry.Entry.{Entry}
@@ -10,7 +10,7 @@ use Rattle.bills.proofs.Grows.{bill-grows}
 use Rattle.desk.specs.Calls.{Call, Update, Query, Yield, Fork, Join, Sync, Mark, Drop, Bundle, Looks, Bill, entriesOf, plainly}
 use Rattle.diagram.proofs.Days.Marking.{marks-fresh}
 use Rattle.plain.specs.Record.{PlainDay, freshDay}
-use Rattle.plain.specs.Answers.{answers, answersFrom, called, dayAfter, dayFrom}
+use Rattle.plain.specs.Answers.{answers, called, dayAfter}
 use Rattle.plain.specs.Taken.{bundleSteps, stepOf, stepsFrom}
 use Rattle.plain.specs.Fills.{codesOf, comesTo}
 use Rattle.plain.specs.Bills.{billAfter, billIn, startedIn}

@@ -25,7 +25,7 @@ use Rattle.diagram.proofs.Days.Naming.{meant-low, meant-number}
 use Rattle.diagram.proofs.Order.Reuse.{by-numbers}
 use Rattle.diagram.proofs.Order.Single.{SingleMain, single-both, sync, syncs-are-seen}
 use Rattle.machine.proofs.Follow.Single.{main-joins}
-use Rattle.plain.specs.Record.{PlainDay, freshDay}
+use Rattle.plain.specs.Record.{PlainDay}
 use Rattle.plain.specs.Answers.{Outcome, asOne, asked, called, dayAfter, dayFrom, ending, joined, refused}
 use Rattle.plain.specs.Allowed.{Allowed}
 use Rattle.plain.specs.Taken.{Taken, bundleSteps, endOf, stepOf, stepsAfter, stepsFrom, stepsOf}
