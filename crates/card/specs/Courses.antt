@@ -9,7 +9,8 @@ use Rattle.lists.specs.Sums.{anyBelow}
 use Rattle.desk.specs.Calls.{Call, Update, Query, Yield, Fork, Join, Sync, Mark, Drop, Bundle, Looks, plainly}
 use Rattle.table.specs.Halves.{isTable}
 use Rattle.table.specs.Calls.{freshBoard, freshOut}
-use Rattle.table.specs.Served.{Served, boardLent, onBoard, onTable, outReply, served, sheetOf}
+use Rattle.table.specs.Served.{Served, onBoard, onTable, outReply, served, sheetOf}
+use Rattle.table.specs.Lent.{boardLent}
 use Rattle.table.specs.Shared.{batchShared, countIn, updateShared}
 use Rattle.card.specs.Log.{courses, passes}
 

@@ -2,10 +2,11 @@
 use Prim.Native.Nat.{ℕ}
 use mathlib.Core.Bool.{Bool, true, false}
 use mathlib.Core.Path.{_≡_, refl, sym, _∙_, ap, subst}
-use mathlib.Core.List.{List, [], _∷_}
+use mathlib.Core.List.{List, [], _∷_, List·Memᴰ, List·Memᴰ·cases-cons, List·Memᴰ·not-nil}
 use lib.ListN.{length, length-replicate, replicate}
+use Rattle.lists.proofs.Cases.{either}
 use Rattle.boards.specs.Board.{boardBytes}
-use Rattle.desk.specs.Calls.{Call, Update, Query, Yield, Fork, Join, Sync, Mark, Drop, Bundle, Looks, Show, Fill, Preview, Verify, Bill, answerOn, callOn, callsOn}
+use Rattle.desk.specs.Calls.{Call, Update, Query, Yield, Fork, Join, Sync, Mark, Drop, Bundle, Looks, Show, Fill, Preview, Verify, Bill, Answer, answerOn, callOn, callsOn}
 use Rattle.plain.specs.Record.{PlainDay, freshDay}
 use Rattle.plain.specs.Answers.{called, answers, answersFrom, dayAfter}
 use Rattle.plain.specs.Edges as Edges
@@ -16,15 +17,15 @@ use Rattle.plain.proofs.Steps.{never-one}
 use Rattle.table.specs.Out.{tableBytes}
 use Rattle.table.specs.Calls.{freshOut}
 use Rattle.consistency.specs.Table.{calls, replies, tableAfter}
-use Rattle.consistency.specs.Demand.{NeverOne, DemandThree}
+use Rattle.consistency.specs.Demand.{DemandThree}
 use Rattle.consistency.specs.Edges.{computedOn, EdgesHold}
 use Rattle.consistency.proofs.Table.Follows.{fresh-stands, stands-after, table-follows}
 use Rattle.consistency.proofs.Boards.{keeps-board}
 
-never-from : (qs : List (Call (List ℕ))) (p : PlainDay) → NeverOne (replies qs (answersFrom p (calls qs)))
-unfolding NeverOne replies answersFrom
-never-from [] p = tt
-never-from (q ∷ qs) p = (never-one p (callOn length q), never-from qs (called p (callOn length q) .next))
+never-from : (qs : List (Call (List ℕ))) (p : PlainDay) (r : Answer (List ℕ)) → List·Memᴰ r (replies qs (answersFrom p (calls qs))) → r .code ≡ 1 → ⊥
+unfolding replies answersFrom
+never-from [] p r i = absurd (List·Memᴰ·not-nil i)
+never-from (q ∷ qs) p r i = either (List·Memᴰ·cases-cons i) (λ e n. never-one p (callOn length q) (sym (ap (λ r. r .code) e) ∙ n)) (never-from qs (called p (callOn length q) .next) r)
 
 pub demand-three : DemandThree
 unfolding answers dayAfter
@@ -34,7 +35,7 @@ demand-three t h single qs =
       fresh-code = f .0;
       fresh-value = f .1;
       agreement = f .2 qs;
-      sound = subst NeverOne (sym (f .2 qs)) (never-from qs (freshDay single));
+      sound = λ r i. never-from qs (freshDay single) r (subst (List·Memᴰ r) (f .2 qs) i);
       line-up = lined-up single (calls qs);
       boards = λ before rest q place board. keeps-board (dayAfter single (calls before)) (tableAfter (freshOut t single boardBytes .lent) before) (stands-after before (freshDay single) (freshOut t single boardBytes .lent) (fresh-stands t h single)) board q;
     }

@@ -13,7 +13,8 @@ use Rattle.lists.proofs.Cases.{cases}
 use Rattle.bundles.specs.declared.entry.Entry.{Entry}
 use Rattle.boards.specs.Board.{boardBytes, isWrongBoard}
 use Rattle.desk.specs.Calls.{Call, Update, Query, Yield, Fork, Join, Sync, Mark, Drop, Bundle, Looks, Show, Fill, Preview, Verify, Bill, Batch, Records, Entries, entriesOf}
-use Rattle.desk.specs.Checks.{Check, _if_, checks, settle, codesFor}
+use Rattle.desk.specs.Checks.{Check, _if_, checks, settle}
+use Rattle.desk.specs.Listed.{codesFor}
 use Rattle.desk.proofs.Checks as Rows
 use Rattle.desk.proofs.Checks.{Passed, Refused, Settled, _also_, among-in, code-exactly, goes, refused-only, settled as settled-row, stops}
 use Rattle.table.specs.Answers.{afterTaken, refused, taken}

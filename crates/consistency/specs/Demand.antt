@@ -3,7 +3,7 @@
 use Prim.Native.Nat.{ℕ}
 use mathlib.Core.Bool.{Bool}
 use mathlib.Core.Path.{_≡_}
-use mathlib.Core.List.{List, [], _∷_, _++_}
+use mathlib.Core.List.{List, _∷_, _++_, List·Memᴰ}
 use lib.ListN.{length}
 use Rattle.desk.specs.Calls.{Call, Answer}
 use Rattle.plain.specs.Answers.{answers, dayAfter}
@@ -14,11 +14,6 @@ use Rattle.table.specs.Calls.{freshOut}
 use Rattle.consistency.specs.Table.{calls, repliesOn, replies, tableAfter}
 use Rattle.consistency.specs.Boards.{KeepsBoard}
 
--- no call has code 1
-unfoldable pub NeverOne : List (Answer (List ℕ)) → Type 0
-NeverOne [] = Unit {0}
-NeverOne (r ∷ rs) = (r .code ≡ 1 → ⊥) × NeverOne rs
-
 pub record Explained (t : List ℕ) (single : Bool) (qs : List (Call (List ℕ))) : Type 0 where
   -- "Fresh accepts any content of the right length, starts a new day and gives 0."
   pub fresh-code : freshOut t single boardBytes .code ≡ 0
@@ -26,7 +21,7 @@ pub record Explained (t : List ℕ) (single : Bool) (qs : List (Call (List ℕ))
   -- "Each call's code and all that it answers with, and the entries a taken list writes, are this day's."
   pub agreement : repliesOn (freshOut t single boardBytes .lent) qs ≡ replies qs (answers single (calls qs))
   -- "A table made fresh and then used only through the calls never meets 1."
-  pub sound : NeverOne (repliesOn (freshOut t single boardBytes .lent) qs)
+  pub sound : (r : Answer (List ℕ)) → List·Memᴰ r (repliesOn (freshOut t single boardBytes .lent) qs) → r .code ≡ 1 → ⊥
   -- "a single claim about the whole list of calls, with one line-up for it"
   pub line-up : LineUp single (calls qs)
   -- 02, U10: "a board that was right before any call, and is lent to it if it takes one, is right after it", whatever board the calls before it had

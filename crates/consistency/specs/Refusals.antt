@@ -8,10 +8,11 @@ use lib.ListN.{length}
 use Rattle.boards.specs.Board.{boardBytes}
 use Rattle.table.specs.Out.{tableBytes}
 use Rattle.table.specs.Calls.{freshBoard, freshOut}
-use Rattle.table.specs.Served.{boardLent, served, sheetOf}
+use Rattle.table.specs.Served.{served, sheetOf}
+use Rattle.table.specs.Lent.{boardLent}
 use Rattle.lists.specs.Lists.{_∈_}
 use Rattle.desk.specs.Calls.{Call, plainly}
-use Rattle.desk.specs.Checks.{codesFor}
+use Rattle.desk.specs.Listed.{codesFor}
 
 -- "its number from the list": one of those that 01 lists for this call. "table and sheet keep every byte", and the board does; 02: "a refused one neither", "in a refusal both are 0", "state neither and gain 0"
 pub record IsRefused (t : List ℕ) (q : Call (List ℕ)) : Type 0 where

@@ -2,6 +2,7 @@
 use Prim.Native.Nat.{ℕ, _*_}
 use mathlib.Core.List.{List, [], _∷_, _++_}
 use lib.ListN.{length, drop}
+use Rattle.lists.specs.Lists.{flat}
 use Rattle.desk.specs.Calls.{Call, Answer, answerOn, callsOn}
 use Rattle.sheets.specs.Lines.{line}
 use Rattle.plain.specs.Record.{Line}
@@ -23,8 +24,7 @@ tableAfter t (q ∷ qs) = tableAfter (served t q .table) qs
 
 -- the lines of a listing on paper, "n entries of 12 bytes"
 abbrev pub inBytes : List Line → List ℕ
-inBytes [] = []
-inBytes (l ∷ ls) = line (l .entry) (l .number) ++ inBytes ls
+inBytes ls = flat (λ l. line (l .entry) (l .number)) ls
 
 -- an answer on paper as a caller gets it: the lines come first, and "Bytes from 12 n on stay."
 abbrev pub sheetWith : List Line → List ℕ → List ℕ

@@ -11,7 +11,7 @@ use lib.ListN.{length, replicate}
 use borrow.Author.Tests.{eqb-true, ne-eqb}
 use Rattle.lists.proofs.Cases.{cases}
 use Rattle.boards.specs.Board.{boardBytes}
-use Rattle.diagram.specs.Names.{isSome}
+use Rattle.diagram.specs.Checks.{isSome}
 use Rattle.desk.specs.Calls.{Answer, answerOn}
 use Rattle.plain.specs.Record.{PlainDay, freshDay}
 use Rattle.table.specs.Out.{Out, tableBytes}

@@ -15,7 +15,8 @@ use Rattle.plain.specs.Boards.{Right}
 use Rattle.plain.proofs.Boards.{fresh-is-right}
 use Rattle.table.specs.Out.{Out}
 use Rattle.table.specs.Calls.{freshBoard}
-use Rattle.table.specs.Served.{Served, boardLent, served}
+use Rattle.table.specs.Served.{Served, served}
+use Rattle.table.specs.Lent.{boardLent}
 use Rattle.consistency.specs.Boards.{lent, takesBoard}
 use Rattle.consistency.proofs.Boards.{cleared, keeps-board}
 use Rattle.consistency.proofs.Refusals.{still}

@@ -14,7 +14,8 @@ use Rattle.lists.proofs.Cases.{and-true, cases, cond-all, either}
 use Rattle.lists.proofs.Keep.{in-member}
 use Rattle.bundles.specs.declared.entry.Entry.{Entry}
 use Rattle.desk.specs.Calls.{Call, Update, Query, Yield, Fork, Join, Sync, Mark, Drop, Bundle, Looks, Show, Fill, Preview, Verify, Bill, entriesOf, callOn}
-use Rattle.desk.specs.Checks.{checks, codesFor, settle}
+use Rattle.desk.specs.Checks.{checks, settle}
+use Rattle.desk.specs.Listed.{codesFor}
 use Rattle.plain.specs.Fills.{enters}
 use Rattle.table.specs.Answers.{refused}
 use Rattle.table.specs.Out.{Out}

@@ -12,7 +12,7 @@ use Rattle.lists.specs.Lists.{changed}
 use Rattle.lists.proofs.Cases.{cases, cond-all, either, or-cases, or-left, or-right}
 use Rattle.boards.specs.Board.{boardBytes, isWrongBoard}
 use Rattle.desk.specs.Calls.{Call, callOn}
-use Rattle.diagram.specs.Names.{isSome}
+use Rattle.diagram.specs.Checks.{isSome}
 use Rattle.plain.specs.Record.{PlainDay, freshDay}
 use Rattle.plain.specs.Answers.{called}
 use Rattle.cells.specs.Steps.{freshBytes}

@@ -5,7 +5,7 @@ use mathlib.Core.Path.{_≡_}
 use mathlib.Core.List.{List, [], _∷_, _++_}
 use Rattle.plain.specs.Record.{freshDay}
 use Rattle.plain.specs.Boards.{Right}
-use Rattle.table.specs.Served.{boardLent}
+use Rattle.table.specs.Lent.{boardLent}
 use Rattle.consistency.specs.Boards.{takesBoard}
 use Rattle.card.specs.Courses.{Ask, CourseCall, Fresh, Plain, Tables}
 use Rattle.courses.specs.Heard.{Heard, heard}

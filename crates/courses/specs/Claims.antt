@@ -11,7 +11,7 @@ use Rattle.lists.specs.Differences.{differences}
 use Rattle.cells.specs.Words.{Bytes}
 use Rattle.boards.specs.Board.{boardBytes}
 use Rattle.desk.specs.Calls.{Answer, Call, Join, Sync, Update, callOn}
-use Rattle.desk.specs.Checks.{codesFor}
+use Rattle.desk.specs.Listed.{codesFor}
 use Rattle.plain.specs.Record.{Line, freshDay}
 use Rattle.plain.specs.Fills.{enters}
 use Rattle.table.specs.Halves.{isTable}

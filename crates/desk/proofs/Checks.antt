@@ -13,7 +13,8 @@ use Rattle.lists.specs.Arranged.{member}
 use Rattle.lists.proofs.Cases.{and-true, cases, either, or-false}
 use Rattle.lists.proofs.Keep.{in-member, member-in}
 use Rattle.desk.specs.Calls.{Call, Update, Query, Yield, Fork, Join, Sync, Mark, Drop, Bundle, Looks, Show, Fill, Preview, Verify, Bill}
-use Rattle.desk.specs.Checks.{Check, Tests, _if_, checks, settle, codesFor}
+use Rattle.desk.specs.Checks.{Check, Tests, _if_, checks, settle}
+use Rattle.desk.specs.Listed.{codesFor}
 
 -- no check of a row applies
 infixr 60 _also_

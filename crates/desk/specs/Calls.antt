@@ -2,9 +2,10 @@
 -- is told by its length, at a table it is bytes.
 use Prim.Native.Nat.{ℕ}
 use mathlib.Core.Bool.{Bool, _||_}
-use mathlib.Core.List.{List, [], _∷_}
+use mathlib.Core.List.{List}
 use lib.Dec.{eqb, ltb}
 use lib.ListN.{length}
+use Rattle.lists.specs.Lists.{mapped}
 use Rattle.lists.specs.Names.{Name}
 use Rattle.bundles.specs.declared.entry.Entry as Sent
 use Rattle.bundles.specs.Records.{entriesIn, isWrong}
@@ -71,8 +72,7 @@ callOn f (Looks (Verify file)) = Looks (Verify file)
 callOn f (Looks (Bill member)) = Looks (Bill member)
 
 abbrev pub callsOn : {S R : Type 0} → (S → R) → List (Call S) → List (Call R)
-callsOn f [] = []
-callsOn f (c ∷ cs) = callOn f c ∷ callsOn f cs
+callsOn f cs = mapped (callOn f) cs
 
 -- "Each call's code and all that it answers with, and the entries a taken list writes"
 pub record Answer (Sheet : Type 0) : Type 0 where

@@ -93,20 +93,3 @@ checks q (Looks (Bill member)) = 1 if q .noTable ∷ []
 abbrev pub settle : {A : Type 0} → List Check → (ℕ → A) → A → A
 settle [] refusal end = end
 settle (k ∷ ks) refusal end = cond (k .applies) (refusal (k .code)) (settle ks refusal end)
-
--- "its number from the list" (00), by the call: the numbers of its row, in their order; of a bundle also those of its updates
-abbrev pub codesFor : {S : Type 0} → Call S → List ℕ
-codesFor (Update c n k bib v) = 1 ∷ 2 ∷ 3 ∷ 4 ∷ 16 ∷ 5 ∷ 6 ∷ 7 ∷ 8 ∷ 9 ∷ []
-codesFor (Query c n bib) = 1 ∷ 2 ∷ 3 ∷ 4 ∷ 16 ∷ 5 ∷ 6 ∷ 7 ∷ 8 ∷ []
-codesFor (Yield c board) = 1 ∷ 19 ∷ 2 ∷ []
-codesFor (Fork n) = 1 ∷ 3 ∷ 4 ∷ 15 ∷ 7 ∷ 10 ∷ []
-codesFor (Join n m board) = 1 ∷ 19 ∷ 3 ∷ 4 ∷ 15 ∷ 16 ∷ 7 ∷ 11 ∷ []
-codesFor (Sync m board) = 1 ∷ 19 ∷ 3 ∷ 4 ∷ 15 ∷ 16 ∷ 7 ∷ 11 ∷ []
-codesFor (Mark n name) = 1 ∷ 3 ∷ 4 ∷ 15 ∷ 7 ∷ 10 ∷ 17 ∷ []
-codesFor (Drop name) = 1 ∷ 18 ∷ []
-codesFor (Bundle c n batch board) = 1 ∷ 14 ∷ 19 ∷ 2 ∷ 3 ∷ 4 ∷ 16 ∷ 5 ∷ 6 ∷ 7 ∷ 8 ∷ 9 ∷ []
-codesFor (Looks (Show n sheet)) = 1 ∷ 3 ∷ 4 ∷ 7 ∷ 12 ∷ []
-codesFor (Looks (Fill n)) = 1 ∷ 3 ∷ 4 ∷ []
-codesFor (Looks (Preview n m bib)) = 1 ∷ 3 ∷ 4 ∷ 15 ∷ 16 ∷ 7 ∷ 11 ∷ 5 ∷ []
-codesFor (Looks (Verify file)) = 1 ∷ 21 ∷ []
-codesFor (Looks (Bill member)) = 1 ∷ []

@@ -9,10 +9,12 @@ use Rattle.lists.specs.Names.{fourLetters}
 use Rattle.lists.specs.Sums.{anyBelow}
 use Rattle.diagram.specs.Sizes.{revisionLimit, clientLimit, updateLimit}
 use Rattle.diagram.proofs.Graph.Paths.{leads-path}
-use Rattle.diagram.specs.Diagram.{event, fork, join, leads, newest, root, start}
+use Rattle.diagram.specs.Diagram.{event, fork, join, newest, root, start}
+use Rattle.diagram.specs.Leads.{leads}
 use Rattle.diagram.specs.Pool.{pool, poolFrom}
 use Rattle.diagram.specs.Construction.{Constructed, entered, forked, joined}
-use Rattle.diagram.specs.Effects.{tabulate, view, startVertex, forkVertex}
+use Rattle.diagram.specs.Effects.{tabulate, startVertex, forkVertex}
+use Rattle.diagram.specs.Views.{view}
 use Rattle.diagram.specs.Day.{Day, fresh, isNamed, markNamed}
 use Rattle.diagram.specs.Checks.{unknownClient, marked, openElsewhere, busyByOther, busy, stale, logFull, noneLeft, notJoinable, badName}
 use Rattle.diagram.specs.Steps.{Step, after, run, runFrom, Event, Yield, Fork, Join, Drop}

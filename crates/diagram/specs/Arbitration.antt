@@ -8,7 +8,8 @@ use mathlib.Core.List.{List, [], _∷_, _++_, List·Nodup}
 use lib.ListN.{length}
 use Rattle.lists.specs.Lists.{_∈_, _⊑_, flat, Only}
 use Rattle.diagram.specs.Diagram.{Vertex, event, Diagram, HasPath}
-use Rattle.diagram.specs.Effects.{view, number, numbers}
+use Rattle.diagram.specs.Effects.{number, numbers}
+use Rattle.diagram.specs.Views.{view}
 use Rattle.diagram.specs.Day.{Day, IsOut}
 
 -- 01, "Words": "Event: a taken update or query", by its vertex

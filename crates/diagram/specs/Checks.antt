@@ -1,32 +1,33 @@
 -- 01, "Codes of the desk": each check that the day alone decides, as a test that is true where its code applies.
 -- Code 3 is `isGiven`, code 4 the day's `joined`, and code 18 `isNamed`; 5, 12, 14 and 15 need what this crate does not know.
 use Prim.Native.Nat.{ℕ}
-use mathlib.Core.Bool.{Bool, false, not, _||_, _&&_}
+use mathlib.Core.Bool.{Bool, true, false, not, _||_, _&&_}
 use mathlib.Core.Option.{Option, none, some}
 use lib.Dec.{eqb, ltb}
 use Rattle.lists.specs.Sums.{anyBelow}
 use Rattle.lists.specs.Names.{Name, fourLetters}
 use Rattle.diagram.specs.Sizes.{revisionLimit, clientLimit, updateLimit}
-use Rattle.diagram.specs.Diagram.{Diagram, leads}
-use Rattle.diagram.specs.Names.{isSome}
+use Rattle.diagram.specs.Diagram.{Diagram}
+use Rattle.diagram.specs.Leads.{leads}
 use Rattle.diagram.specs.Day.{Day, isNamed, outCount}
 
 -- 2: "tablet above 15"
 unfoldable pub unknownClient : ℕ → Bool
 unknownClient c = not (ltb c clientLimit)
 
--- whether a client's open transaction, if any, is on revision r, and whether it is on another
+-- whether there is one
+abbrev pub isSome : {A : Type 0} → Option A → Bool
+isSome none = false
+isSome (some a) = true
+
+-- whether a client's open transaction, if any, is on revision r
 abbrev pub isOn : Day → Option ℕ → ℕ → Bool
 isOn y none r = false
 isOn y (some t) r = eqb (y .transaction t .revision) r
 
-abbrev pub isElsewhere : Day → Option ℕ → ℕ → Bool
-isElsewhere y none r = false
-isElsewhere y (some t) r = not (eqb (y .transaction t .revision) r)
-
 -- 6: "the tablet's open transaction is on another box"
 unfoldable pub openElsewhere : Day → ℕ → ℕ → Bool
-openElsewhere y c r = isElsewhere y (y .openBy c) r
+openElsewhere y c r = isSome (y .openBy c) && not (isOn y (y .openBy c) r)
 
 -- 7: "update, query: another tablet has the box busy"
 unfoldable pub busyByOther : Day → ℕ → ℕ → Bool

@@ -6,7 +6,8 @@ use mathlib.Core.List.{List}
 use Rattle.lists.specs.Lists.{_∈_, Only}
 use Rattle.diagram.specs.Arbitration.{eventsOf}
 use Rattle.diagram.specs.Day.{Day}
-use Rattle.diagram.specs.Effects.{number, view}
+use Rattle.diagram.specs.Effects.{number}
+use Rattle.diagram.specs.Views.{view}
 
 -- update n was entered in a transaction that is closed
 pub record OfClosed (y : Day) (n : ℕ) : Type 0 where

@@ -7,7 +7,8 @@ use mathlib.Core.Option.{some}
 use mathlib.Core.List.{List, _++_, List·Nodup}
 use Rattle.lists.specs.Lists.{_∈_}
 use Rattle.diagram.specs.Diagram.{Diagram, HasPath}
-use Rattle.diagram.specs.Effects.{view, number}
+use Rattle.diagram.specs.Effects.{number}
+use Rattle.diagram.specs.Views.{view}
 use Rattle.diagram.specs.Day.{Day}
 
 -- by paths: what vertex x of a diagram shows beyond what vertex z of an earlier one showed. It is listed behind that, and is

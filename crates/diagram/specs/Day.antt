@@ -8,7 +8,7 @@ use lib.Dec.{eqb}
 use Rattle.lists.specs.Sums.{anyBelow, lastBelow, sumBelow}
 use Rattle.lists.specs.Names.{Name}
 use Rattle.diagram.specs.Diagram.{root, Diagram}
-use Rattle.diagram.specs.Effects.{view}
+use Rattle.diagram.specs.Views.{view}
 use Rattle.diagram.specs.Numbering.{Numbering, freshNumbering, next}
 use Rattle.diagram.specs.Names.{isName}
 

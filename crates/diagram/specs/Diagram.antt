@@ -1,12 +1,10 @@
 -- Revision diagrams and their paths: 002, section 3.1.
 -- A diagram is the list of its vertices, newest first. A vertex is named by the number of vertices older than it.
 use Prim.Native.Nat.{ℕ, _<_}
-use mathlib.Core.Bool.{Bool, false, cond, _||_}
 use mathlib.Core.Path.{_≡_}
 use mathlib.Core.Option.{Option}
 use mathlib.Core.List.{List, [], _∷_, _++_, List·Memᴰ}
 use lib.ListN.{length}
-use lib.Dec.{eqb}
 
 -- "five types of vertices (start, fork, join, update, and query vertices)"; the root is the initial start vertex.
 -- A vertex says where its edges come from. An event is entered by a client: an update has its number, a query has none.
@@ -65,12 +63,3 @@ pub record Terminal (d : Diagram) (x : ℕ) : Type 0 where
   pub vertex : x < length d
   pub no-s : (y : ℕ) → Edge s-sources x y d → ⊥
   pub no-j : (y : ℕ) → Edge j-sources x y d → ⊥
-
--- whether a path leads from x to y, as a test: `leads-iff-path` shows that it is `HasPath`
-abbrev pub anyOf : (ℕ → Bool) → List ℕ → Bool
-anyOf f [] = false
-anyOf f (p ∷ ps) = f p || anyOf f ps
-
-unfoldable pub leads : Diagram → ℕ → ℕ → Bool
-leads [] x y = false
-leads (v ∷ d) x y = cond (eqb y (length d)) (eqb x y || anyOf (λ p. leads d x p) (sources v)) (leads d x y)

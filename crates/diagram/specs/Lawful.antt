@@ -5,7 +5,8 @@ use mathlib.Core.Bool.{true}
 use mathlib.Core.Path.{_≡_}
 use mathlib.Core.Option.{Option, none, some}
 use mathlib.Core.List.{List, [], _∷_, _++_, List·Memᴰ}
-use Rattle.lists.specs.Names.{Name, FourLetters}
+use Rattle.lists.specs.Names.{Name}
+use Rattle.lists.specs.Letters.{FourLetters}
 use Rattle.diagram.specs.Sizes.{revisionLimit, clientLimit, updateLimit}
 use Rattle.diagram.specs.Construction.{Constructed}
 use Rattle.diagram.specs.Day.{outCount}

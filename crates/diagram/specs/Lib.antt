@@ -2,7 +2,9 @@
 -- claims about every run of accepted steps, and the count of own updates. No bibs, values or bytes.
 pub mod Sizes
 pub mod Diagram
+pub mod Leads
 pub mod Effects
+pub mod Views
 pub mod RootPaths
 pub mod Construction
 pub mod Numbering

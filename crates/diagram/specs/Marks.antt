@@ -4,9 +4,10 @@ use mathlib.Core.Bool.{true}
 use mathlib.Core.Path.{_≡_}
 use mathlib.Core.Logic.{_↔_}
 use mathlib.Core.Option.{some}
-use mathlib.Core.List.{List, [], _∷_, _++_}
-use Rattle.lists.specs.Names.{Name, FourLetters}
-use Rattle.diagram.specs.Effects.{own, view}
+use mathlib.Core.List.{List, _∷_, _++_}
+use Rattle.lists.specs.Names.{Name}
+use Rattle.lists.specs.Letters.{FourLetters}
+use Rattle.diagram.specs.Views.{view}
 use Rattle.diagram.specs.Construction.{Joinable}
 use Rattle.diagram.specs.Day.{Day, IsOut, IsIdle, isNamed, markNamed, shownAt}
 use Rattle.diagram.specs.Checks.{marked}
@@ -32,9 +33,8 @@ abbrev pub FromMark : Day → ℕ → ℕ → Type 0
 FromMark y r x = Sees y (y .startOf x) (y .startOf r)
 
 pub record ByMarks (ss : List Step) : Type 0 where
-  -- "Dropping a mark, by its name": a name means the one mark that bears it, and so no two that are out bear the same
+  -- "Dropping a mark, by its name": a name means the one mark that bears it, so that no two bear the same
   pub means : (n : Name) (r : ℕ) → NameMeans (run ss) n r ↔ (run ss .mark r ≡ some n)
-  pub apart : (r s : ℕ) (n : Name) → run ss .mark r ≡ some n → run ss .mark s ≡ some n → r ≡ s
   -- "18 no such mark, for a drop": a drop of a name in use has no refusal
   pub drops : (n : Name) → isNamed (run ss) n ≡ true → MayFollow ss (Drop (markNamed (run ss) n))
   -- "a name of four letters A to Z"
@@ -42,8 +42,7 @@ pub record ByMarks (ss : List Step) : Type 0 where
   -- "At most 64 boxes out, marked ones included": a mark is out; and no transaction is open on it
   pub out : (r : ℕ) → marked (run ss) r ≡ true → IsOut (run ss) r
   pub idle : (r : ℕ) → marked (run ss) r ≡ true → IsIdle (run ss) r
-  -- "not written, queried or joined": it lists what its start vertex shows, and lists the same as long as it is out
-  pub unwritten : (r : ℕ) → marked (run ss) r ≡ true → own (run ss .diagram) (run ss .terminal r) ≡ []
+  -- "not written, queried or joined": it lists what its start vertex shows, and so has no update of its own, and lists the same as long as it is out
   pub still : (r : ℕ) → marked (run ss) r ≡ true → shownAt (run ss) r ≡ view (run ss .diagram) (run ss .startOf r)
   pub still-later : (before rest : List Step) (r : ℕ) → ss ≡ before ++ rest → marked (run before) r ≡ true → marked (run ss) r ≡ true
       → shownAt (run ss) r ≡ shownAt (run before) r

@@ -6,7 +6,7 @@ use mathlib.Core.Logic.{_↔_}
 use mathlib.Core.Option.{Option}
 use mathlib.Core.List.{List, [], _∷_, _++_}
 use lib.Dec.{eqb, ltb}
-use Rattle.lists.specs.Lists.{keep, named}
+use Rattle.lists.specs.Lists.{keep, mapped}
 use Rattle.lists.specs.Sums.{anyBelow}
 use Rattle.lists.specs.Names.{Name}
 use Rattle.diagram.specs.Sizes.{revisionLimit}
@@ -28,7 +28,7 @@ usedAgain y r = anyBelow (y .revisions) (λ s. ltb r s && eqb (numberOf y s) (nu
 
 -- the numbers that wait to be used again: those of the revisions handed in, in the order of their hand-ins, that no later revision bears
 abbrev pub waiting : List Step → List ℕ
-waiting ss = named (numberOf (run ss)) (keep (λ r. not (usedAgain (run ss) r)) (handIns ss))
+waiting ss = mapped (numberOf (run ss)) (keep (λ r. not (usedAgain (run ss) r)) (handIns ss))
 
 -- a revision, out or handed in, got number n at its start
 abbrev pub Used : Day → ℕ → Type 0

@@ -6,7 +6,8 @@ use mathlib.Core.List.{List, [], _∷_, _++_}
 use lib.ListN.{length}
 use Rattle.lists.specs.Lists.{flat}
 use Rattle.diagram.specs.Diagram.{Vertex, Diagram, byGain, s-sources, f-sources, Edge}
-use Rattle.diagram.specs.Effects.{tabulate, entry, own, view, startVertex}
+use Rattle.diagram.specs.Effects.{tabulate, entry, startVertex}
+use Rattle.diagram.specs.Views.{own, view}
 
 -- Definition 8, of one vertex: "If x is a start, fork, or query vertex, the effect is a no-op"; an update vertex has its update; "If x
 -- is a join vertex, then the effect is the composition of all effects in the joined revision"

@@ -3,7 +3,8 @@ use Prim.Native.Nat.{ℕ}
 use mathlib.Core.Path.{_≡_}
 use mathlib.Core.Option.{some}
 use Rattle.lists.specs.Lists.{_∈_}
-use Rattle.diagram.specs.Effects.{number, view}
+use Rattle.diagram.specs.Effects.{number}
+use Rattle.diagram.specs.Views.{view}
 use Rattle.diagram.specs.Day.{Day}
 use Rattle.diagram.specs.Arbitration.{Sees}
 

@@ -6,8 +6,8 @@ use mathlib.Core.List.{List, [], _∷_, _++_}
 use lib.ListN.{length}
 use Rattle.lists.specs.Lists.{changed}
 use Rattle.lists.specs.Names.{Name}
-use Rattle.diagram.specs.Diagram.{start, event, fork, join}
-use Rattle.diagram.specs.Numbering.{started, handedIn}
+use Rattle.diagram.specs.Diagram.{Vertex, start, event, fork, join, Diagram}
+use Rattle.diagram.specs.Numbering.{Numbering, started, handedIn}
 use Rattle.diagram.specs.Day.{Transaction, Day, fresh}
 
 -- a step names clients and revisions; an event is an update or a query; 02, U9: a mark is a fork that gives a name
@@ -18,8 +18,51 @@ pub data Step : Type 0 where
   Join : (joiner joinee : ℕ) → Step
   Drop : (revision : ℕ) → Step
 
--- "Update, query: a vertex at the box's line end. It goes into the tablet's open transaction or opens one, and is the
--- tablet's last event."
+-- the day with other vertices, terminals (01: line ends), hand-ins, numbers and names
+abbrev pub withBoxes : Day → Diagram → (ℕ → ℕ) → (ℕ → Bool) → Numbering → (ℕ → Option Name) → Day
+withBoxes y diagram terminal joined numbering mark = record {
+  diagram = diagram;
+  revisions = y .revisions;
+  startOf = y .startOf;
+  forkOf = y .forkOf;
+  terminal = terminal;
+  joined = joined;
+  numbering = numbering;
+  mark = mark;
+  updates = y .updates;
+  lastEvent = y .lastEvent;
+  openBy = y .openBy;
+  transactions = y .transactions;
+  transaction = y .transaction;
+}
+
+-- the day with other updates, events and transactions of its clients
+abbrev pub withClients : Day → ℕ → (ℕ → Option ℕ) → (ℕ → Option ℕ) → ℕ → (ℕ → Transaction) → Day
+withClients y updates lastEvent openBy transactions transaction = record {
+  diagram = y .diagram;
+  revisions = y .revisions;
+  startOf = y .startOf;
+  forkOf = y .forkOf;
+  terminal = y .terminal;
+  joined = y .joined;
+  numbering = y .numbering;
+  mark = y .mark;
+  updates = updates;
+  lastEvent = lastEvent;
+  openBy = openBy;
+  transactions = transactions;
+  transaction = transaction;
+}
+
+-- "a vertex at the box's line end"
+abbrev pub grown : Day → ℕ → Vertex → Day
+grown y r vertex = withBoxes y (vertex ∷ y .diagram) (changed (y .terminal) r (length (y .diagram))) (y .joined) (y .numbering) (y .mark)
+
+-- handed in, or dropped: its number is freed
+abbrev pub handIn : Day → ℕ → (ℕ → Option Name) → Day
+handIn y r mark = withBoxes y (y .diagram) (y .terminal) (changed (y .joined) r true) (handedIn (y .numbering) r) mark
+
+-- "It goes into the tablet's open transaction or opens one, and is the tablet's last event."
 abbrev pub entersInto : Day → Option ℕ → ℕ
 entersInto y none = y .transactions
 entersInto y (some t) = t
@@ -36,21 +79,12 @@ abbrev pub newUpdate : Day → Bool → Option ℕ
 newUpdate y u = cond u (some (y .updates)) none
 
 abbrev pub enter : Day → ℕ → ℕ → Bool → Day
-enter y c r u = record {
-  diagram = event (y .terminal r) c (newUpdate y u) ∷ y .diagram;
-  revisions = y .revisions;
-  startOf = y .startOf;
-  forkOf = y .forkOf;
-  terminal = changed (y .terminal) r (length (y .diagram));
-  joined = y .joined;
-  numbering = y .numbering;
-  mark = y .mark;
-  updates = cond u (suc (y .updates)) (y .updates);
-  lastEvent = changed (y .lastEvent) c (some (length (y .diagram)));
-  openBy = changed (y .openBy) c (some (entersInto y (y .openBy c)));
-  transactions = countedWith y (y .openBy c);
-  transaction = changed (y .transaction) (entersInto y (y .openBy c)) (record { client = c; revision = r; events = eventsBefore y (y .openBy c) ++ (length (y .diagram) ∷ []); closed = none });
-}
+enter y c r u =
+    let t = entersInto y (y .openBy c) in
+    let now = length (y .diagram) in
+    let entered : Transaction = record { client = c; revision = r; events = eventsBefore y (y .openBy c) ++ (now ∷ []); closed = none } in
+    withClients (grown y r (event (y .terminal r) c (newUpdate y u))) (cond u (suc (y .updates)) (y .updates)) (changed (y .lastEvent) c (some now))
+    (changed (y .openBy) c (some t)) (countedWith y (y .openBy c)) (changed (y .transaction) t entered)
 
 -- "Yield: the open transaction, if any, is closed."
 abbrev pub closedNow : Day → Transaction → Transaction
@@ -58,21 +92,8 @@ closedNow y t = record { client = t .client; revision = t .revision; events = t 
 
 abbrev pub yield : Day → ℕ → Option ℕ → Day
 yield y c none = y
-yield y c (some t) = record {
-  diagram = y .diagram;
-  revisions = y .revisions;
-  startOf = y .startOf;
-  forkOf = y .forkOf;
-  terminal = y .terminal;
-  joined = y .joined;
-  numbering = y .numbering;
-  mark = y .mark;
-  updates = y .updates;
-  lastEvent = y .lastEvent;
-  openBy = changed (y .openBy) c none;
-  transactions = y .transactions;
-  transaction = changed (y .transaction) t (closedNow y (y .transaction t));
-}
+yield y c (some t) =
+    withClients y (y .updates) (y .lastEvent) (changed (y .openBy) c none) (y .transactions) (changed (y .transaction) t (closedNow y (y .transaction t)))
 
 -- "Fork: the fork vertex and a new box." 02, U9: "A mark forks an idle box, marked or not, and gives the new box a name"
 abbrev pub forkAt : Day → ℕ → Option Name → Day
@@ -94,40 +115,12 @@ forkAt y r name = record {
 
 -- "Join: the join vertex, and the joinee is handed in."
 abbrev pub joinInto : Day → ℕ → ℕ → Day
-joinInto y a b = record {
-  diagram = join (y .terminal a) (y .terminal b) ∷ y .diagram;
-  revisions = y .revisions;
-  startOf = y .startOf;
-  forkOf = y .forkOf;
-  terminal = changed (y .terminal) a (length (y .diagram));
-  joined = changed (y .joined) b true;
-  numbering = handedIn (y .numbering) b;
-  mark = y .mark;
-  updates = y .updates;
-  lastEvent = y .lastEvent;
-  openBy = y .openBy;
-  transactions = y .transactions;
-  transaction = y .transaction;
-}
+joinInto y a b = handIn (grown y a (join (y .terminal a) (y .terminal b))) b (y .mark)
 
 -- 02, U9: "Dropping a mark, by its name, frees its number as a hand-in does, so that it gives 4 until used again." "Nothing is rewound": no vertex
 -- is added or taken away
 abbrev pub dropAt : Day → ℕ → Day
-dropAt y r = record {
-  diagram = y .diagram;
-  revisions = y .revisions;
-  startOf = y .startOf;
-  forkOf = y .forkOf;
-  terminal = y .terminal;
-  joined = changed (y .joined) r true;
-  numbering = handedIn (y .numbering) r;
-  mark = changed (y .mark) r none;
-  updates = y .updates;
-  lastEvent = y .lastEvent;
-  openBy = y .openBy;
-  transactions = y .transactions;
-  transaction = y .transaction;
-}
+dropAt y r = handIn y r (changed (y .mark) r none)
 
 unfoldable pub after : Day → Step → Day
 after y (Event c r u) = enter y c r u

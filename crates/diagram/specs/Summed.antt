@@ -4,7 +4,7 @@ use mathlib.Core.Bool.{cond}
 use mathlib.Core.Path.{_≡_}
 use lib.ListN.{length}
 use Rattle.lists.specs.Sums.{sumBelow}
-use Rattle.diagram.specs.Effects.{own}
+use Rattle.diagram.specs.Views.{own}
 use Rattle.diagram.specs.Day.{Day}
 
 -- a revision that is joined (01: handed in) has nothing of its own any more

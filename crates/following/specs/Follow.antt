@@ -8,7 +8,7 @@ use mathlib.Core.Option.{none, some}
 use mathlib.Core.List.{List, [], _∷_}
 use lib.Dec.{ltb}
 use lib.ListN.{length}
-use Rattle.diagram.specs.Effects
+use Rattle.diagram.specs.Views
 use Rattle.lists.specs.Names.{Name}
 use Rattle.diagram.specs.Day.{Day, IsOut, Means, isGiven, isNamed, markNamed, nextNumber, numberOf}
 use Rattle.diagram.specs.Checks
@@ -26,9 +26,9 @@ use Rattle.following.specs.Reached.{cellsAfter, bytesAfter}
 -- of the revisions out, by their numbers; of the numbers, by what they mean; of the clients
 pub record CellsFollow (y : Day) (k : Cells) : Type 0 where
   -- "in the order in which the effects apply on the way from the root": 002's view of the terminal, all of it
-  pub same-order : (r : ℕ) → IsOut y r → order k (numberOf y r) ≡ Effects.view (y .diagram) (y .terminal r)
-  pub whole-order : (r : ℕ) → IsOut y r → length (Effects.view (y .diagram) (y .terminal r)) ≤ updates
-  pub same-own : (r : ℕ) → IsOut y r → own k (numberOf y r) ≡ Effects.own (y .diagram) (y .terminal r)
+  pub same-order : (r : ℕ) → IsOut y r → order k (numberOf y r) ≡ Views.view (y .diagram) (y .terminal r)
+  pub whole-order : (r : ℕ) → IsOut y r → length (Views.view (y .diagram) (y .terminal r)) ≤ updates
+  pub same-own : (r : ℕ) → IsOut y r → own k (numberOf y r) ≡ Views.own (y .diagram) (y .terminal r)
   -- 2 "tablet above 15"
   pub same-client : (c : ℕ) → Asked.isClient c ≡ not (Checks.unknownClient c)
   -- 3 "box number not yet given out"
@@ -58,7 +58,7 @@ pub record CellsFollow (y : Day) (k : Cells) : Type 0 where
   pub same-updates : k .updates ≡ y .updates
   pub same-number : Checks.noneLeft y ≡ false → Cells.nextNumber k ≡ nextNumber y
   -- "join, the count of updates the joiner gained"
-  pub same-gain : (b : ℕ) → IsOut y b → k .count (numberOf y b) ≡ length (Effects.own (y .diagram) (y .terminal b))
+  pub same-gain : (b : ℕ) → IsOut y b → k .count (numberOf y b) ≡ length (Views.own (y .diagram) (y .terminal b))
 
 -- the bytes are a table in range, and their cells agree with the day
 pub record BytesFollow (y : Day) (d : List ℕ) : Type 0 where

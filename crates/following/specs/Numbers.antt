@@ -5,7 +5,7 @@ use mathlib.Core.Bool.{Bool, true, false, not}
 use mathlib.Core.Path.{_≡_}
 use mathlib.Core.List.{List}
 use lib.ListN.{length}
-use Rattle.diagram.specs.Effects
+use Rattle.diagram.specs.Views
 use Rattle.lists.specs.Names.{Name}
 use Rattle.diagram.specs.Day.{Day, Means, isGiven, isNamed, markNamed}
 use Rattle.diagram.specs.Checks
@@ -20,8 +20,8 @@ use Rattle.following.specs.Reached.{bytesAfter}
 
 -- number n, which means a revision r that is out
 pub record NumberOut (y : Day) (k : Cells) (n r : ℕ) : Type 0 where
-  pub same-order : order k n ≡ Effects.view (y .diagram) (y .terminal r)
-  pub same-gain : k .count n ≡ length (Effects.own (y .diagram) (y .terminal r))
+  pub same-order : order k n ≡ Views.view (y .diagram) (y .terminal r)
+  pub same-gain : k .count n ≡ length (Views.own (y .diagram) (y .terminal r))
   pub same-stale : (c : ℕ) → c < clients → Asked.stale k c n ≡ Checks.stale y c r
 
 -- number n, which means revision r

@@ -8,7 +8,8 @@ use native.Mathlib.Omega.{arith}
 use lib.ListN.{length}
 use lib.Dec.{eqb, ltb}
 use borrow.Author.Tests.{eq-eqb, eqb-true, lt-ltb, ltb-true}
-use Rattle.lists.specs.Names.{FourLetters, Name, allLetters, fourLetters, sameName}
+use Rattle.lists.specs.Names.{Name, allLetters, fourLetters, sameName}
+use Rattle.lists.specs.Letters.{FourLetters}
 use Rattle.lists.specs.Lists.{_∈_}
 use Rattle.lists.proofs.Cases.{and-true, either}
 

@@ -3,5 +3,6 @@ pub mod Lists
 pub mod Arranged
 pub mod Pool
 pub mod Sums
+pub mod Letters
 pub mod Names
 pub mod Differences

@@ -27,14 +27,14 @@ keep p [] = []
 keep p (x ∷ l) = cond (p x) (x ∷ keep p l) (keep p l)
 
 -- the blocks of a list's elements in a row, first to last
-abbrev pub flat : (ℕ → List ℕ) → List ℕ → List ℕ
+abbrev pub flat : {A : Type 0} → (A → List ℕ) → List A → List ℕ
 flat f [] = []
 flat f (x ∷ l) = f x ++ flat f l
 
--- the elements by other names
-abbrev pub named : (ℕ → ℕ) → List ℕ → List ℕ
-named f [] = []
-named f (x ∷ l) = f x ∷ named f l
+-- what a function makes of each element
+abbrev pub mapped : {A B : Type 0} → (A → B) → List A → List B
+mapped f [] = []
+mapped f (x ∷ l) = f x ∷ mapped f l
 
 -- a function changed at one place
 abbrev pub changed : {A : Type 0} → (ℕ → A) → ℕ → A → ℕ → A

@@ -10,7 +10,8 @@ use lib.Dec.{eqb}
 use Rattle.lists.specs.Pool.{forkPool, joinPool}
 use Rattle.lists.specs.Lists.{_∈_, changed, keep}
 use Rattle.lists.specs.Arranged.{insertBefore, remove, member, flatBack, behind}
-use Rattle.diagram.specs.Effects.{entry, own, view}
+use Rattle.diagram.specs.Effects.{entry}
+use Rattle.diagram.specs.Views.{own, view}
 use Rattle.diagram.specs.Day.{Transaction, Day, IsOut}
 use Rattle.diagram.specs.Checks.{stale, notJoinable}
 use Rattle.diagram.specs.Steps.{Step, Event, Yield, Fork, Join, Drop}

@@ -18,7 +18,7 @@ use Rattle.boards.specs.Board.{boardBytes, postedAll, shown, standingIn, wrote}
 use Rattle.boards.proofs.Posted.{fresh-right, stays-right}
 use Rattle.desk.specs.Calls.{Call, Update}
 use Rattle.diagram.specs.Sizes.{clientLimit, revisionLimit, updateLimit}
-use Rattle.diagram.specs.Diagram.{leads}
+use Rattle.diagram.specs.Leads.{leads}
 use Rattle.diagram.specs.Effects.{tabulate}
 use Rattle.diagram.specs.Day.{isGiven, meant}
 use Rattle.diagram.specs.Checks.{busyByOther, logFull, marked, openElsewhere, stale, unknownClient}

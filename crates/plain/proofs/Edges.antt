@@ -17,7 +17,7 @@ use Rattle.bills.specs.Bill.{bill}
 use Rattle.orderfile.specs.File.{isBadList, numbersOf, numbersIn, fileOf}
 use Rattle.orderfile.specs.Test.{noOther, noneTwice, isComplete, placeFrom, rises, inOrder, fits}
 use Rattle.diagram.specs.Sizes.{revisionLimit, clientLimit, updateLimit}
-use Rattle.diagram.specs.Diagram.{leads}
+use Rattle.diagram.specs.Leads.{leads}
 use Rattle.diagram.specs.Effects.{tabulate}
 use Rattle.diagram.specs.Day.{nextNumber, isGiven, isNamed, markNamed, meant}
 use Rattle.diagram.specs.Checks.{unknownClient, marked, badName, openElsewhere, busyByOther, busy, stale, logFull, noneLeft, notJoinable}

@@ -40,16 +40,16 @@ use Rattle.plain.specs.Record.{PlainDay}
 use Rattle.plain.specs.Answers.{Outcome, asOne, asked, called, dayAfter, ending, joined, refused, sent, synced}
 use Rattle.plain.specs.Bundles.{AllTaken, parts}
 use Rattle.plain.specs.Taken.{bundleSteps, endOf, stepsAfter}
-use Rattle.plain.specs.Allowed.{Allowed, AreEntries, IsBatch, IsBib, IsBoard, IsKind, IsList, JoinAllowed, Meaning, OnLine}
+use Rattle.plain.specs.Allowed.{Allowed, AreEntries, IsBatch, IsKind, IsList, JoinAllowed, Meaning, OnLine}
 use Rattle.plain.proofs.Ends.{BoxesPass, Joins, Passes, board-passes, boxes-pass, drop-accepts, fork-accepts, mark-accepts, given, join-passes, known-kind, means, preview-passes, query-accepts, right-board, update-accepts, was-taken, yield-accepts}
 use Rattle.plain.proofs.Bundles.{after-bundled, first-of, parts-sent, sent-parts}
 use Rattle.plain.proofs.Steps.{all-accepted, marks-after, same-choice, same-day, sent-ran}
 
 -- the limits: 5
-good-bib : (bib : ℕ) → badBib bib ≡ false → IsBib bib
+good-bib : (bib : ℕ) → badBib bib ≡ false → bib < 1000
 good-bib bib e = ltb-true bib 1000 (not-false _ e)
 
-bib-good : (bib : ℕ) → IsBib bib → badBib bib ≡ false
+bib-good : (bib : ℕ) → bib < 1000 → badBib bib ≡ false
 bib-good bib l = rw (lt-ltb bib 1000 l)
 
 good-kind : (k : ℕ) (kind : Kind) → kindCheck k ≡ Known kind → IsKind k
@@ -94,7 +94,7 @@ batch-good (Records bytes) (n, l, a, b) =
 batch-good (Entries es) (a, b) = rw (ne-eqb (length es) 0 (λ e. omega arith), le-ltb 64 (length es) b)
 
 -- 19
-board-good : (room : ℕ) → IsBoard room → isWrongBoard room ≡ false
+board-good : (room : ℕ) → room ≡ boardBytes → isWrongBoard room ≡ false
 board-good room e = rw e
 
 -- 21
@@ -120,13 +120,13 @@ neither e f = rw (e, f)
 update-given : (p : PlainDay) (c n k bib v : ℕ) → Passes p (Update c n k bib v) → not (isGiven (p .day) n) ≡ false
 update-given p c n k bib v (e1 also e2 also e3 also P) = e3
 
-update-entry : (p : PlainDay) (c n k bib v : ℕ) → Passes p (Update c n k bib v) → IsBib bib × IsKind k
+update-entry : (p : PlainDay) (c n k bib v : ℕ) → Passes p (Update c n k bib v) → (bib < 1000) × IsKind k
 update-entry p c n k bib v (e1 also e2 also e3 also e4 also e16 also e5 also P) = let b = known-kind bib k e5 in (good-bib bib (b .0), good-kind k _ (b .1))
 
 bad-kind : (k : ℕ) → IsKind k → badKind k ≡ false
 bad-kind k h = ap isUnknown (kind-good k h .1)
 
-update-row : (p : PlainDay) (c n k bib v : ℕ) → not (isGiven (p .day) n) ≡ false → IsBib bib × IsKind k → accepted (p .day) (Event c (meant (p .day) n) true) ≡ true → Passes p (Update c n k bib v)
+update-row : (p : PlainDay) (c n k bib v : ℕ) → not (isGiven (p .day) n) ≡ false → (bib < 1000) × IsKind k → accepted (p .day) (Event c (meant (p .day) n) true) ≡ true → Passes p (Update c n k bib v)
 update-row p c n k bib v g i a =
     let t = event-tests (p .day) c (meant (p .day) n) true a in
     refl also t .0 also g also t .1 also t .2 also neither (bib-good bib (i .0)) (bad-kind k (i .1)) also t .3 also t .4 also t .5 also t .6 also Rows.none
@@ -194,7 +194,7 @@ module _ (single : Bool) (before : List (Call ℕ)) where
   join-means : (n m : ℕ) → Joins p n m → JoinAllowed single before n m
   join-means n m J = (record { given = J .joiner; holds = record { given = J .joinee; holds = follows _ (J .accepts) } }, on-line n (J .on-line))
 
-  join-lent : (n m room : ℕ) → Passes p (Join n m room) → JoinAllowed single before n m × IsBoard room
+  join-lent : (n m room : ℕ) → Passes p (Join n m room) → JoinAllowed single before n m × (room ≡ boardBytes)
   join-lent n m room P = (join-means n m (join-passes p n m (boxes-pass p n m room P)), board-passes p n m room P)
 
   bundle-means : (c n : ℕ) (batch : Batch) (room : ℕ) → isWrongBatch batch ≡ false → isWrongBoard room ≡ false → sent p c n (entriesOf batch) .answer .code ≡ 0 → Allowed single before (Bundle c n batch room)

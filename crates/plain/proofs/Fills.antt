@@ -16,7 +16,7 @@ use Rattle.desk.specs.Checks.{_if_, settle}
 use Rattle.diagram.specs.Summed.{OwnAddsUp, ownIfOut}
 use Rattle.diagram.specs.Day.{Day}
 use Rattle.diagram.proofs.Days.Found.{found, given-found, meant-found, orMain}
-use Rattle.diagram.specs.Names.{isSome}
+use Rattle.diagram.specs.Checks.{isSome}
 use Rattle.diagram.specs.Steps as Steps
 use Rattle.diagram.specs.Steps.{Event, Step, after, runFrom}
 use Rattle.diagram.proofs.Days.Moves.{yield-updates}

@@ -12,5 +12,6 @@ pub mod Orders
 pub mod Fills
 pub mod Bills
 pub mod LineUp
+pub mod Follows
 pub mod Boards
 mod Announced

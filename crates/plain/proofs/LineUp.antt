@@ -6,49 +6,49 @@ use mathlib.Core.Option.{none, some}
 use mathlib.Core.List.{List, List·Memᴰ·head, List·Memᴰ·tail, [], _++_, _∷_, append-assoc, append-nil}
 use native.Mathlib.Omega.{arith}
 use lib.ListN.{length}
-use Rattle.boards.specs.Board.{boardBytes}
-use Rattle.desk.specs.Calls.{Bundle, Call, Fork, Join, Looks, Query, Show, Sync, Update, Batch, entriesOf, isWrongBatch}
+use Rattle.desk.specs.Calls.{Bill, Bundle, Call, Drop, Fill, Fork, Join, Looks, Mark, Preview, Query, Show, Sync, Update, Verify, Yield, Batch, entriesOf, plainly, reading}
 use Rattle.desk.proofs.Checks.{_also_}
 use Rattle.diagram.proofs.Days.Naming.{meant-low}
-use Rattle.diagram.proofs.Days.Marking.{Marks, marks-fresh}
+use Rattle.diagram.proofs.Days.Marking.{Marks}
 use Rattle.entries.specs.Folded.{ofBib}
 use Rattle.diagram.proofs.Graph.Tables.{numberStep, tabulate-newest}
-use Rattle.diagram.proofs.Order.Growth.{Fine, busy-idle, fine-fresh, tabulate-stays}
+use Rattle.diagram.proofs.Order.Growth.{Fine, busy-idle, tabulate-stays}
 use Rattle.diagram.proofs.Order.Inherited.{entry-is}
 use Rattle.diagram.proofs.Order.Rules.{by-rules}
-use Rattle.diagram.proofs.Order.Reuse.{by-numbers, takes}
+use Rattle.diagram.proofs.Order.Reuse.{by-numbers}
 use Rattle.machine.proofs.Follow.Pool.{by-pool}
-use Rattle.diagram.proofs.Order.Runs.{accepted-first, along, extends-run, fine-run, fine-step, older-from, run-step}
+use Rattle.diagram.proofs.Order.Runs.{accepted-first, extends-run, fine-run, older-from, run-step}
 use Rattle.diagram.proofs.Order.Lawful.{runs-exactly}
 use Rattle.diagram.proofs.Order.Theorem.{Arbitration, arbitration}
 use Rattle.diagram.proofs.Order.Witness.{witness}
 use Rattle.diagram.specs.Arbitration.{Explains, Extends, Shows, WholeAt}
 use Rattle.diagram.specs.Checks.{busy}
 use Rattle.diagram.specs.Day.{Day, IsOut, meant, shownAt}
-use Rattle.diagram.specs.Effects.{entry, number, view}
+use Rattle.diagram.specs.Effects.{entry, number}
+use Rattle.diagram.specs.Views.{view}
 use Rattle.diagram.specs.Steps.{Event, Step, after, run}
 use Rattle.diagram.specs.Accepted.{Accepted}
 use Rattle.lists.proofs.Blocks.{flat-from}
 use Rattle.lists.proofs.Changed.{changed-same}
 use Rattle.lists.specs.Lists.{_∈_}
-use Rattle.plain.proofs.Bundles.{after-bundled, first-of, sent-parts}
-use Rattle.plain.proofs.Ends.{Passes, means, right-board, was-taken}
+use Rattle.plain.proofs.Bundles.{after-bundled, sent-parts}
+use Rattle.plain.proofs.Ends.{Passes, means, was-taken}
 use Rattle.plain.proofs.Exactly.{exactly}
-use Rattle.plain.proofs.Values.{fill-value, fork-none, fork-takes, fork-value, join-value}
+use Rattle.plain.proofs.Values.{fill-value, fork-none, fork-takes, fork-value, join-value, mark-takes}
 use Rattle.plain.proofs.Previews.{foresees}
 use Rattle.plain.proofs.Orders.{own-orders, verified}
-use Rattle.plain.proofs.Bills.{billed}
+use Rattle.plain.proofs.Bills.{bills-grow, told}
 use Rattle.plain.proofs.Syncs.{never-ten, on-single-main, sync-is}
-use Rattle.plain.proofs.Marks.{on-marks}
-use Rattle.plain.proofs.Steps.{after-steps, all-accepted, day-both, did, marks-after, marks-next, named, ran, same-day, taken-steps}
+use Rattle.plain.proofs.Marks.{drop-value, mark-value, on-marks}
+use Rattle.plain.proofs.Steps.{after-steps, all-accepted, day-is, did, marks-after, marks-next, named, next-is, ran, same-day, taken-steps}
 use Rattle.plain.specs.Taken.{Taken, endOf, stepsAfter, stepsFrom, stepsOf}
 use Rattle.plain.specs.Answers.{called, dayAfter, dayFrom, ending, sent, stepped}
-use Rattle.plain.specs.Bundles.{AllTaken, Bundled, parts}
-use Rattle.plain.specs.LineUp.{AnsweredBy, GrowsEach, LineUp, ListedBy}
+use Rattle.plain.specs.Bundles.{AllTaken, Bundled, part, parts}
+use Rattle.plain.specs.Told.{AnsweredBy, ListedBy, Told}
+use Rattle.plain.specs.LineUp.{LineUp}
 use Rattle.entries.specs.declared.entry.Entry.{Entry}
-use Rattle.plain.specs.Record.{PlainDay, freshDay, linesOf, noted, pathResult, standingOf}
+use Rattle.plain.specs.Record.{PlainDay, linesOf, noted, pathResult, standingOf}
 use Rattle.updates.specs.Applied.{applied, freshStanding}
-use Rattle.updates.specs.Effect.{stateOf, valueIn}
 use Rattle.updates.specs.Kinds.{kindOf}
 
 -- numbers shown at a vertex are those of updates taken
@@ -68,19 +68,17 @@ pub linesOf-same : (f g : ℕ → Entry) (ns : List ℕ) → ((n : ℕ) → n �
 linesOf-same f g [] h = refl
 linesOf-same f g (n ∷ ns) h = rw (h n (List·Memᴰ·head refl), linesOf-same f g ns (λ m i. h m (List·Memᴰ·tail i)))
 
--- growth at each call, along its steps
-grows-from : (cs : List (Call ℕ)) (p : PlainDay) → Marks (p .day) → Fine (p .day) → GrowsEach p cs
-grows-from [] p M F = tt
-grows-from (c ∷ cs) p M F =
-    let d = did p M c in
-    (subst (λ y. Extends (p .day) y) (sym (d .same)) (extends-run (stepsOf p c) (p .day) F (d .accepts)), grows-from cs (called p c .next) (marks-next p M c) (subst Fine (sym (d .same)) (along Fine fine-step (stepsOf p c) (p .day) (d .accepts) F)))
-
--- what the rows of a list and of a bundle say
+-- what the row of a list says
 show-idle : (p : PlainDay) (n room : ℕ) → Passes p (Looks (Show n room)) → IsOut (p .day) (meant (p .day) n) × (busy (p .day) (meant (p .day) n) ≡ false)
 show-idle p n room (e1 also e3 also e4 also e7 also P) = ((meant-low (p .day) n (meant (p .day) n) (means p n e3), e4), e7)
 
-bundle-right : (p : PlainDay) (c n : ℕ) (batch : Batch) (room : ℕ) → Passes p (Bundle c n batch room) → (isWrongBatch batch ≡ false) × (room ≡ boardBytes)
-bundle-right p c n batch room (e1 also e14 also e19 also P) = (e14, right-board room e19)
+-- growth at a call, along its steps
+grows : (single : Bool) (before : List (Call ℕ)) (c : Call ℕ) → Extends (endOf single before) (endOf single (before ++ (c ∷ [])))
+grows single before c =
+    let p = dayAfter single before in
+    let d = did p (marks-after single before) c in
+    let F = subst Fine (sym (same-day single before)) (fine-run (stepsAfter single before) (all-accepted single before)) in
+    subst (λ y. Extends (p .day) y) (sym (ap (λ q. q .day) (next-is single before c) ∙ d .same)) (extends-run (stepsOf p c) (p .day) F (d .accepts))
 
 module _ (single : Bool) (cs : List (Call ℕ)) where
   abbrev A : Arbitration (stepsAfter single cs)
@@ -94,17 +92,13 @@ module _ (single : Bool) (cs : List (Call ℕ)) where
     abbrev p : PlainDay
     p = dayAfter single before
 
-    day-is : dayAfter single cs ≡ dayFrom p (c ∷ rest)
-    unfolding dayAfter
-    day-is = ap (dayFrom (freshDay single)) (T .place) ∙ day-both before (c ∷ rest) (freshDay single)
-
     -- the entries that were there are there at the end
     entries-stay : (n : ℕ) → n < p .day .updates → p .entries n ≡ dayAfter single cs .entries n
-    entries-stay n h = sym (ap (λ z. z .entries n) day-is ∙ ran (c ∷ rest) p (marks-after single before) .kept n h)
+    entries-stay n h = sym (ap (λ z. z .entries n) (day-is single cs before c rest T) ∙ ran (c ∷ rest) p (marks-after single before) .kept n h)
 
-  queries : (before rest : List (Call ℕ)) (c n bib : ℕ) → Taken single cs before (Query c n bib) rest → AnsweredBy single cs (A .order) (length (endOf single before .diagram)) bib (called (dayAfter single before) (Query c n bib) .answer)
+  queries : (before rest : List (Call ℕ)) (c n bib : ℕ) → Taken single cs before (Query c n bib) rest → AnsweredBy (dayAfter single cs) (A .order) (length (endOf single before .diagram)) bib (called (dayAfter single before) (Query c n bib) .answer)
   unfolding after
-  queries before rest c n bib T = record { updates = shown; shown = seen; state = ap (λ o. o .answer .state) is ∙ ap stateOf stands; value = ap (λ o. o .answer .value) is ∙ ap valueIn stands }
+  queries before rest c n bib T = record { updates = shown; shown = seen; is = ap (λ o. o .answer) is ∙ ap (λ s. reading s 0 []) stands }
     where
       q : PlainDay
       q = dayAfter single before
@@ -145,19 +139,27 @@ module _ (single : Bool) (cs : List (Call ℕ)) where
       kept : (n : ℕ) → n ∈ shown → q .entries n ≡ dayAfter single cs .entries n
       kept n i = entries-stay before (Query c _ bib) rest T n (rw (same-day single before) (low n i))
 
-      stands : pathResult (stepped q (Event c r false)) (length (q .day .diagram)) bib ≡ standingOf (dayAfter single cs .entries) bib shown
+      stands : pathResult (stepped q (Event c r false) 0) (length (q .day .diagram)) bib ≡ standingOf (dayAfter single cs .entries) bib shown
       stands =
           ap (λ y. standingOf (q .entries) bib (view (after y (Event c r false) .diagram) (length (y .diagram)))) (same-day single before)
           ∙ ap (λ us. applied us freshStanding) (ofBib-same (q .entries) (dayAfter single cs .entries) bib shown kept)
 
+  lists : (before rest : List (Call ℕ)) (n room : ℕ) → Taken single cs before (Looks (Show n room)) rest
+      → (t : ℕ) → t < endOf single before .transactions → WholeAt (endOf single before) t (endOf single before .terminal (meant (endOf single before) n)) (length (endOf single before .diagram))
+  lists before rest n room T =
+      let s = show-idle (dayAfter single before) n room (was-taken (dayAfter single before) (Looks (Show n room)) (T .code) .0) in
+      let y1 = run (stepsAfter single before) in
+      let idle = busy-idle y1 (fine-run (stepsAfter single before) (all-accepted single before)) (meant y1 n) .0 (rw (same-day single before) at (s .1)) in
+      rw (same-day single before) (A .lists (stepsAfter single before) _ (after-steps single cs before (Looks (Show n room)) rest T) (meant y1 n) (rw (same-day single before) at (s .0)) idle)
+
   -- a list that was taken: of a revision that is out and idle
   listed : (before rest : List (Call ℕ)) (n room : ℕ) → Taken single cs before (Looks (Show n room)) rest
-      → ListedBy single cs (A .order) (endOf single before .terminal (meant (endOf single before) n)) (called (dayAfter single before) (Looks (Show n room)) .answer)
+      → ListedBy (dayAfter single cs) (A .order) (endOf single before) (meant (endOf single before) n) (called (dayAfter single before) (Looks (Show n room)) .answer)
   listed before rest n room T = record {
     updates = shownAt (q .day) r;
     shown = rw (e, same-day single before) (A .ever (stepsAfter single before) _ (after-steps single cs before (Looks (Show n room)) rest T) (y1 .terminal (meant y1 n)) (low (meant y1 n)));
-    count = ap (λ o. o .answer .value) is;
-    are = ap (λ o. o .answer .sheet) is ∙ linesOf-same (q .entries) (dayAfter single cs .entries) (shownAt (q .day) r) (λ k i. entries-stay before (Looks (Show n room)) rest T k (taken-then k i));
+    is = ap (λ o. o .answer) is ∙ ap (plainly 0 (length (shownAt (q .day) r))) (linesOf-same (q .entries) (dayAfter single cs .entries) (shownAt (q .day) r) (λ k i. entries-stay before (Looks (Show n room)) rest T k (taken-then k i)));
+    whole = lists before rest n room T;
   }
     where
       q : PlainDay
@@ -179,19 +181,11 @@ module _ (single : Bool) (cs : List (Call ℕ)) where
       taken-then : (k : ℕ) → k ∈ shownAt (q .day) r → k < q .day .updates
       taken-then k i = rw (same-day single before) (view-low (stepsAfter single before) (all-accepted single before) (y1 .terminal (meant y1 n)) k (low (meant y1 n)) (rw (same-day single before) at i))
 
-  lists : (before rest : List (Call ℕ)) (n room : ℕ) → Taken single cs before (Looks (Show n room)) rest
-      → (t : ℕ) → t < endOf single before .transactions → WholeAt (endOf single before) t (endOf single before .terminal (meant (endOf single before) n)) (length (endOf single before .diagram))
-  lists before rest n room T =
-      let s = show-idle (dayAfter single before) n room (was-taken (dayAfter single before) (Looks (Show n room)) (T .code) .0) in
-      let y1 = run (stepsAfter single before) in
-      let idle = busy-idle y1 (fine-run (stepsAfter single before) (all-accepted single before)) (meant y1 n) .0 (rw (same-day single before) at (s .1)) in
-      rw (same-day single before) (A .lists (stepsAfter single before) _ (after-steps single cs before (Looks (Show n room)) rest T) (meant y1 n) (rw (same-day single before) at (s .0)) idle)
-
   number-at : (before rest : List (Call ℕ)) (c r k bib v : ℕ) → Taken single cs before (Update c r k bib v) rest
       → number (endOf single cs .diagram) (length (endOf single before .diagram)) ≡ some (called (dayAfter single before) (Update c r k bib v) .answer .value)
   unfolding dayFrom after
   number-at before rest c r k bib v T =
-      ap (λ z. number (z .day .diagram) x) (day-is before (Update c r k bib v) rest T)
+      ap (λ z. number (z .day .diagram) x) (day-is single cs before (Update c r k bib v) rest T)
       ∙ ap (λ o. number (dayFrom (o .next) rest .day .diagram) x) is
       ∙ ap (λ y. number (y .diagram) x) (ran rest next marks .same)
       ∙ tabulate-stays numberStep none (older-from (stepsFrom next rest) (next .day) (ran rest next marks .accepts)) x (omega arith)
@@ -217,7 +211,7 @@ module _ (single : Bool) (cs : List (Call ℕ)) where
       → dayAfter single cs .entries (called (dayAfter single before) (Update c r k bib v) .answer .value) ≡ record { kind = kindOf k; client = c; bib = bib; v = v }
   unfolding dayFrom after
   noted-is before rest c r k bib v T =
-      ap (dayAfter single cs .entries) (ap (λ o. o .answer .value) is) ∙ ap (λ z. z .entries n) (day-is before (Update c r k bib v) rest T)
+      ap (dayAfter single cs .entries) (ap (λ o. o .answer .value) is) ∙ ap (λ z. z .entries n) (day-is single cs before (Update c r k bib v) rest T)
       ∙ ap (λ o. dayFrom (o .next) rest .entries n) is ∙ ran rest next marks .kept n (omega arith) ∙ changed-same (q .entries) n _
     where
       q : PlainDay
@@ -235,42 +229,34 @@ module _ (single : Bool) (cs : List (Call ℕ)) where
       marks : Marks (next .day)
       marks = subst (λ o. Marks (o .next .day)) is (marks-next q (marks-after single before) (Update c r k bib v))
 
-  bundles : (before rest : List (Call ℕ)) (c n : ℕ) (batch : Batch) (room : ℕ) → Taken single cs before (Bundle c n batch room) rest → Bundled single before c n batch room
-  bundles before rest c n batch room T =
+  bundles : (before : List (Call ℕ)) (c n : ℕ) (batch : Batch) (room : ℕ) → called (dayAfter single before) (Bundle c n batch room) .answer .code ≡ 0
+      → Bundled (dayAfter single before) c n (entriesOf batch) (called (dayAfter single before) (Bundle c n batch room))
+  bundles before c n batch room e =
       let q = dayAfter single before in
-      let w = was-taken q (Bundle c n batch room) (T .code) in
-      let right = bundle-right q c n batch room (w .0) in
-      let b = after-bundled q (sent q c n (entriesOf batch)) (rw (w .1) at (T .code)) in
+      let w = was-taken q (Bundle c n batch room) e in
+      let b = after-bundled q (sent q c n (entriesOf batch)) (rw (w .1) at e) in
       let s = sent-parts c n (entriesOf batch) q (b .0) in
-      let f = first-of batch (right .0) in
-      let first = subst (λ es. AllTaken q (parts c n es)) (f .2) (s .0) .0 in
       record {
-        right = right .0;
-        board = right .1;
         each = s .0;
         day = ap (λ o. o .next) (w .1 ∙ b .1) ∙ s .1;
-        first = f .0;
-        others = f .1;
-        begins = f .2;
-        value = ap (λ o. o .answer .value) (w .1 ∙ b .1) ∙ sym (ap (λ o. o .answer .value) (was-taken q (Update c n (f .0 .kind) (f .0 .bib) (f .0 .v)) first .1));
+        value = λ first others begins. ap (λ o. o .answer) (w .1 ∙ b .1) ∙ sym (ap (λ o. o .answer) (was-taken q (part c n first) (subst (λ es. AllTaken q (parts c n es)) begins (s .0) .0) .1));
       }
 
-  unbundled : (before rest : List (Call ℕ)) (c n : ℕ) (batch : Batch) (room : ℕ) → Taken single cs before (Bundle c n batch room) rest → dayAfter single cs ≡ dayAfter single (before ++ (parts c n (entriesOf batch) ++ rest))
-  unfolding dayFrom dayAfter
-  unbundled before rest c n batch room T =
-      day-is before (Bundle c n batch room) rest T
-      ∙ ap (λ p. dayFrom p rest) (bundles before rest c n batch room T .day)
-      ∙ sym (day-both before (parts c n (entriesOf batch) ++ rest) (freshDay single) ∙ day-both (parts c n (entriesOf batch)) rest (dayAfter single before))
-
-  unsynced : (before rest : List (Call ℕ)) (m room : ℕ) → Taken single cs before (Sync m room) rest → dayAfter single cs ≡ dayAfter single (before ++ (Join 0 m room ∷ Fork 0 ∷ rest))
-  unfolding dayFrom dayAfter
-  unsynced before rest m room T =
-      let S = sync-is single before m room (T .code) in
-      let join = Join 0 m boardBytes in
-      day-is before (Sync m room) rest T
-      ∙ ap (λ o. dayFrom (o .next) rest) (S .is)
-      ∙ sym (ap (dayAfter single) (sym (append-assoc before (join ∷ []) (Fork 0 ∷ rest))) ∙ day-both (before ++ (join ∷ [])) (Fork 0 ∷ rest) (freshDay single))
-      ∙ ap (λ k. dayAfter single (before ++ (Join 0 m k ∷ Fork 0 ∷ rest))) (sym (S .board))
+  tells : (before rest : List (Call ℕ)) (c : Call ℕ) → Taken single cs before c rest → Told single before (dayAfter single cs) (A .order) c (called (dayAfter single before) c)
+  tells before rest (Update c n k bib v) T = (number-at before rest c n k bib v T, noted-is before rest c n k bib v T)
+  tells before rest (Query c n bib) T = queries before rest c n bib T
+  tells before rest (Yield c room) T = ap (λ o. o .answer) (was-taken (dayAfter single before) (Yield c room) (T .code) .1)
+  tells before rest (Fork n) T = (fork-takes single before n (T .code), fork-value single before n (named single before) (T .code))
+  tells before rest (Join n m room) T = join-value single before n m room (T .code)
+  tells before rest (Sync m room) T = sync-is single before m room (T .code)
+  tells before rest (Mark n name) T = (mark-takes single before n name (T .code), mark-value single before n name (T .code))
+  tells before rest (Drop name) T = drop-value single before name (T .code)
+  tells before rest (Bundle c n batch room) T = bundles before c n batch room (T .code)
+  tells before rest (Looks (Show n room)) T = listed before rest n room T
+  tells before rest (Looks (Fill n)) T = fill-value single before n (T .code)
+  tells before rest (Looks (Preview n m bib)) T = foresees (dayAfter single before) n m bib (T .code)
+  tells before rest (Looks (Verify file)) T = verified single before file (T .code)
+  tells before rest (Looks (Bill member)) T = told single before member
 
   pub lined-up : LineUp single cs
   lined-up = record {
@@ -281,28 +267,14 @@ module _ (single : Bool) (cs : List (Call ℕ)) where
     exactly = λ before rest c place. exactly single before c;
     pool = λ before rest place. by-pool (stepsAfter single before) (all-accepted single before);
     numbers-used = by-numbers (stepsAfter single cs) (all-accepted single cs);
-    takes = λ before rest n T. fork-takes single before n (T .code);
     none-left = λ before rest n place. fork-none single before n (named single before);
     order = A .order;
     explains = subst (λ y. Explains y (A .order)) (sym e) (A .explains);
-    number-at = number-at;
-    noted = noted-is;
-    forked = λ before rest n T. fork-value single before n (named single before) (T .code);
-    gained = λ before rest n m room T. join-value single before n m room (T .code);
-    filled = λ before rest n T. fill-value single before n (T .code);
-    unbundled = unbundled;
-    bundles = bundles;
-    queries = queries;
-    listed = listed;
-    grows = grows-from cs (freshDay single) marks-fresh fine-fresh;
-    lists = lists;
-    previews = λ before rest n m bib T. foresees single before n m bib (T .code);
-    unsynced = unsynced;
-    syncs = λ before rest m room T. sync-is single before m room (T .code);
+    tells = tells;
+    grows = λ before rest c place. grows single before c;
     never-ten = λ before rest m room place. never-ten single before m room;
     single-main = λ e. on-single-main cs;
     marks = on-marks single cs;
-    verified = λ before rest file T. verified single before file (T .code);
     own-orders = own-orders single cs;
-    billed = billed single cs;
+    bills-grow = bills-grow single cs;
   }

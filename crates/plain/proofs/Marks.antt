@@ -26,13 +26,13 @@ use Rattle.diagram.proofs.Order.Constructed.{joinable-iff}
 use Rattle.diagram.proofs.Order.Marked.{by-marks}
 use Rattle.diagram.proofs.Order.Reuse.{by-numbers}
 use Rattle.plain.specs.Record.{PlainDay, freshDay}
-use Rattle.plain.specs.Answers.{called, dayAfter, dayFrom, ending}
+use Rattle.plain.specs.Answers.{called, dayAfter, ending}
 use Rattle.plain.specs.Taken.{Taken, endOf, stepsAfter, stepsFrom}
-use Rattle.plain.specs.Marks.{CameOf, DropTaken, MarkTaken, OnMarks}
+use Rattle.plain.specs.Marks.{DropTaken, MarkTaken, OnMarks}
 use Rattle.plain.proofs.Ends.{BoxesPass, Passes, boxes-pass, fork-accepts, join-passes, mark-accepts, was-taken}
 use Rattle.plain.proofs.Exactly.{main-means}
-use Rattle.plain.proofs.Steps.{all-accepted, day-both, marks-after, named, same-day, steps-both, taken-steps}
-use Rattle.plain.proofs.Values.{fork-value, forks, mark-takes}
+use Rattle.plain.proofs.Steps.{all-accepted, marks-after, named, next-is, same-day, steps-both, taken-steps}
+use Rattle.plain.proofs.Values.{fork-value, forks}
 
 module _ (single : Bool) (before : List (Call ℕ)) where
   abbrev p : PlainDay
@@ -47,7 +47,7 @@ module _ (single : Bool) (before : List (Call ℕ)) where
       let w = was-taken p (Mark n name) e in
       subst (MarkTaken y n name) (sym (w .1))
       (record {
-        forked = forks single before n (some name) (named single before) (mark-accepts p n name (w .0));
+        forked = forks single before n (some name) 0 (named single before) (mark-accepts p n name (w .0));
         named = changed-same (y .mark) (y .revisions) (some name);
         others = λ r d. changed-other (y .mark) (y .revisions) (some name) r d;
       })
@@ -74,6 +74,7 @@ module _ (single : Bool) (before : List (Call ℕ)) where
         waits = refl;
         diagram = refl;
         others = λ s d. (changed-other (y .joined) r true s d, changed-other (y .mark) r none s d);
+        answer = refl;
         free = λ s e. cases (eqb s r) (λ q. none≢name (rw q at e)) (λ q. eqb-false s r q (M .apart s r name (rw q at e) bore));
       }
 
@@ -81,8 +82,8 @@ module _ (single : Bool) (before : List (Call ℕ)) where
   drop-value name e = let w = was-taken p (Drop name) e in subst (DropTaken y name) (sym (w .1)) (dropped name (in-use name (w .0)))
 
   -- a join into box 0 that passes is of a box that came of no mark
-  apart : (m r : ℕ) → BoxesPass p 0 m → CameOf single before r (meant y m) → ⊥
-  apart m r P (K, seen) =
+  apart : (m r : ℕ) → BoxesPass p 0 m → StartedAsMark (stepsAfter single before) r → FromMark y r (meant y m) → ⊥
+  apart m r P K seen =
       let ss = stepsAfter single before in
       let b = meant y m in
       let a = subst (λ a. accepted y (Steps.Join a b) ≡ true) (main-means single before .1) (join-passes p 0 m P .accepts) in
@@ -93,10 +94,10 @@ module _ (single : Bool) (before : List (Call ℕ)) where
       λ e. subst (λ b. run ss .joined b ≡ false → marked (run ss) b ≡ true) (sym e) (aside-run ss (all-accepted single before) r K .is-mark) (C .out-b .1) in
       by-marks ss (all-accepted single before) .never-main r b K (C .out-b .0) (subst (λ y. FromMark y r b) (same-day single before) seen) (λ e. true≢false (sym (mark e) ∙ C .unmarked-b)) joins
 
--- the day after one call more
-next-is : (single : Bool) (before : List (Call ℕ)) (c : Call ℕ) → dayAfter single (before ++ (c ∷ [])) ≡ called (dayAfter single before) c .next
-unfolding dayAfter dayFrom
-next-is single before c = day-both before (c ∷ []) (freshDay single)
+-- nor by a sync: it begins with such a join
+pub never-synced : (single : Bool) (before : List (Call ℕ)) (m room r : ℕ) → called (dayAfter single before) (Sync m room) .answer .code ≡ 0
+    → StartedAsMark (stepsAfter single before) r → FromMark (endOf single before) r (meant (endOf single before) m) → ⊥
+never-synced single before m room r e = apart single before m r (boxes-pass (dayAfter single before) 0 m room (was-taken (dayAfter single before) (Sync m room) e .0))
 
 module _ (single : Bool) (cs before middle rest : List (Call ℕ)) (n m : ℕ) (name : Name) (T : Taken single cs before (Mark n name) (middle ++ (Fork m ∷ rest))) where
   abbrev first : List (Call ℕ)
@@ -154,10 +155,6 @@ module _ (single : Bool) (cs before middle rest : List (Call ℕ)) (n m : ℕ) (
 pub on-marks : (single : Bool) (cs : List (Call ℕ)) → OnMarks single cs
 on-marks single cs = record {
   runs = by-marks (stepsAfter single cs) (all-accepted single cs);
-  marks = λ before rest n name T. mark-value single before n name (T .code);
-  takes = λ before rest n name T. mark-takes single before n name (T .code);
-  drops = λ before rest name T. drop-value single before name (T .code);
   comes-back = λ before middle rest n m name T. comes-back single cs before middle rest n m name T;
   never-joined = λ before rest m room r T. apart single before m r (boxes-pass (dayAfter single before) 0 m room (was-taken (dayAfter single before) (Join 0 m room) (T .code) .0));
-  never-synced = λ before rest m room r T. apart single before m r (boxes-pass (dayAfter single before) 0 m room (was-taken (dayAfter single before) (Sync m room) (T .code) .0));
 }

@@ -2,7 +2,7 @@
 use Prim.Native.Nat.{_+_, _<_, _≤_, ℕ}
 use mathlib.Core.Bool.{Bool, cond, false, true}
 use mathlib.Core.Path.{_∙_, _≡_, ap, refl, subst, sym}
-use mathlib.Core.Option.{none}
+use mathlib.Core.Option.{none, some}
 use mathlib.Core.List.{List, [], _++_, _∷_, append-assoc}
 use native.Mathlib.Omega.{arith}
 use lib.Dec.{eqb}
@@ -24,7 +24,7 @@ use Rattle.diagram.specs.Steps.{Event, Step, after, run, runFrom}
 use Rattle.diagram.specs.Accepted.{Accepted, AcceptedFrom, accepted}
 use Rattle.plain.proofs.Ends.{boxes-pass, drop-accepts, fork-accepts, join-passes, mark-accepts, query-accepts, update-accepts, was-taken, yield-accepts}
 use Rattle.plain.proofs.Bundles.{after-bundled, one-never, sent-first, sent-never}
-use Rattle.plain.specs.Answers.{Outcome, asOne, asked, bundled, called, dayAfter, dayFrom, ending, joined, refused, sent, startsBox, stepped}
+use Rattle.plain.specs.Answers.{Outcome, asOne, asked, bundled, called, dayAfter, dayFrom, ending, joined, refused, sent, stepped}
 use Rattle.plain.specs.Taken.{Taken, bundleSteps, endOf, stepOf, stepsAfter, stepsFrom, stepsOf}
 use Rattle.plain.specs.Record.{PlainDay, freshDay}
 
@@ -74,6 +74,15 @@ not-one (bad k h) e = omega arith
 pub never-one : (p : PlainDay) (c : Call ℕ) → called p c .answer .code ≡ 1 → ⊥
 never-one p c = not-one (called-fair p c)
 
+-- a fork that gives no name starts a box (02, U14)
+abbrev pub startsBox : Steps.Step → ℕ
+startsBox (Steps.Event c r u) = 0
+startsBox (Steps.Yield c) = 0
+startsBox (Steps.Fork r none) = 1
+startsBox (Steps.Fork r (some name)) = 0
+startsBox (Steps.Join a b) = 0
+startsBox (Steps.Drop r) = 0
+
 -- what some steps come to, each counted by a function
 abbrev pub sumOver : (Step → ℕ) → List Step → ℕ
 sumOver f [] = 0
@@ -120,8 +129,8 @@ ran-one : (p q : PlainDay) (s : Step) → accepted (p .day) s ≡ true → q .da
 unfolding runFrom
 ran-one p q s a e k f b = record { accepts = (a, tt); same = e; more = rw e (more-after (p .day) s); kept = k; choice = f; boxes = omega (arith, b) }
 
-ran-step : (p : PlainDay) (s : Step) → accepted (p .day) s ≡ true → RanTo p (stepped p s) (s ∷ [])
-ran-step p s a = ran-one p (stepped p s) s a refl (λ i l. refl) refl refl
+ran-step : (p : PlainDay) (s : Step) → accepted (p .day) s ≡ true → RanTo p (stepped p s (startsBox s)) (s ∷ [])
+ran-step p s a = ran-one p (stepped p s (startsBox s)) s a refl (λ i l. refl) refl refl
 
 update-ran : (p : PlainDay) (c n k bib v : ℕ) → called p (Update c n k bib v) .answer .code ≡ 0 → RanTo p (called p (Update c n k bib v) .next) (Event c (meant (p .day) n) true ∷ [])
 update-ran p c n k bib v e =
@@ -219,6 +228,11 @@ unfolding dayFrom
 day-both [] b p = refl
 day-both (c ∷ a) b p = day-both a b (called p c .next)
 
+-- the day after one call more
+pub next-is : (single : Bool) (before : List (Call ℕ)) (c : Call ℕ) → dayAfter single (before ++ (c ∷ [])) ≡ called (dayAfter single before) c .next
+unfolding dayAfter dayFrom
+next-is single before c = day-both before (c ∷ []) (freshDay single)
+
 pub steps-both : (a b : List (Call ℕ)) (p : PlainDay) → stepsFrom p (a ++ b) ≡ stepsFrom p a ++ stepsFrom (dayFrom p a) b
 unfolding stepsFrom dayFrom
 steps-both [] b p = refl
@@ -228,6 +242,10 @@ steps-both (c ∷ a) b p = ap (λ ss. stepsOf p c ++ ss) (steps-both a b (called
 module _ (single : Bool) (cs before : List (Call ℕ)) (c : Call ℕ) (rest : List (Call ℕ)) (T : Taken single cs before c rest) where
   abbrev p : PlainDay
   p = dayAfter single before
+
+  pub day-is : dayAfter single cs ≡ dayFrom p (c ∷ rest)
+  unfolding dayAfter
+  day-is = ap (dayFrom (freshDay single)) (T .place) ∙ day-both before (c ∷ rest) (freshDay single)
 
   pub after-steps : stepsAfter single cs ≡ stepsAfter single before ++ (stepsOf p c ++ stepsFrom (called p c .next) rest)
   unfolding stepsFrom dayAfter

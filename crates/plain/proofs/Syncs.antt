@@ -12,7 +12,7 @@ use Rattle.lists.proofs.Cases.{cases, or-false}
 use Rattle.lists.proofs.Keep.{in-member}
 use Rattle.updates.specs.Kinds.{badBib}
 use Rattle.bundles.specs.declared.entry.Entry.{Entry}
-use Rattle.boards.specs.Board.{boardBytes, isWrongBoard}
+use Rattle.boards.specs.Board.{isWrongBoard}
 use Rattle.desk.specs.Calls.{Call, Update, Query, Yield, Fork, Join, Sync, Mark, Drop, Bundle, Looks, Preview, entriesOf}
 use Rattle.desk.specs.Checks.{Check, Tests, _if_, checks}
 use Rattle.desk.proofs.Checks.{Passed, Settled, _also_, code-exactly, goes, numbersOf, settled, stops, stops-after}
@@ -20,24 +20,19 @@ use Rattle.diagram.specs.Day.{Day, IsOut, isGiven, meant}
 use Rattle.diagram.specs.Checks.{notJoinable}
 use Rattle.diagram.specs.Steps as Steps
 use Rattle.diagram.specs.Steps.{Event, Step, nextVertex, run}
-use Rattle.diagram.specs.Reuse.{Takes}
 use Rattle.diagram.specs.Single.{VisibleTo}
 use Rattle.diagram.proofs.Days.Naming.{meant-low, meant-number}
 use Rattle.diagram.proofs.Order.Reuse.{by-numbers}
 use Rattle.diagram.proofs.Order.Single.{SingleMain, single-both, sync, syncs-are-seen}
 use Rattle.machine.proofs.Follow.Single.{main-joins}
-use Rattle.plain.specs.Record.{PlainDay, freshDay}
+use Rattle.plain.specs.Record.{PlainDay}
 use Rattle.plain.specs.Answers.{Outcome, asOne, asked, called, dayAfter, dayFrom, ending, joined, refused}
 use Rattle.plain.specs.Allowed.{Allowed}
 use Rattle.plain.specs.Taken.{Taken, bundleSteps, endOf, stepOf, stepsAfter, stepsFrom, stepsOf}
-use Rattle.plain.specs.Values.{Forked}
-use Rattle.plain.specs.Previews.{joinedDay}
 use Rattle.plain.specs.Syncs.{OnSingleMain, Synced}
-use Rattle.plain.proofs.Ends.{board-passes, boxes-pass, means, was-taken}
+use Rattle.plain.proofs.Ends.{boxes-pass, means, was-taken}
 use Rattle.plain.proofs.Exactly.{exactly, main-means, on-line, passed-is, sync-ends, sync-forks}
-use Rattle.plain.proofs.Previews.{joined-is}
-use Rattle.plain.proofs.Steps.{all-accepted, day-both, named, same-day, taken-steps}
-use Rattle.plain.proofs.Values.{fork-takes, fork-value, join-value}
+use Rattle.plain.proofs.Steps.{all-accepted, next-is, same-day, taken-steps}
 
 abbrev codeOf : Outcome → ℕ
 codeOf o = o .answer .code
@@ -46,24 +41,11 @@ module _ (single : Bool) (before : List (Call ℕ)) (m room : ℕ) where
   abbrev p : PlainDay
   p = dayAfter single before
 
-  pub sync-is : called p (Sync m room) .answer .code ≡ 0 → Synced single before m room
+  pub sync-is : called p (Sync m room) .answer .code ≡ 0 → Synced p m room (called p (Sync m room))
   sync-is e =
       let w = was-taken p (Sync m room) e in
-      let boxes = boxes-pass p 0 m room (w .0) in
-      let join = passed-is p (Join 0 m boardBytes) (refl also refl also boxes) in
-      let after = before ++ (Join 0 m boardBytes ∷ []) in
-      let left : joinedDay single before 0 m ≡ joined p 0 m .next = joined-is single before 0 m ∙ ap (λ o. o .next) join in
-      let is : called p (Sync m room) ≡ called (joinedDay single before 0 m) (Fork 0) = w .1 ∙ sync-ends single before m boxes ∙ ap (λ q. called q (Fork 0)) (sym left) in
-      let forks : called (joinedDay single before 0 m) (Fork 0) .answer .code ≡ 0 = sym (ap codeOf is) ∙ e in
-      record {
-        board = board-passes p 0 m room (w .0);
-        joins = ap codeOf join;
-        forks = forks;
-        is = is;
-        gained = join-value single before 0 m boardBytes (ap codeOf join);
-        takes = subst (λ o. Takes (stepsAfter single after) (o .answer .value)) (sym is) (fork-takes single after 0 forks);
-        forked = subst (Forked (endOf single after) 0) (sym is) (fork-value single after 0 (named single after) forks);
-      }
+      let join = passed-is p (Join 0 m room) (w .0) in
+      record { joins = ap codeOf join; is = w .1 ∙ sync-ends single before m (boxes-pass p 0 m room (w .0)) ∙ ap (λ o. called (o .next) (Fork 0)) (sym join) }
 
   -- its row has no 10, and where the row passes it is taken
   pub never-ten : called p (Sync m room) .answer .code ≡ 10 → ⊥
@@ -107,14 +89,10 @@ module _ (before : List (Call ℕ)) where
   steps-line : (c : Call ℕ) → SingleMain (stepsOf p1 c)
   steps-line c = cases (eqb (called p1 c .answer .code) 0) (λ e. rw e (step-line c (exactly true before c .0 (eqb-true _ 0 e)))) (λ e. rw e tt)
 
-next-day : (before : List (Call ℕ)) (c : Call ℕ) → dayAfter true (before ++ (c ∷ [])) ≡ called (dayAfter true before) c .next
-unfolding dayAfter dayFrom
-next-day before c = day-both before (c ∷ []) (freshDay true)
-
 line-from : (cs before : List (Call ℕ)) → SingleMain (stepsFrom (dayAfter true before) cs)
 unfolding stepsFrom
 line-from [] before = tt
-line-from (c ∷ cs) before = single-both (stepsOf (dayAfter true before) c) _ (steps-line before c) (subst (λ q. SingleMain (stepsFrom q cs)) (next-day before c) (line-from cs (before ++ (c ∷ []))))
+line-from (c ∷ cs) before = single-both (stepsOf (dayAfter true before) c) _ (steps-line before c) (subst (λ q. SingleMain (stepsFrom q cs)) (next-is true before c) (line-from cs (before ++ (c ∷ []))))
 
 single-steps : (cs : List (Call ℕ)) → SingleMain (stepsAfter true cs)
 unfolding dayAfter dayFrom

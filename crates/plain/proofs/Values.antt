@@ -22,14 +22,13 @@ use Rattle.diagram.specs.Steps as Steps
 use Rattle.diagram.specs.Steps.{after}
 use Rattle.diagram.specs.Accepted.{accepted}
 use Rattle.diagram.specs.Reuse.{Takes}
-use Rattle.diagram.specs.Arbitration.{Numbered}
 use Rattle.diagram.specs.Counts.{OwnUpdates, SeenSince}
 use Rattle.diagram.proofs.Days.Moves.{CanFork, can-fork, can-join}
 use Rattle.diagram.proofs.Days.Found.{found-means}
 use Rattle.diagram.proofs.Days.Naming.{Named, meant-low, meant-new, meant-number, meant-old, next-apart}
 use Rattle.diagram.proofs.Order.Growth.{Fine, busy-idle}
 use Rattle.diagram.proofs.Order.Reuse.{takes}
-use Rattle.diagram.proofs.Order.Runs.{fine-run, numbered-run}
+use Rattle.diagram.proofs.Order.Runs.{fine-run}
 use Rattle.diagram.proofs.Order.Since.{fork-shows, join-gains, own-updates}
 use Rattle.plain.specs.Record.{PlainDay}
 use Rattle.plain.specs.Answers.{Outcome, asked, called, dayAfter, ending, forked, ownAt, refused}
@@ -80,9 +79,9 @@ module _ (single : Bool) (before : List (Call ℕ)) where
       subst (λ y. SeenSince (y .diagram) (y .terminal r) (after y (Steps.Fork r name) .diagram) (after y (Steps.Fork r name) .terminal (y .revisions)) []) (sym (same-day single before))
       (fork-shows (stepsAfter single before) (all-accepted single before) r name (subst (λ y. accepted y (Steps.Fork r name) ≡ true) (same-day single before) e))
 
-  pub forks : (n : ℕ) (name : Option Name) → Named y → accepted y (Steps.Fork (meant y n) name) ≡ true → Forked y n (forked p n name)
+  pub forks : (n : ℕ) (name : Option Name) (boxes : ℕ) → Named y → accepted y (Steps.Fork (meant y n) name) ≡ true → Forked y n (forked p n name boxes)
   unfolding nextNumber after
-  forks n name N e =
+  forks n name boxes N e =
       let C : CanFork y (meant y n) name = can-fork y (meant y n) name e in
       let z = after y (Steps.Fork (meant y n) name) in
       record {
@@ -94,7 +93,7 @@ module _ (single : Bool) (before : List (Call ℕ)) where
       }
 
   pub fork-value : (n : ℕ) → Named y → called p (Fork n) .answer .code ≡ 0 → Forked y n (called p (Fork n))
-  fork-value n N e = let w = was-taken p (Fork n) e in subst (Forked y n) (sym (w .1)) (forks n none N (fork-accepts p n (w .0)))
+  fork-value n N e = let w = was-taken p (Fork n) e in subst (Forked y n) (sym (w .1)) (forks n none 1 N (fork-accepts p n (w .0)))
 
   -- the number is the one by 02, U7
   forks-take : (n : ℕ) (name : Option Name) → accepted y (Steps.Fork (meant y n) name) ≡ true → Takes (stepsAfter single before) (nextNumber y)
@@ -121,7 +120,7 @@ module _ (single : Bool) (before : List (Call ℕ)) where
   join-value n m room e =
       let w = was-taken p (Join n m room) e in
       let a = join-passes p n m (boxes-pass p n m room (w .0)) .accepts in
-      subst (Gained y (meant y n) (meant y m)) (sym (w .1)) (record { updates = _; gained = gains (meant y n) (meant y m) a; brought = owns (meant y m) (can-join y (meant y n) (meant y m) a .out-b); value = refl })
+      subst (Gained y (meant y n) (meant y m)) (sym (w .1)) (record { updates = _; gained = gains (meant y n) (meant y m) a; brought = owns (meant y m) (can-join y (meant y n) (meant y m) a .out-b); is = refl })
 
   fill-out : (n : ℕ) → Passes p (Looks (Fill n)) → IsOut y (meant y n)
   fill-out n (e1 also e3 also e4 also Rows.none) = (meant-low y n (meant y n) (means p n e3), e4)
@@ -129,5 +128,4 @@ module _ (single : Bool) (before : List (Call ℕ)) where
   pub fill-value : (n : ℕ) → called p (Looks (Fill n)) .answer .code ≡ 0 → Filled y (meant y n) (called p (Looks (Fill n)) .answer)
   fill-value n e =
       let w = was-taken p (Looks (Fill n)) e in
-      let all = subst (λ y. Numbered (y .diagram) (y .updates)) (sym (same-day single before)) (numbered-run (stepsAfter single before) (all-accepted single before)) in
-      subst (λ (o : Outcome). Filled y (meant y n) (o .answer)) (sym (w .1)) (record { updates = _; own-updates = owns (meant y n) (fill-out n (w .0)); value = refl; all = all })
+      subst (λ (o : Outcome). Filled y (meant y n) (o .answer)) (sym (w .1)) (record { updates = _; own-updates = owns (meant y n) (fill-out n (w .0)); is = refl })

@@ -12,7 +12,7 @@ use Rattle.orderfile.specs.File.{count, offset}
 use Rattle.boards.specs.Board.{boardBytes}
 use Rattle.diagram.specs.Day.{Day, IsOut, IsIdle, isGiven, meant, shownAt}
 use Rattle.diagram.specs.Steps as Steps
-use Rattle.diagram.specs.Steps.{Event}
+use Rattle.diagram.specs.Steps.{Step, Event}
 use Rattle.diagram.specs.Lawful.{MayFollow, EachMayFollow}
 use Rattle.desk.specs.Calls.{Call, Update, Query, Yield, Fork, Join, Sync, Mark, Drop, Bundle, Looks, Show, Fill, Preview, Verify, Bill, Batch, Records, Entries, entriesOf}
 use Rattle.plain.specs.Taken.{endOf, stepsAfter, bundleSteps}
@@ -23,24 +23,17 @@ pub record Meaning (y : Day) (n : ℕ) (Holds : ℕ → Type 0) : Type 0 where
   pub holds : Holds (meant y n)
 
 -- 5: "bib above 999, or update kind not 1 to 4"
-abbrev pub IsBib : ℕ → Type 0
-IsBib bib = bib < 1000
-
 abbrev pub IsKind : ℕ → Type 0
 IsKind k = (1 ≤ k) × (k ≤ 4)
 
 abbrev pub AreEntries : List Entry → Type 0
 AreEntries [] = Unit {0}
-AreEntries (e ∷ es) = IsBib (e .bib) × IsKind (e .kind) × AreEntries es
+AreEntries (e ∷ es) = (e .bib < 1000) × IsKind (e .kind) × AreEntries es
 
 -- 14: "if the count is 0 or above 64 or the bytes aren't a multiple of 12"
 abbrev pub IsBatch : Batch → Type 0
 IsBatch (Records bytes) = (n : ℕ) × (length bytes ≡ 12 * n) × (1 ≤ n) × (n ≤ 64)
 IsBatch (Entries es) = (1 ≤ length es) × (length es ≤ 64)
-
--- 19: "length other than 5,000"
-abbrev pub IsBoard : ℕ → Type 0
-IsBoard room = room ≡ boardBytes
 
 -- 21: "if the length or the offset is under 8, or offset + 2 times the count isn't the length"
 abbrev pub IsList : List ℕ → Type 0
@@ -56,30 +49,35 @@ pub record CanShow (y : Day) (r room : ℕ) : Type 0 where
 abbrev pub OnLine : Bool → ℕ → Type 0
 OnLine single n = single ≡ true → n ≡ 0
 
+-- a step of the revision that number n means may follow
+abbrev pub StepAllowed : Bool → List (Call ℕ) → ℕ → (ℕ → Step) → Type 0
+StepAllowed single before n step = Meaning (endOf single before) n (λ r. MayFollow (stepsAfter single before) (step r))
+
 abbrev pub JoinAllowed : Bool → List (Call ℕ) → ℕ → ℕ → Type 0
 JoinAllowed single before n m = Meaning (endOf single before) n (λ a. Meaning (endOf single before) m (λ b. MayFollow (stepsAfter single before) (Steps.Join a b))) × OnLine single n
 
--- what allows a call after the calls `before`
+-- what allows a call after the calls `before`; of a board 19: "length other than 5,000"
 abbrev pub Allowed : Bool → List (Call ℕ) → Call ℕ → Type 0
-Allowed single before (Update c n k bib v) = Meaning (endOf single before) n (λ r. MayFollow (stepsAfter single before) (Event c r true)) × IsBib bib × IsKind k
-Allowed single before (Query c n bib) = Meaning (endOf single before) n (λ r. MayFollow (stepsAfter single before) (Event c r false)) × IsBib bib
-Allowed single before (Yield c room) = MayFollow (stepsAfter single before) (Steps.Yield c) × IsBoard room
-Allowed single before (Fork n) = Meaning (endOf single before) n (λ r. MayFollow (stepsAfter single before) (Steps.Fork r none)) × OnLine single n
-Allowed single before (Join n m room) = JoinAllowed single before n m × IsBoard room
+Allowed single before (Update c n k bib v) = StepAllowed single before n (λ r. Event c r true) × (bib < 1000) × IsKind k
+Allowed single before (Query c n bib) = StepAllowed single before n (λ r. Event c r false) × (bib < 1000)
+Allowed single before (Yield c room) = MayFollow (stepsAfter single before) (Steps.Yield c) × (room ≡ boardBytes)
+Allowed single before (Fork n) = StepAllowed single before n (λ r. Steps.Fork r none) × OnLine single n
+Allowed single before (Join n m room) = JoinAllowed single before n m × (room ≡ boardBytes)
 -- 02, U8: "has join's refusals for joiner 0": its fork may always follow
-Allowed single before (Sync m room) = JoinAllowed single before 0 m × IsBoard room
+Allowed single before (Sync m room) = JoinAllowed single before 0 m × (room ≡ boardBytes)
 -- 02, U9: a fork with this name may follow; "Single-main days have no marks"
-Allowed single before (Mark n name) = Meaning (endOf single before) n (λ r. MayFollow (stepsAfter single before) (Steps.Fork r (some name))) × (single ≡ false)
+Allowed single before (Mark n name) = StepAllowed single before n (λ r. Steps.Fork r (some name)) × (single ≡ false)
 -- 18 "no such mark": a mark bears this name
 Allowed single before (Drop name) = (r : ℕ) × (endOf single before .mark r ≡ some name) × MayFollow (stepsAfter single before) (Steps.Drop r)
 -- 02, U4: its updates and its yield may follow, one after another
 Allowed single before (Bundle c n batch room) =
-    IsBatch batch × IsBoard room × AreEntries (entriesOf batch) × Meaning (endOf single before) n (λ r. EachMayFollow (stepsAfter single before ++ bundleSteps c r (entriesOf batch)))
+    IsBatch batch × (room ≡ boardBytes) × AreEntries (entriesOf batch)
+    × Meaning (endOf single before) n (λ r. EachMayFollow (stepsAfter single before ++ bundleSteps c r (entriesOf batch)))
 Allowed single before (Looks (Show n room)) = Meaning (endOf single before) n (λ r. CanShow (endOf single before) r room)
 -- 02, U1: of a box that is out, busy or not
 Allowed single before (Looks (Fill n)) = Meaning (endOf single before) n (IsOut (endOf single before))
 -- 02, U6: where the join is allowed, and the bib is one
-Allowed single before (Looks (Preview n m bib)) = JoinAllowed single before n m × IsBib bib
+Allowed single before (Looks (Preview n m bib)) = JoinAllowed single before n m × (bib < 1000)
 -- 02, U13: any file that is no bad list
 Allowed single before (Looks (Verify file)) = IsList file
 -- 02, U14: always

@@ -15,7 +15,7 @@ use Rattle.boards.specs.Board.{boardBytes}
 use Rattle.bills.specs.Bill.{bill}
 use Rattle.desk.specs.Calls.{Call, Update, Query, Yield, Fork, Join, Sync, Mark, Drop, Bundle, Looks, Look, Show, Fill, Preview, Verify, Bill, Answer, plainly, reading, level, entriesOf}
 use Rattle.desk.specs.Checks.{Tests, checks, settle}
-use Rattle.diagram.specs.Effects.{own}
+use Rattle.diagram.specs.Views.{own}
 use Rattle.diagram.specs.Day.{Day, isGiven, isNamed, markNamed, meant, nextNumber, shownAt}
 use Rattle.diagram.specs.Checks.{unknownClient, marked, openElsewhere, busyByOther, busy, stale, logFull, noneLeft, notJoinable, badName}
 use Rattle.diagram.specs.Steps as Steps
@@ -65,18 +65,9 @@ taken p value = record { next = p; answer = plainly 0 value [] }
 abbrev pub settled : PlainDay → Call ℕ → Outcome → Outcome
 settled p c end = settle (checks (asked p) c) (refused p) end
 
--- 02, U14: "reused numbers counted again and marks not counted": each fork that gives no name starts a box
-abbrev pub startsBox : Steps.Step → ℕ
-startsBox (Steps.Event c r u) = 0
-startsBox (Steps.Yield c) = 0
-startsBox (Steps.Fork r none) = 1
-startsBox (Steps.Fork r (some name)) = 0
-startsBox (Steps.Join a b) = 0
-startsBox (Steps.Drop r) = 0
-
--- the day of revisions goes on, and no update was taken
-abbrev pub stepped : PlainDay → Steps.Step → PlainDay
-stepped p s = record { single = p .single; day = after (p .day) s; entries = p .entries; started = startsBox s + p .started }
+-- the day of revisions goes on, and no update was taken; so many boxes were started
+abbrev pub stepped : PlainDay → Steps.Step → ℕ → PlainDay
+stepped p s boxes = record { single = p .single; day = after (p .day) s; entries = p .entries; started = boxes + p .started }
 
 -- "Values when taken: update, the count of updates taken before it"
 abbrev pub updated : PlainDay → ℕ → ℕ → ℕ → ℕ → ℕ → Outcome
@@ -84,22 +75,22 @@ updated p c n k bib v = taken (noted p c (meant (p .day) n) (kindOf k) bib v) (p
 
 -- "yield, 0"
 abbrev pub yielded : PlainDay → ℕ → Outcome
-yielded p c = taken (stepped p (Steps.Yield c)) 0
+yielded p c = taken (stepped p (Steps.Yield c) 0) 0
 
 -- "join, the count of updates the joiner gained"
 abbrev pub joined : PlainDay → ℕ → ℕ → Outcome
-joined p n m = taken (stepped p (Steps.Join (meant (p .day) n) (meant (p .day) m))) (length (ownAt (p .day) (meant (p .day) m)))
+joined p n m = taken (stepped p (Steps.Join (meant (p .day) n) (meant (p .day) m)) 0) (length (ownAt (p .day) (meant (p .day) m)))
 
 -- "fork, the new number"; 02, U9: "Mark has fork's refusals and value", and gives the new box a name
-abbrev pub forked : PlainDay → ℕ → Option Name → Outcome
-forked p n name = taken (stepped p (Steps.Fork (meant (p .day) n) name)) (nextNumber (p .day))
+abbrev pub forked : PlainDay → ℕ → Option Name → ℕ → Outcome
+forked p n name boxes = taken (stepped p (Steps.Fork (meant (p .day) n) name) boxes) (nextNumber (p .day))
 
 -- 02, U8: "joins it into box 0, then forks box 0; it is one step, answers the new number": where the fork is refused, nothing is done
 abbrev pub asOne : PlainDay → Outcome → Outcome
 asOne p o = cond (eqb (o .answer .code) 0) o (refused p (o .answer .code))
 
 abbrev pub synced : PlainDay → ℕ → Outcome
-synced p m = let q = joined p 0 m .next in asOne p (settled q (Fork 0) (forked q 0 none))
+synced p m = let q = joined p 0 m .next in asOne p (settled q (Fork 0) (forked q 0 none 1))
 
 -- 02, U4: "sending the updates one by one and then a yield", with a board of the right length; the first that is refused ends it
 abbrev pub afterTaken : Outcome → (PlainDay → Outcome) → Outcome
@@ -136,15 +127,16 @@ abbrev pub ending : PlainDay → Call ℕ → Outcome
 ending p (Update c n k bib v) = updated p c n k bib v
 -- a query's state and value: the path-result of its vertex
 ending p (Query c n bib) =
-    let q = stepped p (Steps.Event c (meant (p .day) n) false) in
+    let q = stepped p (Steps.Event c (meant (p .day) n) false) 0 in
     record { next = q; answer = reading (pathResult q (length (p .day .diagram)) bib) 0 [] }
 ending p (Yield c room) = yielded p c
-ending p (Fork n) = forked p n none
+ending p (Fork n) = forked p n none 1
 ending p (Join n m room) = joined p n m
 ending p (Sync m room) = synced p m
-ending p (Mark n name) = forked p n (some name)
+-- 02, U14: "marks not counted"
+ending p (Mark n name) = forked p n (some name) 0
 -- 02, U9: a drop's "value is 0"
-ending p (Drop name) = taken (stepped p (Steps.Drop (markNamed (p .day) name))) 0
+ending p (Drop name) = taken (stepped p (Steps.Drop (markNamed (p .day) name)) 0) 0
 ending p (Bundle c n batch room) = bundled p (sent p c n (entriesOf batch))
 ending p (Looks l) = record { next = p; answer = told p l }
 

@@ -1,13 +1,12 @@
 -- 02, U4: "The outcome equals sending the updates one by one and then a yield."
 use Prim.Native.Nat.{ℕ}
-use mathlib.Core.Bool.{Bool, false}
 use mathlib.Core.Path.{_≡_}
 use mathlib.Core.List.{List, [], _∷_}
 use Rattle.bundles.specs.declared.entry.Entry.{Entry}
 use Rattle.boards.specs.Board.{boardBytes}
-use Rattle.desk.specs.Calls.{Call, Update, Yield, Bundle, Batch, entriesOf, isWrongBatch}
+use Rattle.desk.specs.Calls.{Call, Update, Yield}
 use Rattle.plain.specs.Record.{PlainDay}
-use Rattle.plain.specs.Answers.{called, dayAfter, dayFrom}
+use Rattle.plain.specs.Answers.{Outcome, called, dayFrom}
 
 -- the calls that a bundle is; its board is lent to the yield
 abbrev pub part : ℕ → ℕ → Entry → Call ℕ
@@ -22,14 +21,10 @@ abbrev pub AllTaken : PlainDay → List (Call ℕ) → Type 0
 AllTaken p [] = Unit {0}
 AllTaken p (c ∷ cs) = (called p c .answer .code ≡ 0) × AllTaken (called p c .next) cs
 
--- a bundle that is taken after some calls
-pub record Bundled (single : Bool) (before : List (Call ℕ)) (c n : ℕ) (batch : Batch) (room : ℕ) : Type 0 where
-  pub right : isWrongBatch batch ≡ false
-  pub board : room ≡ boardBytes
-  pub each : AllTaken (dayAfter single before) (parts c n (entriesOf batch))
-  pub day : called (dayAfter single before) (Bundle c n batch room) .next ≡ dayFrom (dayAfter single before) (parts c n (entriesOf batch))
-  -- "The value is the first entry's number."
-  pub first : Entry
-  pub others : List Entry
-  pub begins : entriesOf batch ≡ first ∷ others
-  pub value : called (dayAfter single before) (Bundle c n batch room) .answer .value ≡ called (dayAfter single before) (part c n first) .answer .value
+-- a bundle of these entries, taken on day p: each part would be taken, and the day is the one that they leave. (So the day after further calls is the one
+-- of the list with the parts in the bundle's place: `unbundled`, proofs/Follows.)
+pub record Bundled (p : PlainDay) (c n : ℕ) (entries : List Entry) (o : Outcome) : Type 0 where
+  pub each : AllTaken p (parts c n entries)
+  pub day : o .next ≡ dayFrom p (parts c n entries)
+  -- "The value is the first entry's number." There is a first one: `Allowed`
+  pub value : (first : Entry) (others : List Entry) → entries ≡ first ∷ others → o .answer ≡ called p (part c n first) .answer

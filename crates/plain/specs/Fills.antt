@@ -6,6 +6,7 @@ use mathlib.Core.Path.{_≡_}
 use mathlib.Core.List.{List, [], _∷_}
 use lib.Dec.{eqb}
 use lib.ListN.{length}
+use Rattle.lists.specs.Lists.{mapped}
 use Rattle.lists.specs.Sums.{sumBelow}
 use Rattle.desk.specs.Calls.{Call, Update, Query, Yield, Fork, Join, Sync, Mark, Drop, Bundle, Looks, Fill, Answer, entriesOf}
 use Rattle.plain.specs.Record.{PlainDay}
@@ -15,18 +16,21 @@ use Rattle.plain.specs.Answers.{called, dayAfter, answers}
 abbrev pub fillSum : PlainDay → ℕ
 fillSum p = sumBelow (p .day .numbering .given) (λ n. called p (Looks (Fill n)) .answer .value)
 
--- how many updates a call enters
+-- what a call comes to: the boxes that it starts, "reused numbers counted again and marks not counted" (02, U14), and the updates that it enters
+abbrev pub comesTo : Call ℕ → record { boxes : ℕ; updates : ℕ }
+comesTo (Update c n k bib v) = record { boxes = 0; updates = 1 }
+comesTo (Query c n bib) = record { boxes = 0; updates = 0 }
+comesTo (Yield c room) = record { boxes = 0; updates = 0 }
+comesTo (Fork n) = record { boxes = 1; updates = 0 }
+comesTo (Join n m room) = record { boxes = 0; updates = 0 }
+comesTo (Sync m room) = record { boxes = 1; updates = 0 }
+comesTo (Mark n name) = record { boxes = 0; updates = 0 }
+comesTo (Drop name) = record { boxes = 0; updates = 0 }
+comesTo (Bundle c n batch room) = record { boxes = 0; updates = length (entriesOf batch) }
+comesTo (Looks l) = record { boxes = 0; updates = 0 }
+
 abbrev pub enters : Call ℕ → ℕ
-enters (Update c n k bib v) = 1
-enters (Query c n bib) = 0
-enters (Yield c room) = 0
-enters (Fork n) = 0
-enters (Join n m room) = 0
-enters (Sync m room) = 0
-enters (Mark n name) = 0
-enters (Drop name) = 0
-enters (Bundle c n batch room) = length (entriesOf batch)
-enters (Looks l) = 0
+enters c = comesTo c .updates
 
 -- the history: the calls and the codes of their answers; a call with code 0 was accepted, and comes to as many as `counts` says
 unfoldable pub tally : (Call ℕ → ℕ) → List (Call ℕ) → List ℕ → ℕ
@@ -38,8 +42,7 @@ abbrev pub acceptedIn : List (Call ℕ) → List ℕ → ℕ
 acceptedIn cs codes = tally enters cs codes
 
 abbrev pub codesOf : {S : Type 0} → List (Answer S) → List ℕ
-codesOf [] = []
-codesOf (a ∷ more) = a .code ∷ codesOf more
+codesOf answers = mapped (λ a. a .code) answers
 
 pub record FillsAddUp (single : Bool) (cs : List (Call ℕ)) : Type 0 where
   pub sum : fillSum (dayAfter single cs) ≡ acceptedIn cs (codesOf (answers single cs))

@@ -14,4 +14,5 @@ pub mod Orders
 pub mod Boards
 pub mod Fills
 pub mod Bills
+pub mod Told
 pub mod LineUp

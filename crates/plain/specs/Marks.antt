@@ -6,9 +6,8 @@ use mathlib.Core.Option.{some}
 use mathlib.Core.List.{List, [], _∷_, _++_}
 use Rattle.lists.specs.Names.{Name}
 use Rattle.diagram.specs.Day.{Day, Means, meant, numberOf, shownAt}
-use Rattle.diagram.specs.Reuse.{Takes}
 use Rattle.diagram.specs.Marks.{ByMarks, FromMark, StartedAsMark}
-use Rattle.desk.specs.Calls.{Call, Fork, Join, Sync, Mark, Drop}
+use Rattle.desk.specs.Calls.{Call, Fork, Join, Mark, plainly}
 use Rattle.plain.specs.Answers.{Outcome, called, dayAfter}
 use Rattle.plain.specs.Taken.{Taken, endOf, stepsAfter}
 use Rattle.plain.specs.Values.{Forked}
@@ -30,25 +29,17 @@ pub record DropTaken (y : Day) (name : Name) (o : Outcome) : Type 0 where
   pub diagram : o .next .day .diagram ≡ y .diagram
   pub others : (r : ℕ) → (r ≡ revision → ⊥) → (o .next .day .joined r ≡ y .joined r) × (o .next .day .mark r ≡ y .mark r)
   pub free : (r : ℕ) → o .next .day .mark r ≡ some name → ⊥
-
--- a box that is the mark r, dropped or not, or came of it
-abbrev pub CameOf : Bool → List (Call ℕ) → ℕ → ℕ → Type 0
-CameOf single before r b = StartedAsMark (stepsAfter single before) r × FromMark (endOf single before) r b
+  -- "its value is 0"
+  pub answer : o .answer ≡ plainly 0 0 []
 
 pub record OnMarks (single : Bool) (cs : List (Call ℕ)) : Type 0 where
   -- names, and that a mark's list never changes while it is out
   pub runs : ByMarks (stepsAfter single cs)
-  pub marks : (before rest : List (Call ℕ)) (n : ℕ) (name : Name) → Taken single cs before (Mark n name) rest
-      → MarkTaken (endOf single before) n name (called (dayAfter single before) (Mark n name))
-  -- "Mark has fork's refusals and value": the number is the one that a fork would take
-  pub takes : (before rest : List (Call ℕ)) (n : ℕ) (name : Name) → Taken single cs before (Mark n name) rest
-      → Takes (stepsAfter single before) (called (dayAfter single before) (Mark n name) .answer .value)
-  pub drops : (before rest : List (Call ℕ)) (name : Name) → Taken single cs before (Drop name) rest → DropTaken (endOf single before) name (called (dayAfter single before) (Drop name))
   -- "Coming back means forking it": a fork of a mark shows what the marked box showed when it was marked, after whatever happened since
   pub comes-back : (before middle rest : List (Call ℕ)) (n m : ℕ) (name : Name) → Taken single cs before (Mark n name) (middle ++ (Fork m ∷ rest))
       → Taken single cs (before ++ (Mark n name ∷ middle)) (Fork m) rest → meant (endOf single (before ++ (Mark n name ∷ middle))) m ≡ endOf single before .revisions
       → shownAt (called (dayAfter single (before ++ (Mark n name ∷ middle))) (Fork m) .next .day) (endOf single (before ++ (Mark n name ∷ middle)) .revisions)
       ≡ shownAt (endOf single before) (meant (endOf single before) n)
-  -- a mark is not joined "in either role", so box 0 never takes over what came of one
-  pub never-joined : (before rest : List (Call ℕ)) (m room r : ℕ) → Taken single cs before (Join 0 m room) rest → CameOf single before r (meant (endOf single before) m) → ⊥
-  pub never-synced : (before rest : List (Call ℕ)) (m room r : ℕ) → Taken single cs before (Sync m room) rest → CameOf single before r (meant (endOf single before) m) → ⊥
+  -- a mark is not joined "in either role", so box 0 never takes over what came of one, nor by a sync, which begins with such a join
+  pub never-joined : (before rest : List (Call ℕ)) (m room r : ℕ) → Taken single cs before (Join 0 m room) rest
+      → StartedAsMark (stepsAfter single before) r → FromMark (endOf single before) r (meant (endOf single before) m) → ⊥

@@ -1,14 +1,14 @@
 -- The day kept on paper: 01, "The plain day and its line-up". The day of revisions, with what each update was.
 use Prim.Native.Nat.{ℕ}
 use mathlib.Core.Bool.{Bool, true}
-use mathlib.Core.List.{List, [], _∷_}
-use Rattle.lists.specs.Lists.{changed}
+use mathlib.Core.List.{List}
+use Rattle.lists.specs.Lists.{changed, mapped}
 use Rattle.updates.specs.declared.kind.Kind.{Kind}
 use Rattle.updates.specs.declared.kind.Kind.the-variants.{Time}
 use Rattle.updates.specs.declared.standing.Standing.{Standing}
 use Rattle.updates.specs.Applied.{applied, freshStanding, ofBib}
 use Rattle.entries.specs.declared.entry.Entry.{Entry}
-use Rattle.diagram.specs.Effects.{view}
+use Rattle.diagram.specs.Views.{view}
 use Rattle.diagram.specs.Day as Day
 use Rattle.diagram.specs.Day.{Day}
 use Rattle.diagram.specs.Steps.{Event, after}
@@ -41,8 +41,7 @@ pathResult p x bib = standingOf (p .entries) bib (view (p .day .diagram) x)
 
 -- the lines of some numbers, in their order
 abbrev pub linesOf : (ℕ → Entry) → List ℕ → List Line
-linesOf entries [] = []
-linesOf entries (n ∷ ns) = record { entry = entries n; number = n } ∷ linesOf entries ns
+linesOf entries ns = mapped (λ n. record { entry = entries n; number = n }) ns
 
 -- an update taken: its vertex, and what it was
 abbrev pub noted : PlainDay → ℕ → ℕ → Kind → ℕ → ℕ → PlainDay

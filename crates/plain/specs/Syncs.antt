@@ -2,28 +2,21 @@
 use Prim.Native.Nat.{ℕ, _<_, _≤_}
 use mathlib.Core.Bool.{Bool, true}
 use mathlib.Core.Path.{_≡_}
-use mathlib.Core.List.{List, [], _∷_, _++_}
-use Rattle.boards.specs.Board.{boardBytes}
+use mathlib.Core.List.{List, _∷_, _++_}
 use Rattle.diagram.specs.Day.{meant}
 use Rattle.diagram.specs.Steps.{Step, Event, nextVertex}
-use Rattle.diagram.specs.Reuse.{Takes}
 use Rattle.diagram.specs.Single.{VisibleTo}
 use Rattle.desk.specs.Calls.{Call, Fork, Join, Sync, Looks, Preview}
-use Rattle.plain.specs.Answers.{called, dayAfter}
+use Rattle.plain.specs.Record.{PlainDay}
+use Rattle.plain.specs.Answers.{Outcome, called, dayAfter}
 use Rattle.plain.specs.Taken.{Taken, endOf, stepsAfter}
-use Rattle.plain.specs.Values.{Forked, Gained}
-use Rattle.plain.specs.Previews.{joinedDay}
 
--- a sync that is taken after some calls "joins it into box 0, then forks box 0", both taken; it is that fork, and so "answers the new number"
-pub record Synced (single : Bool) (before : List (Call ℕ)) (m room : ℕ) : Type 0 where
-  pub board : room ≡ boardBytes
-  pub joins : called (dayAfter single before) (Join 0 m boardBytes) .answer .code ≡ 0
-  pub forks : called (joinedDay single before 0 m) (Fork 0) .answer .code ≡ 0
-  pub is : called (dayAfter single before) (Sync m room) ≡ called (joinedDay single before 0 m) (Fork 0)
-  -- what its join gains, what number it takes, and what that number means from then on
-  pub gained : Gained (endOf single before) (meant (endOf single before) 0) (meant (endOf single before) m) (called (dayAfter single before) (Join 0 m boardBytes))
-  pub takes : Takes (stepsAfter single (before ++ (Join 0 m boardBytes ∷ []))) (called (dayAfter single before) (Sync m room) .answer .value)
-  pub forked : Forked (joinedDay single before 0 m .day) 0 (called (dayAfter single before) (Sync m room))
+-- a sync that is taken on day p "joins it into box 0, then forks box 0", both taken; it is that fork, and so "answers the new number". (So the day after
+-- further calls is the one of the list with the join and the fork in its place: `unsynced`, proofs/Follows. What its join gains, what number it takes and what
+-- that number means is told of these two: `sync-tells` there.)
+pub record Synced (p : PlainDay) (m room : ℕ) (o : Outcome) : Type 0 where
+  pub joins : called p (Join 0 m room) .answer .code ≡ 0
+  pub is : o ≡ called (called p (Join 0 m room) .next) (Fork 0)
 
 pub record OnSingleMain (cs : List (Call ℕ)) : Type 0 where
   -- "On these days show that 11 arises only with joinee 0": of a join, a sync and a preview

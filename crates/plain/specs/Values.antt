@@ -6,9 +6,8 @@ use mathlib.Core.Logic.{_↔_}
 use mathlib.Core.List.{List, []}
 use lib.ListN.{length}
 use Rattle.diagram.specs.Day.{Day, IsOut, Means, meant}
-use Rattle.diagram.specs.Arbitration.{Numbered}
 use Rattle.diagram.specs.Counts.{OwnUpdates, SeenSince}
-use Rattle.desk.specs.Calls.{Answer}
+use Rattle.desk.specs.Calls.{Answer, plainly, level}
 use Rattle.plain.specs.Record.{Line}
 use Rattle.plain.specs.Answers.{Outcome}
 
@@ -26,12 +25,11 @@ pub record Gained (y : Day) (a b : ℕ) (o : Outcome) : Type 0 where
   pub updates : List ℕ
   pub gained : SeenSince (y .diagram) (y .terminal a) (o .next .day .diagram) (o .next .day .terminal a) updates
   pub brought : OwnUpdates y b updates
-  pub value : o .answer .value ≡ length updates
+  pub is : o .answer ≡ plainly 0 (length updates) []
 
 -- a fill of r on day y: "its own updates: those it took itself plus those of boxes joined into it", and "the number taken by the whole table": as many as
--- there are updates in the diagram
+-- there are updates in the diagram (`numbered` of `Explains`)
 pub record Filled (y : Day) (r : ℕ) (answer : Answer (List Line)) : Type 0 where
   pub updates : List ℕ
   pub own-updates : OwnUpdates y r updates
-  pub value : answer .value ≡ length updates
-  pub all : Numbered (y .diagram) (answer .total)
+  pub is : answer ≡ level (length updates) (y .updates) []

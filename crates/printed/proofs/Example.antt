@@ -7,7 +7,7 @@ use Rattle.updates.specs.Kinds.{kindCheck}
 use Rattle.updates.specs.Effect.{earliest, effect, penalized, stateOf, valueIn}
 use Rattle.updates.specs.Applied.{applied}
 use Rattle.diagram.specs.Sizes.{revisionLimit, clientLimit, updateLimit}
-use Rattle.diagram.specs.Diagram.{leads}
+use Rattle.diagram.specs.Leads.{leads}
 use Rattle.diagram.specs.Effects.{tabulate}
 use Rattle.diagram.specs.Day.{isGiven, meant, nextNumber}
 use Rattle.diagram.specs.Checks.{unknownClient, marked, openElsewhere, busyByOther, busy, stale, logFull, noneLeft, notJoinable}

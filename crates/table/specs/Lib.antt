@@ -7,4 +7,5 @@ pub mod Found
 pub mod Checks
 pub mod Light
 pub mod Served
+pub mod Lent
 pub mod Shared

@@ -74,16 +74,3 @@ sheetOf (Looks (Fill n)) = []
 sheetOf (Looks (Preview n m bib)) = []
 sheetOf (Looks (Verify file)) = []
 sheetOf (Looks (Bill member)) = []
-
--- the board that a call is lent, if any
-abbrev pub boardLent : Call (List ℕ) → List ℕ
-boardLent (Update c n k bib v) = []
-boardLent (Query c n bib) = []
-boardLent (Yield c board) = board
-boardLent (Fork n) = []
-boardLent (Join n m board) = board
-boardLent (Sync m board) = board
-boardLent (Mark n name) = []
-boardLent (Drop name) = []
-boardLent (Bundle c n batch board) = board
-boardLent (Looks l) = []

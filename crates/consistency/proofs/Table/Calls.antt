@@ -41,6 +41,7 @@ use Rattle.sheets.specs.Sheet.{sheet}
 use Rattle.plain.specs.Record.{PlainDay, noted}
 use Rattle.plain.specs.Answers as Plain
 use Rattle.plain.specs.Answers.{Outcome, called, ending, joined, stepped}
+use Rattle.plain.proofs.Steps.{startsBox}
 use Rattle.plain.proofs.Ends.{BoxesPass, Passes, boxes-pass, drop-accepts, fork-accepts, mark-accepts, join-passes, known-kind, means, query-accepts, update-accepts, yield-accepts}
 use Rattle.table.specs.Halves.{low, high, cellsOf}
 use Rattle.table.specs.Answers as Table
@@ -77,10 +78,10 @@ module _ (p : PlainDay) (t : List ℕ) (S : Stands p t) where
   numbered n e = meant-number y n (meant y n) (means p n e)
 
   -- a step that notes no entry
-  stepped-on : (s : Step) → accepted y s ≡ true → after y s .updates ≡ y .updates → (b : List ℕ) → b ≡ stepBytes (low t) (byNumber y s) → Stands (stepped p s) (b ++ high t)
-  stepped-on s e q b x = subst (λ k. Stands (stepped p s) (k ++ high t)) (sym x) (stands-next p t S s e (stepped p s) refl refl refl (high t) (high-size p t S) (λ n h. S .entries-are n (subst (λ k. n < k) q h)))
+  stepped-on : (s : Step) → accepted y s ≡ true → after y s .updates ≡ y .updates → (b : List ℕ) → b ≡ stepBytes (low t) (byNumber y s) → Stands (stepped p s (startsBox s)) (b ++ high t)
+  stepped-on s e q b x = subst (λ k. Stands (stepped p s (startsBox s)) (k ++ high t)) (sym x) (stands-next p t S s e (stepped p s (startsBox s)) refl refl refl (high t) (high-size p t S) (λ n h. S .entries-are n (subst (λ k. n < k) q h)))
 
-  by-step : (s : Step) → accepted y s ≡ true → after y s .updates ≡ y .updates → (value w : ℕ) → w ≡ value → (b : List ℕ) → b ≡ stepBytes (low t) (byNumber y s) → OnTable (Table.taken (b ++ high t) w) (Plain.taken (stepped p s) value)
+  by-step : (s : Step) → accepted y s ≡ true → after y s .updates ≡ y .updates → (value w : ℕ) → w ≡ value → (b : List ℕ) → b ≡ stepBytes (low t) (byNumber y s) → OnTable (Table.taken (b ++ high t) w) (Plain.taken (stepped p s (startsBox s)) value)
   by-step s e q value w z b x = record { reply = same-answer 0 0 refl z refl refl; stands = stepped-on s e q b x }
 
   room : Day.logFull y ≡ false → cellsOf t .updates < Upper.updates

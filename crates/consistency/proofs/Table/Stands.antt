@@ -17,8 +17,7 @@ use Rattle.entries.specs.Entries.{entryAt}
 use Rattle.bills.specs.Bill.{counted}
 use Rattle.bills.proofs.Grows.{counted-more}
 use Rattle.plain.specs.Record.{PlainDay}
-use Rattle.plain.specs.Answers.{startsBox}
-use Rattle.plain.proofs.Steps.{sum-both, sumOver}
+use Rattle.plain.proofs.Steps.{startsBox, sum-both, sumOver}
 use Rattle.table.specs.Halves.{low, high, cellsOf, isTable}
 use Rattle.table.specs.Out.{tableBytes}
 use Rattle.table.proofs.Halves.{low-of, high-of}

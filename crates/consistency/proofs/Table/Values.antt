@@ -7,7 +7,7 @@ use lib.ListN.{length, drop}
 use Rattle.lists.specs.Lists.{_∈_}
 use Rattle.updates.specs.Applied.{applied, freshStanding}
 use Rattle.diagram.specs.Day.{Day, meant, isGiven}
-use Rattle.diagram.specs.Effects.{view}
+use Rattle.diagram.specs.Views.{view}
 use Rattle.diagram.specs.Steps.{Event, Step, run}
 use Rattle.diagram.specs.Accepted.{Accepted}
 use Rattle.diagram.proofs.Order.Runs.{fine-run}
@@ -63,7 +63,7 @@ module _ (p : PlainDay) (t : List ℕ) (S : Stands p t) (n : ℕ) (g : not (isGi
   unfolding Table.standingAt
   same-reading bib = standing-same (entryAt (high t)) (p .entries) bib _ _ same-order entries-same
 
-  pub same-standing : (c bib : ℕ) → Table.standingAt t n bib ≡ pathResult (stepped p (Event c r false)) (length (p .day .diagram)) bib
+  pub same-standing : (c bib : ℕ) → Table.standingAt t n bib ≡ pathResult (stepped p (Event c r false) 0) (length (p .day .diagram)) bib
   same-standing c bib = same-reading bib ∙ sym (reads-terminal p c r bib)
 
   lines-same : inBytes (linesOf (p .entries) (view (p .day .diagram) (p .day .terminal r))) ≡ lines (entryAt (high t)) (order (cellsOf t) n)

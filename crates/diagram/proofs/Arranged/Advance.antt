@@ -15,7 +15,8 @@ use Rattle.diagram.proofs.Graph.Events.{JoinOk, Joined, inherited-from,
 use Rattle.diagram.proofs.Graph.Events.{view-split, viewEventStep, viewEvents}
 use Rattle.diagram.proofs.Graph.Paths.{Ordered, any-elim, any-intro, leads-new, leads-old, one-more}
 use Rattle.diagram.proofs.Graph.Tables.{forkStep, tabulate-newest, tabulate-older}
-use Rattle.diagram.specs.Diagram.{Diagram, Vertex, anyOf, fork, leads, sources}
+use Rattle.diagram.specs.Diagram.{Diagram, Vertex, fork, sources}
+use Rattle.diagram.specs.Leads.{anyOf, leads}
 use Rattle.diagram.specs.Effects.{forkVertex, tabulate}
 use Rattle.lists.proofs.Cases.{cases, either, or-cases, or-right, split}
 use Rattle.lists.proofs.Changed.{changed-other, changed-same}

@@ -21,7 +21,8 @@ use Rattle.diagram.proofs.Arranged.Advance.{true-may, unseen-before}
 use Rattle.diagram.proofs.Graph.Events.{inherited-from, inheritedStep, ownEventStep, ownEvents, view-split, viewEventStep, viewEvents}
 use Rattle.diagram.proofs.Graph.Paths.{Ordered, both-older, leads-path, no-vertex, one-more, path-start}
 use Rattle.diagram.proofs.Graph.Tables.{forkStep, tabulate-older}
-use Rattle.diagram.specs.Diagram.{Diagram, Vertex, event, fork, join, leads, root, start}
+use Rattle.diagram.specs.Diagram.{Diagram, Vertex, event, fork, join, root, start}
+use Rattle.diagram.specs.Leads.{leads}
 use Rattle.diagram.specs.Effects.{forkVertex, tabulate}
 use Rattle.lists.proofs.Cases.{cases, either, or-left, or-right, split}
 use Rattle.lists.proofs.Changed.{changed-other, changed-same}

@@ -16,7 +16,8 @@ use Rattle.diagram.specs.Checks.{marked}
 use Rattle.diagram.specs.Day.{Day, IsOut}
 use Rattle.diagram.specs.Steps.{dropAt}
 use Rattle.diagram.specs.Arbitration.{eventsOf}
-use Rattle.diagram.specs.Effects.{numbers, own}
+use Rattle.diagram.specs.Effects.{numbers}
+use Rattle.diagram.specs.Views.{own}
 use Rattle.diagram.proofs.Graph.Events.{ownEvents}
 use Rattle.diagram.proofs.Graph.Visible.{view-numbers}
 use Rattle.diagram.proofs.Days.Moves.{CanDrop, dropped-out, mark-apart}

@@ -20,7 +20,8 @@ use Rattle.diagram.proofs.Graph.Tables.{tabulate-newest, tabulate-older
 use Rattle.diagram.specs.Arbitration.{eventsOf}
 use Rattle.diagram.specs.Checks.{marked}
 use Rattle.diagram.specs.Day.{Day, IsOut, Transaction}
-use Rattle.diagram.specs.Diagram.{Diagram, Vertex, event, leads}
+use Rattle.diagram.specs.Diagram.{Diagram, Vertex, event}
+use Rattle.diagram.specs.Leads.{leads}
 use Rattle.diagram.specs.Steps.{countedWith, enter, entersInto, eventsBefore}
 use Rattle.lists.proofs.Blocks.{flat-++, flat-same}
 use Rattle.lists.proofs.Cases.{cases, either, split}

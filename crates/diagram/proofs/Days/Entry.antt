@@ -14,7 +14,8 @@ use Rattle.diagram.proofs.Graph.Events.{ownEvents}
 use Rattle.diagram.proofs.Graph.Paths.{leads-trans}
 use Rattle.diagram.specs.Arbitration.{eventsOf}
 use Rattle.diagram.specs.Day.{Day, IsOut}
-use Rattle.diagram.specs.Diagram.{Diagram, leads}
+use Rattle.diagram.specs.Diagram.{Diagram}
+use Rattle.diagram.specs.Leads.{leads}
 use Rattle.diagram.specs.Steps.{countedWith, entersInto, eventsBefore}
 use Rattle.lists.proofs.Blocks.{flat-++, flatBack-nodup, flatBack-one}
 use Rattle.lists.proofs.Cases.{either}

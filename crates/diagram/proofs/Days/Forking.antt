@@ -20,7 +20,8 @@ use Rattle.diagram.specs.Arbitration.{eventsOf}
 use Rattle.lists.specs.Names.{Name}
 use Rattle.diagram.specs.Checks.{marked}
 use Rattle.diagram.specs.Day.{Day, IsOut}
-use Rattle.diagram.specs.Diagram.{Diagram, Vertex, fork, leads, start}
+use Rattle.diagram.specs.Diagram.{Diagram, Vertex, fork, start}
+use Rattle.diagram.specs.Leads.{leads}
 use Rattle.diagram.specs.Steps.{forkAt}
 use Rattle.lists.proofs.Cases.{cases, either, split}
 use Rattle.lists.proofs.Changed.{changed-other}

@@ -7,7 +7,7 @@ use mathlib.Core.Option.{Option, none, some}
 use lib.Dec.{eqb}
 use Rattle.lists.specs.Sums.{anyBelow, lastBelow}
 use Rattle.lists.proofs.Cases.{cases}
-use Rattle.diagram.specs.Names.{isSome}
+use Rattle.diagram.specs.Checks.{isSome}
 use Rattle.diagram.specs.Day.{Day, Means, isGiven, meant}
 
 abbrev pub searched : (ℕ → ℕ) → ℕ → ℕ → Option ℕ

@@ -20,7 +20,8 @@ use Rattle.diagram.proofs.Graph.Tables.{tabulate-newest, tabulate-older
 use Rattle.diagram.specs.Arbitration.{eventsOf}
 use Rattle.diagram.specs.Checks.{marked}
 use Rattle.diagram.specs.Day.{Day, IsOut}
-use Rattle.diagram.specs.Diagram.{Diagram, Vertex, join, leads}
+use Rattle.diagram.specs.Diagram.{Diagram, Vertex, join}
+use Rattle.diagram.specs.Leads.{leads}
 use Rattle.diagram.specs.Steps.{joinInto}
 use Rattle.lists.proofs.Blocks.{flat-++}
 use Rattle.lists.proofs.Cases.{cases, either, split}

@@ -12,9 +12,9 @@ use Rattle.lists.proofs.Changed.{changed-other}
 use Rattle.lists.proofs.Names.{same-name, same-self}
 use Rattle.lists.proofs.Sums.{any-at, last-passes}
 use Rattle.lists.specs.Names.{Name, fourLetters}
-use Rattle.diagram.specs.Names.{isName, isSome}
+use Rattle.diagram.specs.Names.{isName}
+use Rattle.diagram.specs.Checks.{isSome, badName, marked}
 use Rattle.diagram.specs.Day.{Day, IsOut, fresh, isNamed, markNamed}
-use Rattle.diagram.specs.Checks.{badName, marked}
 use Rattle.diagram.specs.Steps.{Drop, dropAt, forkAt, yield}
 use Rattle.diagram.specs.Accepted.{accepted}
 use Rattle.diagram.specs.Marks.{NameMeans}

@@ -12,7 +12,8 @@ use Rattle.lists.specs.Lists.{changed}
 use Rattle.lists.proofs.Sums.{any-at}
 use Rattle.lists.specs.Names.{Name}
 use Rattle.diagram.specs.Sizes.{clientLimit, revisionLimit}
-use Rattle.diagram.specs.Diagram.{Diagram, leads}
+use Rattle.diagram.specs.Diagram.{Diagram}
+use Rattle.diagram.specs.Leads.{leads}
 use Rattle.diagram.specs.Numbering.{Numbering}
 use Rattle.diagram.specs.Day.{Day, IsOut, outCount}
 use Rattle.diagram.specs.Checks.{unknownClient, isOn, openElsewhere, busyByOther, busy, stale, noneLeft, notJoinable, marked}

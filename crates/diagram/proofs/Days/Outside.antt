@@ -16,7 +16,8 @@ use Rattle.diagram.specs.Arbitration.{eventsOf}
 use Rattle.diagram.specs.Numbering.{Numbering}
 use Rattle.lists.specs.Names.{Name}
 use Rattle.diagram.specs.Day.{Day, IsOut, Transaction}
-use Rattle.diagram.specs.Diagram.{Diagram, Vertex, leads, sources}
+use Rattle.diagram.specs.Diagram.{Diagram, Vertex, sources}
+use Rattle.diagram.specs.Leads.{leads}
 use Rattle.lists.proofs.Cases.{either, split}
 use Rattle.lists.proofs.Sublists.{mem?}
 use Rattle.lists.specs.Lists.{_∈_}

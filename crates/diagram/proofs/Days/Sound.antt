@@ -14,7 +14,8 @@ use Rattle.diagram.proofs.Graph.Paths.{leads-path, path-bound}
 use Rattle.diagram.specs.Arbitration.{eventsOf}
 use Rattle.diagram.specs.Checks.{marked}
 use Rattle.diagram.specs.Day.{Day, IsOut, Transaction, fresh}
-use Rattle.diagram.specs.Diagram.{Diagram, leads}
+use Rattle.diagram.specs.Diagram.{Diagram}
+use Rattle.diagram.specs.Leads.{leads}
 use Rattle.diagram.specs.Effects.{tabulate}
 use Rattle.diagram.specs.Sizes.{clientLimit}
 use Rattle.lists.proofs.Blocks.{flat-++, flat-in, flat-nodup, flatBack-from}

@@ -8,12 +8,12 @@ use native.Mathlib.Omega.{arith}
 use lib.Dec.{eqb, ltb}
 use lib.ListN.{length}
 use borrow.Author.Tests.{eq-eqb, eqb-true, lt-ltb, ltb-false, ltb-true, ne-eqb}
-use Rattle.lists.specs.Lists.{_∈_, keep, named}
+use Rattle.lists.specs.Lists.{_∈_, keep, mapped}
 use Rattle.lists.specs.Sums.{anyBelow}
 use Rattle.lists.specs.Names.{Name}
 use Rattle.lists.proofs.Cases.{and-true, cases, either}
 use Rattle.lists.proofs.Keep.{keep-++, keep-all, keep-both, keep-in, keep-⊑}
-use Rattle.lists.proofs.Renamed.{named-++, named-keep, named-same}
+use Rattle.lists.proofs.Renamed.{mapped-++, mapped-keep, mapped-same}
 use Rattle.lists.proofs.Sublists.{⊑-⊆}
 use Rattle.lists.proofs.Sums.{any-never, any-same}
 use Rattle.diagram.specs.Sizes.{revisionLimit}
@@ -38,7 +38,7 @@ keep-rest x l d = rw (eq-eqb x x refl) (keep-all (λ n. not (eqb x n)) l (λ n i
 
 pub record Waits (y : Day) (hs : List ℕ) : Type 0 where
   pub started : (r : ℕ) → r ∈ hs → r < y .revisions
-  pub are : y .numbering .freed ≡ named (numberOf y) (keep (λ r. not (usedAgain y r)) hs)
+  pub are : y .numbering .freed ≡ mapped (numberOf y) (keep (λ r. not (usedAgain y r)) hs)
 
 -- where every number was used, one waits
 pub first-waits : (y : Day) → Named y → (r : ℕ) (name : Option Name) → CanFork y r name → ltb (y .numbering .given) revisionLimit ≡ false
@@ -70,8 +70,8 @@ module _ (y : Day) (N : Named y) (hs : List ℕ) (W : Waits y hs) where
     in-started : (r : ℕ) → r ∈ (hs ++ (b ∷ [])) → r < R
     in-started r i = either (List·Memᴰ·append-cases hs i) (W .started r) (λ j. rw (List·Memᴰ·eq-of-singleton j) (o .0))
 
-    in-waits : (y .numbering .freed ++ (numberOf y b ∷ [])) ≡ named (numberOf y) (keep last (hs ++ (b ∷ [])))
-    in-waits = rw (W .are, keep-++ last hs (b ∷ []), out-last b o) (sym (named-++ (numberOf y) (keep last hs) (b ∷ [])))
+    in-waits : (y .numbering .freed ++ (numberOf y b ∷ [])) ≡ mapped (numberOf y) (keep last (hs ++ (b ∷ [])))
+    in-waits = rw (W .are, keep-++ last hs (b ∷ []), out-last b o) (sym (mapped-++ (numberOf y) (keep last hs) (b ∷ [])))
 
   waits-join : (a b : ℕ) → CanJoin y a b → Waits (joinInto y a b) (hs ++ (b ∷ []))
   waits-join a b H = record { started = in-started b (H .out-b); are = in-waits b (H .out-b) }
@@ -97,11 +97,11 @@ module _ (y : Day) (N : Named y) (hs : List ℕ) (W : Waits y hs) where
     now s = not (usedAgain (forkAt y r name) s)
 
     -- what waits still, of those handed in
-    still : named (numberOf (forkAt y r name)) (keep now hs) ≡ keep (λ n. not (eqb new n)) (y .numbering .freed)
+    still : mapped (numberOf (forkAt y r name)) (keep now hs) ≡ keep (λ n. not (eqb new n)) (y .numbering .freed)
     still =
-        named-same (numberOf (forkAt y r name)) (numberOf y) (keep now hs) (λ s i. number-old y N r name C s (W .started s (⊑-⊆ (keep-⊑ now hs) s i)))
-        ∙ ap (named (numberOf y)) (keep-in now (λ s. last s && not (eqb new (numberOf y s))) hs (λ s i. ap not (again s (W .started s i)) ∙ turned (eqb new (numberOf y s)) (usedAgain y s)) ∙ keep-both last (λ s. not (eqb new (numberOf y s))) hs)
-        ∙ named-keep (numberOf y) (λ n. not (eqb new n)) (keep last hs)
+        mapped-same (numberOf (forkAt y r name)) (numberOf y) (keep now hs) (λ s i. number-old y N r name C s (W .started s (⊑-⊆ (keep-⊑ now hs) s i)))
+        ∙ ap (mapped (numberOf y)) (keep-in now (λ s. last s && not (eqb new (numberOf y s))) hs (λ s i. ap not (again s (W .started s i)) ∙ turned (eqb new (numberOf y s)) (usedAgain y s)) ∙ keep-both last (λ s. not (eqb new (numberOf y s))) hs)
+        ∙ mapped-keep (numberOf y) (λ n. not (eqb new n)) (keep last hs)
         ∙ ap (keep (λ n. not (eqb new n))) (sym (W .are))
 
     -- the number taken was not among them, or was the first

@@ -14,7 +14,8 @@ use Rattle.diagram.proofs.Days.Sound.{Filed, Runs, SeenWhole, Sessions,
 use Rattle.diagram.specs.Arbitration.{eventsOf}
 use Rattle.diagram.specs.Checks.{marked}
 use Rattle.diagram.specs.Day.{Day, Transaction}
-use Rattle.diagram.specs.Diagram.{Diagram, leads}
+use Rattle.diagram.specs.Diagram.{Diagram}
+use Rattle.diagram.specs.Leads.{leads}
 use Rattle.diagram.specs.Steps.{closedNow, yield}
 use Rattle.lists.proofs.Blocks.{flat-same}
 use Rattle.lists.proofs.Cases.{cases, split}

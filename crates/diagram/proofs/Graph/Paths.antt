@@ -8,7 +8,8 @@ use native.Mathlib.Omega.{arith}
 use lib.ListN.{length}
 use lib.Dec.{eqb}
 use borrow.Author.Tests.{eq-eqb, eqb-false, eqb-true, ne-eqb}
-use Rattle.diagram.specs.Diagram.{Diagram, Edge, HasPath, Vertex, anyOf, go, leads, newest, older, sources, stay}
+use Rattle.diagram.specs.Diagram.{Diagram, Edge, HasPath, Vertex, go, newest, older, sources, stay}
+use Rattle.diagram.specs.Leads.{anyOf, leads}
 use Rattle.lists.proofs.Cases.{cases, either, or-cases, or-left, or-right, split}
 
 -- every edge goes from an older vertex to a newer one

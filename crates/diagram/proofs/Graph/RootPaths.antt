@@ -14,7 +14,8 @@ use Rattle.diagram.proofs.Graph.Paths.{Ordered, both-older, edge-bounds
 use Rattle.diagram.proofs.Graph.Tables.{startStep, tabulate-newest, tabulate-older}
 use Rattle.diagram.specs.Construction.{Constructed, entered, forked, joined, rooted}
 use Rattle.diagram.specs.Diagram.{Diagram, Edge, Vertex, event, fork, join, newest, older, root, s-sources, sources, start}
-use Rattle.diagram.specs.Effects.{own, ownStep, startVertex, view, viewStep}
+use Rattle.diagram.specs.Effects.{startVertex}
+use Rattle.diagram.specs.Views.{own, ownStep, view, viewStep}
 use Rattle.diagram.specs.RootPaths.{Composed, Trail, alone, effect, effectStep, onward, sf-sources}
 
 edge-low : {from : Vertex → List ℕ} {x y : ℕ} {d : Diagram} → Edge from x y d → y < length d

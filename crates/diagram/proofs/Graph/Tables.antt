@@ -10,7 +10,8 @@ use lib.ListN.{length}
 use lib.Dec.{eqb}
 use borrow.Author.Tests.{eq-eqb, eqb-false, eqb-true, ne-eqb}
 use Rattle.diagram.proofs.Graph.Paths.{Ordered, leads-newest, leads-old, leads-up, no-vertex, one-more}
-use Rattle.diagram.specs.Diagram.{Diagram, Vertex, byGain, byOrigin, event, fork, join, leads, root, sources, start}
+use Rattle.diagram.specs.Diagram.{Diagram, Vertex, byGain, byOrigin, event, fork, join, root, sources, start}
+use Rattle.diagram.specs.Leads.{leads}
 use Rattle.diagram.specs.Effects.{startVertex, tabulate}
 use Rattle.lists.proofs.Cases.{split}
 

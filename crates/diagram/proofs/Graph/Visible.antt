@@ -15,7 +15,8 @@ use Rattle.diagram.proofs.Graph.Paths.{Ordered, no-vertex, one-more, pa
 use Rattle.diagram.proofs.Graph.Tables.{by-vertex, numberStep, tabulate-newest, tabulate-older}
 use Rattle.diagram.specs.Arbitration.{IsEvent, newest-is, older-is}
 use Rattle.diagram.specs.Diagram.{Diagram, HasPath, Vertex, event, fork, go, join, newest, root, sources, start, stay}
-use Rattle.diagram.specs.Effects.{entry, number, numbers, own, ownStep, view, viewStep}
+use Rattle.diagram.specs.Effects.{entry, number, numbers}
+use Rattle.diagram.specs.Views.{own, ownStep, view, viewStep}
 use Rattle.lists.proofs.Blocks.{flat-++, flat-same}
 use Rattle.lists.proofs.Cases.{either, split}
 use Rattle.lists.specs.Lists.{_∈_}

@@ -12,7 +12,8 @@ use Rattle.lists.specs.Lists.{changed}
 use Rattle.lists.specs.Names.{Name}
 use Rattle.lists.proofs.Cases.{cases}
 use Rattle.lists.proofs.Changed.{changed-same}
-use Rattle.diagram.specs.Diagram.{Diagram, Vertex, anyOf, event, fork, join, leads, sources, start}
+use Rattle.diagram.specs.Diagram.{Diagram, Vertex, event, fork, join, sources, start}
+use Rattle.diagram.specs.Leads.{anyOf, leads}
 use Rattle.diagram.specs.Day.{Day}
 use Rattle.diagram.specs.Checks.{marked}
 use Rattle.diagram.specs.Steps.{Fork, Step, after, dropAt, enter, forkAt, joinInto, newUpdate, run, runFrom, yield}

@@ -15,7 +15,8 @@ use Rattle.diagram.specs.Arbitration.{Numbered, eventsOf}
 use Rattle.diagram.specs.Closed.{ClosedShown, OfClosed}
 use Rattle.diagram.specs.Day.{Day, IsIdle, IsOut}
 use Rattle.diagram.specs.Diagram.{Diagram}
-use Rattle.diagram.specs.Effects.{entry, number, numbers, own, view}
+use Rattle.diagram.specs.Effects.{entry, number, numbers}
+use Rattle.diagram.specs.Views.{own, view}
 use Rattle.lists.proofs.Blocks.{flat-++, flat-from, flatBack-in, flatBack-nodup, flatBack-one, same-block}
 use Rattle.lists.proofs.Sublists.{nodup-apart}
 use Rattle.lists.specs.Lists.{_∈_, Only, drops, ends, flat, keeps}

@@ -21,7 +21,8 @@ use Rattle.diagram.specs.Checks.{notJoinable}
 use Rattle.diagram.specs.Construction.{Constructed, Joinable, entered, forked, joined, rooted}
 use Rattle.lists.specs.Names.{Name}
 use Rattle.diagram.specs.Day.{Day, IsOut, fresh}
-use Rattle.diagram.specs.Diagram.{Diagram, Edge, HasPath, Terminal, Vertex, event, f-sources, fork, j-sources, join, leads, newest}
+use Rattle.diagram.specs.Diagram.{Diagram, Edge, HasPath, Terminal, Vertex, event, f-sources, fork, j-sources, join, newest}
+use Rattle.diagram.specs.Leads.{leads}
 use Rattle.diagram.specs.Diagram.{older, root, s-sources, sources, start}
 use Rattle.diagram.specs.Effects.{forkVertex, startVertex, tabulate}
 use Rattle.diagram.specs.Steps.{Drop, Event, Fork, Join, Step, Yield, after, enter, forkAt, joinInto, newUpdate, run, yield}

@@ -16,7 +16,8 @@ use Rattle.diagram.proofs.Order.Runs.{along, fine-step}
 use Rattle.diagram.specs.Summed.{OwnAddsUp, ownIfOut}
 use Rattle.diagram.specs.Day.{Day, fresh}
 use Rattle.diagram.specs.Diagram.{Vertex, event, fork, join, start}
-use Rattle.diagram.specs.Effects.{entry, own, ownStep, tabulate}
+use Rattle.diagram.specs.Effects.{entry, tabulate}
+use Rattle.diagram.specs.Views.{own, ownStep}
 use Rattle.diagram.specs.Steps.{Step, after, dropAt, enter, forkAt, joinInto, newUpdate, run, yield}
 use Rattle.diagram.specs.Accepted.{Accepted, accepted}
 use Rattle.lists.specs.Names.{Name}

@@ -22,8 +22,10 @@ use Rattle.diagram.specs.Arbitration.{Extends, WholeAt, eventsOf}
 use Rattle.diagram.specs.Day.{Day, IsIdle, fresh}
 use Rattle.diagram.specs.Checks.{busy, isOn}
 use Rattle.diagram.specs.Sizes.{clientLimit}
-use Rattle.diagram.specs.Diagram.{Diagram, Vertex, event, fork, join, leads, start}
-use Rattle.diagram.specs.Effects.{entry, own, tabulate, view, viewStep}
+use Rattle.diagram.specs.Diagram.{Diagram, Vertex, event, fork, join, start}
+use Rattle.diagram.specs.Leads.{leads}
+use Rattle.diagram.specs.Effects.{entry, tabulate}
+use Rattle.diagram.specs.Views.{own, view, viewStep}
 use Rattle.diagram.specs.Steps.{newUpdate, yield}
 use Rattle.lists.proofs.Cases.{cases}
 use Rattle.lists.proofs.Sums.{any-never}

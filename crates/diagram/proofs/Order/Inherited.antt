@@ -19,7 +19,8 @@ use Rattle.diagram.proofs.Graph.Visible.{numbers-old, view-numbers, vie
 use Rattle.diagram.proofs.Order.Numbered.{one}
 use Rattle.diagram.specs.Arbitration.{Numbered}
 use Rattle.diagram.specs.Diagram.{Diagram, Vertex, start}
-use Rattle.diagram.specs.Effects.{entry, number, numbers, own, view}
+use Rattle.diagram.specs.Effects.{entry, number, numbers}
+use Rattle.diagram.specs.Views.{own, view}
 use Rattle.lists.proofs.Blocks.{flat-++, flat-from}
 use Rattle.lists.proofs.Cases.{either, split}
 use Rattle.lists.proofs.Sublists.{⊑-left, ⊑-right}

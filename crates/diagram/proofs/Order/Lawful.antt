@@ -20,12 +20,12 @@ use Rattle.diagram.proofs.Order.Growth.{Fine}
 use Rattle.diagram.proofs.Order.Latest.{Latest, latest, no-yield-since}
 use Rattle.diagram.proofs.Order.Runs.{accepted-first, accepted-more, accepted-rest, fine-run, marks-run, run-step}
 use Rattle.diagram.proofs.Order.Witness.{has-open, points}
-use Rattle.diagram.specs.Checks.{badName, busy, busyByOther, isElsewhere, isOn, logFull, marked, missing, noneLeft, openElsewhere, stale, unknownClient}
+use Rattle.diagram.specs.Checks.{badName, busy, busyByOther, isOn, logFull, marked, missing, noneLeft, openElsewhere, stale, unknownClient, isSome}
 use Rattle.diagram.specs.Construction.{Constructed, Joinable, entered, forked, joined}
 use Rattle.diagram.specs.Day.{Day, IsOut, fresh, isNamed, markNamed}
-use Rattle.diagram.specs.Diagram.{Diagram, Edge, HasPath, Terminal, Vertex, event, fork, join, leads, newest, older, s-sources, start}
+use Rattle.diagram.specs.Diagram.{Diagram, Edge, HasPath, Terminal, Vertex, event, fork, join, newest, older, s-sources, start}
+use Rattle.diagram.specs.Leads.{leads}
 use Rattle.diagram.specs.Lawful.{EachMayFollow, GoodName, Lawful, Marked, MayFollow, There, Unmarked, Within}
-use Rattle.diagram.specs.Names.{isSome}
 use Rattle.diagram.specs.Sizes.{clientLimit, revisionLimit, updateLimit}
 use Rattle.diagram.specs.Steps.{Drop, Event, Fork, Join, Step, Yield, after, newUpdate, run, runFrom}
 use Rattle.diagram.specs.Accepted.{Accepted, AcceptedFrom, RunsExactly, TakenExactly, YieldsLawful, accepted, misnamed, notGiven}
@@ -33,7 +33,8 @@ use Rattle.diagram.specs.Witness.{NoEvent, NoYield}
 use Rattle.lists.proofs.Cases.{cases, either, or-false}
 use Rattle.lists.proofs.Names.{four-letters}
 use Rattle.lists.proofs.Sums.{any-never}
-use Rattle.lists.specs.Names.{FourLetters, Name, fourLetters}
+use Rattle.lists.specs.Names.{Name, fourLetters}
+use Rattle.lists.specs.Letters.{FourLetters}
 
 -- Definition 6, read backwards: the newest vertices were put at terminals
 entered-at : {t c : ℕ} {u : Option ℕ} {d : Diagram} → Constructed (event t c u ∷ d) → Terminal d t
@@ -179,7 +180,7 @@ module _ (ss : List Step) (A : Accepted ss) where
     unfolding openElsewhere
     not-elsewhere h = by (y .openBy c) refl
       where
-        by : (p : Option ℕ) → y .openBy c ≡ p → isElsewhere y p r ≡ false
+        by : (p : Option ℕ) → y .openBy c ≡ p → (isSome p && not (isOn y p r)) ≡ false
         by none q = refl
         by (some t) q =
             cases (eqb (y .transaction t .revision) r)

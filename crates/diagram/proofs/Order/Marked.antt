@@ -12,9 +12,11 @@ use Rattle.lists.proofs.Cases.{cases}
 use Rattle.lists.proofs.Names.{four-letters}
 use Rattle.diagram.specs.Checks.{marked}
 use Rattle.diagram.specs.Construction.{Joinable}
-use Rattle.diagram.specs.Effects.{forkVertex, own, view}
+use Rattle.diagram.specs.Effects.{forkVertex}
+use Rattle.diagram.specs.Views.{own, view}
 use Rattle.diagram.specs.Day.{Day, markNamed, shownAt}
-use Rattle.diagram.specs.Diagram.{HasPath, leads}
+use Rattle.diagram.specs.Diagram.{HasPath}
+use Rattle.diagram.specs.Leads.{leads}
 use Rattle.diagram.specs.Arbitration.{Sees}
 use Rattle.diagram.specs.Steps.{Drop, Step, run, runFrom}
 use Rattle.diagram.specs.Accepted.{Accepted}
@@ -99,12 +101,10 @@ by-marks ss A =
     let M = marks-run ss A in
     record {
       means = name-means (run ss) M;
-      apart = M .apart;
       drops = λ n e. taken-exactly ss A (Drop (markNamed (run ss) n)) .0 (drop-accepts (run ss) M n e);
       letters = λ r n e. four-letters n .0 (M .letters r n e);
       out = M .out;
       idle = λ r e b. none-open (run ss) (F .layout) (F .hold) (F .sound) r e (b .0) (b .1) (b .2) (b .3);
-      unwritten = nothing-own ss A;
       still = still ss A;
       still-later = still-later ss A;
       by-starts = λ r x K. by-starts ss A r K x;

@@ -15,7 +15,7 @@ use Rattle.diagram.proofs.Order.Growth.{Fine, Older, extends, fine-fres
 use Rattle.diagram.proofs.Order.Numbered.{numbered-fresh, numbered-moves}
 use Rattle.diagram.specs.Arbitration.{Extends, Numbered}
 use Rattle.diagram.specs.Day.{Day, fresh}
-use Rattle.diagram.specs.Effects.{view}
+use Rattle.diagram.specs.Views.{view}
 use Rattle.diagram.specs.Steps.{Step, after, run, runFrom, yield}
 use Rattle.diagram.specs.Accepted.{Accepted, AcceptedFrom, accepted}
 

@@ -22,7 +22,8 @@ use Rattle.diagram.proofs.Order.Runs.{accepted-first, accepted-more, ac
 use Rattle.diagram.specs.Counts.{OwnUpdates, SeenSince}
 use Rattle.diagram.specs.Day.{IsOut}
 use Rattle.diagram.specs.Diagram.{Diagram, HasPath, Vertex, event, fork, join, root, sources, start}
-use Rattle.diagram.specs.Effects.{entry, number, own, startVertex, view, viewStep}
+use Rattle.diagram.specs.Effects.{entry, number, startVertex}
+use Rattle.diagram.specs.Views.{own, view, viewStep}
 use Rattle.diagram.specs.Steps.{Fork, Join, Step, after, run}
 use Rattle.diagram.specs.Accepted.{Accepted, accepted}
 use Rattle.lists.proofs.Blocks.{flat-++, flat-from, flat-in}

@@ -26,7 +26,8 @@ use Rattle.diagram.specs.Arbitration.{newest-is, older-is}
 use Rattle.diagram.specs.Construction.{entered}
 use Rattle.diagram.specs.Day.{Day, IsIdle, IsOut, fresh}
 use Rattle.diagram.specs.Diagram.{Diagram, event}
-use Rattle.diagram.specs.Effects.{entry, number, numbers, view}
+use Rattle.diagram.specs.Effects.{entry, number, numbers}
+use Rattle.diagram.specs.Views.{view}
 use Rattle.diagram.specs.Steps.{Event, Step, after, nextVertex, run}
 use Rattle.diagram.specs.Accepted.{Accepted, AcceptedFrom}
 use Rattle.lists.proofs.Blocks.{flat-from, flat-in, flat-pair, flatBack-from, flatBack-in, same-block}

@@ -25,7 +25,7 @@ use Rattle.cells.specs.Cells.{Cells, nextNumber}
 use Rattle.cells.specs.Checks as Asked
 use Rattle.cells.proofs.Bearer.{no-bearer, only-bearer}
 use Rattle.following.specs.Follow.{CellsFollow}
-use Rattle.diagram.specs.Names.{isSome}
+use Rattle.diagram.specs.Checks.{isSome}
 use Rattle.lists.specs.Names.{Name, fourLetters, sameName}
 use Rattle.following.proofs.Cells.Laid.{Laid, same-number}
 use Rattle.following.proofs.Cells.Ordered.{order-is, shown-few}
@@ -59,11 +59,11 @@ module _ (y : Day) (m : Machine) (k : Cells) (D : Follows y m) (L : Laid y m) (h
       by none e = let b = low n r g in ne-eqb closed n (λ z. omega arith)
       by (some t) e = means-test (y .transaction t .revision) n r (open-out c t e) g
 
-  elsewhere : (c n r : ℕ) → c < clients → found y n ≡ some r → Asked.openElsewhere k c n ≡ Day.isElsewhere y (y .openBy c) r
+  elsewhere : (c n r : ℕ) → c < clients → found y n ≡ some r → Asked.openElsewhere k c n ≡ (isSome (y .openBy c) && not (Day.isOn y (y .openBy c) r))
   elsewhere c n r l g = rw (opened-is c l) (by (y .openBy c) refl)
     where
       by : (q : Option ℕ) → y .openBy c ≡ q
-          → (not (eqb (openCell (numberOf y) (revisionOf (y .transaction) q)) closed) && not (eqb (openCell (numberOf y) (revisionOf (y .transaction) q)) n)) ≡ Day.isElsewhere y q r
+          → (not (eqb (openCell (numberOf y) (revisionOf (y .transaction) q)) closed) && not (eqb (openCell (numberOf y) (revisionOf (y .transaction) q)) n)) ≡ (isSome q && not (Day.isOn y q r))
       by none e = refl
       by (some t) e = let b = open-low c t e in rw (ne-eqb (numberOf y (y .transaction t .revision)) closed (λ z. omega arith), means-test (y .transaction t .revision) n r (open-out c t e) g)
 

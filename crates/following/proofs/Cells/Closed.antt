@@ -18,7 +18,8 @@ use Rattle.diagram.specs.Arbitration.{eventsOf}
 use Rattle.diagram.specs.Checks.{busy, isOn}
 use Rattle.diagram.specs.Closed.{ClosedShown}
 use Rattle.diagram.specs.Day.{Day, IsBusy, IsIdle, IsOut, numberOf}
-use Rattle.diagram.specs.Effects.{entry, numbers, own, view}
+use Rattle.diagram.specs.Effects.{entry, numbers}
+use Rattle.diagram.specs.Views.{own, view}
 use Rattle.diagram.specs.Sizes.{clientLimit}
 use Rattle.diagram.specs.Steps.{Drop, Event, Fork, Join, Step, Yield, after, enter, forkAt, newUpdate, yield}
 use Rattle.diagram.proofs.Days.Moves.{CanEnter, can-enter, can-join, can-yield}

@@ -9,17 +9,17 @@ use lib.Dec.{eqb, ltb}
 use lib.ListN.{length, take}
 use lib.Seq.{length-take-le, take-all}
 use borrow.Author.Tests.{eq-eqb, eqb-false, eqb-true, ltb-false, ltb-true, ne-eqb}
-use Rattle.lists.specs.Lists.{_∈_, changed, named}
+use Rattle.lists.specs.Lists.{_∈_, changed, mapped}
 use Rattle.lists.specs.Arranged.{insertBefore, member}
 use Rattle.lists.specs.Names.{Name}
 use Rattle.lists.proofs.Cases.{cases, either, or-cases, or-right}
 use Rattle.lists.proofs.Changed.{changed-other, changed-same}
 use Rattle.lists.proofs.Keep.{member-++, member-in}
 use Rattle.lists.proofs.Places.{insert-back, insert-old}
-use Rattle.lists.proofs.Renamed.{named-in, named-insert, named-same}
+use Rattle.lists.proofs.Renamed.{mapped-in, mapped-insert, mapped-same}
 use Rattle.diagram.specs.Sizes.{revisionLimit}
 use Rattle.diagram.specs.Numbering.{next}
-use Rattle.diagram.specs.Names.{isSome}
+use Rattle.diagram.specs.Checks.{isSome}
 use Rattle.diagram.specs.Day.{Day, numberOf}
 use Rattle.diagram.proofs.Days.Found.{found}
 use Rattle.diagram.specs.Steps.{forkAt}
@@ -109,13 +109,13 @@ module _ (y : Day) (m : Machine) (k : Cells) (h : Represents y m k) (L : Laid y 
   main-test : eqb n main ≡ eqb p main
   main-test = ap (eqb n) (sym (h .main-number)) ∙ same-number y m L p main i (h .main-out)
 
-  fork-layout : take (suc (k .out)) (k′ .layout) ≡ named (numberOf y′) (insertBefore p R (m .layout))
+  fork-layout : take (suc (k .out)) (k′ .layout) ≡ mapped (numberOf y′) (insertBefore p R (m .layout))
   fork-layout =
-      fork-outs k n c room (rw (h .layout-is) (named-in (numberOf y) (m .layout) p i))
-      ∙ ap (insertBefore n c) (h .layout-is ∙ named-same (numberOf y) (numberOf y′) (m .layout) (λ x j. sym (old-of x j)))
-      ∙ ap (λ z. insertBefore z c (named (numberOf y′) (m .layout))) (sym (old-of p i))
-      ∙ ap (λ z. insertBefore (numberOf y′ p) z (named (numberOf y′) (m .layout))) (sym (new-of R (eq-eqb R R refl)))
-      ∙ sym (named-insert (numberOf y′) p R (m .layout) (λ x j e. apart y m L x p j i (sym (old-of x j) ∙ e ∙ old-of p i)))
+      fork-outs k n c room (rw (h .layout-is) (mapped-in (numberOf y) (m .layout) p i))
+      ∙ ap (insertBefore n c) (h .layout-is ∙ mapped-same (numberOf y) (numberOf y′) (m .layout) (λ x j. sym (old-of x j)))
+      ∙ ap (λ z. insertBefore z c (mapped (numberOf y′) (m .layout))) (sym (old-of p i))
+      ∙ ap (λ z. insertBefore (numberOf y′ p) z (mapped (numberOf y′) (m .layout))) (sym (new-of R (eq-eqb R R refl)))
+      ∙ sym (mapped-insert (numberOf y′) p R (m .layout) (λ x j e. apart y m L x p j i (sym (old-of x j) ∙ e ∙ old-of p i)))
 
   old-state : (q : Option ℕ) → ((r : ℕ) → q ≡ some r → r < y .revisions) → stateCell (y .joined) (y .mark) q ≡ stateCell (y′ .joined) (y′ .mark) q
   old-state none l = refl

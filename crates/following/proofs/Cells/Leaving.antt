@@ -9,12 +9,12 @@ use lib.Dec.{eqb}
 use lib.ListN.{length, length-set}
 use lib.Seq.{length-take-le}
 use borrow.Author.Tests.{eq-eqb, eqb-false, eqb-true, ne-eqb}
-use Rattle.lists.specs.Lists.{_∈_, changed, named}
+use Rattle.lists.specs.Lists.{_∈_, changed, mapped}
 use Rattle.lists.specs.Arranged.{remove}
 use Rattle.lists.specs.Names.{Name}
 use Rattle.lists.proofs.Cases.{cases}
 use Rattle.lists.proofs.Places.{remove-keep}
-use Rattle.lists.proofs.Renamed.{named-in, named-remove}
+use Rattle.lists.proofs.Renamed.{mapped-in, mapped-remove}
 use Rattle.diagram.specs.Day.{Day, numberOf, outCount}
 use Rattle.diagram.proofs.Days.Found.{found}
 use Rattle.diagram.proofs.Days.Naming.{meant-number}
@@ -35,18 +35,18 @@ module _ (y : Day) (m : Machine) (k : Cells) (h : Represents y m k) (L : Laid y 
   k′ = dropCells k nb
 
   listed : (x : ℕ) → x ∈ m .layout → numberOf y x ∈ outs k
-  listed x o = rw (h .layout-is) (named-in (numberOf y) (m .layout) x o)
+  listed x o = rw (h .layout-is) (mapped-in (numberOf y) (m .layout) x o)
 
   -- the main revision is out too, so that the count does not stop
   two : 1 < k .out
   two = two-out k (numberOf y main) nb (listed main (h .main-out)) (listed b j) (λ e. other (sym (apart y m L main b (h .main-out) j e)))
 
-  pub leave-layout : outs k′ ≡ named (numberOf y) (remove b (m .layout))
+  pub leave-layout : outs k′ ≡ mapped (numberOf y) (remove b (m .layout))
   leave-layout =
       let o = all-given y m k h L in
       let g = given-few y m k h L in
       drop-outs k nb (h .places) two (omega arith) (listed b j) ∙ ap (remove nb) (h .layout-is)
-      ∙ sym (named-remove (numberOf y) b (m .layout) (λ x o. apart y m L x b o j))
+      ∙ sym (mapped-remove (numberOf y) b (m .layout) (λ x o. apart y m L x b o j))
 
   pub leave-places : length (k′ .layout) ≡ revisions
   leave-places = let p = h .places in let q = remove-length nb (k .layout) in length-take-le revisions (remove nb (k .layout) ++ (0 ∷ [])) (omega arith)

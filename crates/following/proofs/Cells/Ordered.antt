@@ -15,7 +15,7 @@ use Rattle.lists.proofs.Cases.{cases, or-left}
 use Rattle.lists.proofs.Counts.{few-below}
 use Rattle.lists.proofs.Keep.{in-member, keep-++, keep-all, keep-flatBack, keep-in, keep-⊑, member-in}
 use Rattle.lists.proofs.Places.{behind-in}
-use Rattle.lists.proofs.Renamed.{flatBack-named, named-behind}
+use Rattle.lists.proofs.Renamed.{flatBack-mapped, mapped-behind}
 use Rattle.lists.proofs.Sublists.{nodup-apart, ⊑-⊆}
 use Rattle.diagram.specs.Day.{Day, numberOf}
 use Rattle.machine.specs.Machine.{Machine, shown}
@@ -84,8 +84,8 @@ module _ (y : Day) (m : Machine) (k : Cells) (h : Represents y m k) (L : Laid y 
   order-is =
       rw (
         h .layout-is,
-        named-behind (numberOf y) r (m .layout) (λ x j. apart y m L x r j i),
-        flatBack-named (inherited k n) (numberOf y) (behind r (m .layout)),
+        mapped-behind (numberOf y) r (m .layout) (λ x j. apart y m L x r j i),
+        flatBack-mapped (inherited k n) (numberOf y) (behind r (m .layout)),
         flatBack-same (λ d. inherited k n (numberOf y d)) (λ d. keep came (m .own d)) (behind r (m .layout)) (λ d j. picked d (behind-in r (m .layout) d j)),
         ← (keep-flatBack came (m .own) (behind r (m .layout))),
         h .own-is r i,

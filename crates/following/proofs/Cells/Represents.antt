@@ -8,12 +8,12 @@ use native.Mathlib.Omega.{arith}
 use lib.Dec.{ltb}
 use lib.ListN.{length, take}
 use borrow.Author.Tests.{ltb-false}
-use Rattle.lists.specs.Lists.{_∈_, firstOf, named}
+use Rattle.lists.specs.Lists.{_∈_, firstOf, mapped}
 use Rattle.lists.specs.Arranged.{member}
 use Rattle.lists.proofs.Cases.{cases}
 use Rattle.lists.specs.Names.{Name}
 use Rattle.diagram.specs.Sizes.{revisionLimit}
-use Rattle.diagram.specs.Names.{isSome}
+use Rattle.diagram.specs.Checks.{isSome}
 use Rattle.diagram.specs.Numbering.{next}
 use Rattle.diagram.specs.Day.{Day, numberOf, outCount}
 use Rattle.diagram.proofs.Days.Found.{found}
@@ -35,7 +35,7 @@ stateCell joined mark (some r) = cond (joined r) stateJoined (cond (isSome (mark
 
 pub record Represents (y : Day) (m : Machine) (k : Cells) : Type 0 where
   -- who is out, and where
-  pub layout-is : outs k ≡ named (numberOf y) (m .layout)
+  pub layout-is : outs k ≡ mapped (numberOf y) (m .layout)
   pub places : length (k .layout) ≡ revisions
   pub out-is : k .out ≡ outCount y
   pub main-out : main ∈ m .layout

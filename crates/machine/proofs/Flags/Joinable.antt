@@ -20,7 +20,8 @@ use Rattle.diagram.proofs.Order.Growth.{Fine, fine-fresh, fine-moves}
 use Rattle.diagram.specs.Checks.{notJoinable}
 use Rattle.lists.specs.Names.{Name}
 use Rattle.diagram.specs.Day.{Day, IsOut, fresh}
-use Rattle.diagram.specs.Diagram.{Diagram, leads, root}
+use Rattle.diagram.specs.Diagram.{Diagram, root}
+use Rattle.diagram.specs.Leads.{leads}
 use Rattle.diagram.specs.Steps.{dropAt, enter, forkAt, joinInto, yield}
 use Rattle.lists.proofs.Cases.{cases, either, or-cases, or-false, or-left, or-right, same-truth, split}
 use Rattle.lists.proofs.Places.{insert-pair, insert-self, insert-sub, remove-sub}

@@ -11,7 +11,8 @@ use borrow.Author.Tests.{eqb-true, ne-eqb}
 use Rattle.lists.specs.Lists.{changed}
 use Rattle.lists.proofs.Cases.{cases}
 use Rattle.lists.proofs.Changed.{changed-other, changed-same}
-use Rattle.diagram.specs.Diagram.{Diagram, Vertex, event, fork, join, leads, start}
+use Rattle.diagram.specs.Diagram.{Diagram, Vertex, event, fork, join, start}
+use Rattle.diagram.specs.Leads.{leads}
 use Rattle.lists.specs.Names.{Name}
 use Rattle.diagram.specs.Day.{Day}
 use Rattle.diagram.specs.Checks.{missing}

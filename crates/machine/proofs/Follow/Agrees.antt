@@ -16,7 +16,8 @@ use Rattle.diagram.proofs.Order.Numbered.{numbered-fresh}
 use Rattle.diagram.specs.Arbitration.{Numbered}
 use Rattle.diagram.specs.Day.{Day, IsOut, fresh}
 use Rattle.diagram.specs.Diagram.{Diagram, Vertex}
-use Rattle.diagram.specs.Effects.{own, tabulate}
+use Rattle.diagram.specs.Effects.{tabulate}
+use Rattle.diagram.specs.Views.{own}
 use Rattle.machine.specs.Machine.{Machine, freshMachine, revisionOf}
 use Rattle.lists.proofs.Cases.{cases}
 use Rattle.lists.specs.Lists.{changed}

@@ -15,7 +15,8 @@ use Rattle.diagram.proofs.Order.Inherited.{blocks-left, blocks-numbers, good-un
 use Rattle.diagram.specs.Checks.{stale}
 use Rattle.diagram.specs.Day.{Day, IsOut, fresh}
 use Rattle.diagram.specs.Diagram.{Diagram}
-use Rattle.diagram.specs.Effects.{numbers, view}
+use Rattle.diagram.specs.Effects.{numbers}
+use Rattle.diagram.specs.Views.{view}
 use Rattle.machine.specs.Machine.{Follows, Machine, freshMachine, machineAfter, machineFrom, shown}
 use Rattle.diagram.specs.Steps.{Drop, Event, Fork, Join, Step, Yield, after, run, runFrom}
 use Rattle.diagram.specs.Accepted.{Accepted, AcceptedFrom, accepted}

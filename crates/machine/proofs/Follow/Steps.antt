@@ -25,7 +25,8 @@ use Rattle.diagram.specs.Checks.{notJoinable}
 use Rattle.lists.specs.Names.{Name}
 use Rattle.diagram.specs.Day.{Day, IsOut}
 use Rattle.diagram.specs.Diagram.{Diagram, Vertex, event, fork, join, start}
-use Rattle.diagram.specs.Effects.{entry, own, ownStep, viewStep}
+use Rattle.diagram.specs.Effects.{entry}
+use Rattle.diagram.specs.Views.{own, ownStep, viewStep}
 use Rattle.machine.specs.Machine.{Machine, dropOn, enterOn, forkOn, joinOn, revisionOf, yieldOn}
 use Rattle.diagram.specs.Steps.{dropAt, enter, entersInto, newUpdate, forkAt, joinInto, yield}
 use Rattle.lists.proofs.Cases.{cases, split}
