@@ -12,7 +12,7 @@ ghost use Rattle.table.specs.Answers.{left};
 ghost use Rattle.table.specs.Calls.{boardOut, joinOut};
 use boards::check::BoardCheck;
 use boards::check::check_board;
-use forking::join::join_sound;
+use joining::join::join_sound;
 use table::answer::Answer;
 use table::board::bring;
 use table::board::settled;

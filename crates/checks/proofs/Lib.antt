@@ -1,3 +1,2 @@
--- Laws that serve several proofs: the checks of numbers, and flags.
+-- Laws that serve several proofs: the checks of numbers.
 pub mod Numbers
-pub mod Flags

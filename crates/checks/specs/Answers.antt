@@ -6,11 +6,8 @@ use mathlib.Core.List.{List}
 use Rattle.lists.specs.Names.{Name}
 use Rattle.cells.specs.Cells.{nextNumber}
 use Rattle.cells.specs.Decode.{cells}
-use Rattle.cells.specs.Range.{inRange}
 use Rattle.cells.specs.Checks.{isClient, givenOut, joined, offLine, openElsewhere, busy, busyByOther, stale, logFull, noneLeft, joinable}
 use Rattle.cells.specs.Checks.{isMark, bearer, noSuchMark, badName}
-use Rattle.checks.specs.declared.range.RangeCheck.{RangeCheck}
-use Rattle.checks.specs.declared.range.RangeCheck.the-variants as range
 use Rattle.checks.specs.declared.client.ClientCheck.{ClientCheck}
 use Rattle.checks.specs.declared.client.ClientCheck.the-variants as client
 use Rattle.checks.specs.declared.given.GivenCheck.{GivenCheck}
@@ -37,10 +34,6 @@ use Rattle.checks.specs.declared.name.NameCheck.{NameCheck}
 use Rattle.checks.specs.declared.name.NameCheck.the-variants as name
 use Rattle.checks.specs.declared.bearer.BearerCheck.{BearerCheck}
 use Rattle.checks.specs.declared.bearer.BearerCheck.the-variants as named
-
--- 1 "a cell is out of its range"
-unfoldable pub rangeCheck : List ℕ → RangeCheck
-rangeCheck d = cond (inRange d) range.Sound range.Damaged
 
 -- 2 "tablet above 15"
 unfoldable pub clientCheck : ℕ → ClientCheck

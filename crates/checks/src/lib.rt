@@ -1,5 +1,5 @@
 // The checks that the first 40,960 bytes of a table decide, a file for each code of 01. Knows nothing of what an update does.
-// The other codes are checked where their inputs are known: 5 in `updates` kind.rt and `table` bib.rt, 12 in `listing` list.rt,
+// The other codes are checked where their inputs are known: 1 in `ranges` range.rt and `table` sound.rt, 5 in `updates` kind.rt and `table` bib.rt, 12 in `listing` list.rt,
 // 13 in `dayfile` record.rt and in `report`, 14 in `bundles` check.rt.
 pub mod bearer; // bearer.rt: code 18
 pub mod busy; // busy.rt: code 7
@@ -13,5 +13,4 @@ pub mod marked; // marked.rt: code 16
 pub mod name; // name.rt: code 17
 pub mod next; // next.rt: code 10
 pub mod open; // open.rt: code 6
-pub mod range; // range.rt: code 1
 pub mod stale; // stale.rt: code 8

@@ -5,10 +5,10 @@ use mathlib.Core.Path.{_≡_, _∙_, ap}
 use Rattle.desk.specs.Calls.{Answer}
 use Rattle.card.specs.Courses.{Ask, Tables}
 use Rattle.federation.specs.Out.{FourOut, courseOut, fourLeft}
-use Rattle.federation.specs.Replies.{replied}
-use Rattle.federation.specs.declared.reply.Reply.{Reply}
-use Rattle.exports.specs.Four.{courseExported, exportedReply, fourReturned, packedReply}
-use Rattle.exports.specs.Packed.{returned}
+use Rattle.beside.specs.Replies.{replied}
+use Rattle.beside.specs.declared.reply.Reply.{Reply}
+use Rattle.packing.specs.Packed.{packedReply, returned}
+use Rattle.exports.specs.Four.{courseExported, exportedReply, fourReturned}
 
 pub gives-four : (ts : Tables) (i : ℕ) (ask : Ask) {r : ℕ} {a : Reply} {t0 t1 t2 t3 board : List ℕ}
     → r ≡ packedReply (replied a []) → fourLeft a [] t0 t1 t2 t3 board ≡ courseOut ts i ask → fourReturned r t0 t1 t2 t3 board ≡ courseExported ts i ask

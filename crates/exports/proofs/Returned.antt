@@ -7,7 +7,7 @@ use Rattle.table.specs.declared.answer.Answer.{Answer}
 use Rattle.table.specs.declared.answer.Reading.{Reading}
 use Rattle.table.specs.Answers.{left, leftRead}
 use Rattle.table.specs.Out.{Out}
-use Rattle.exports.specs.Packed.{returned, packed, packedState, stateNumber, exported}
+use Rattle.packing.specs.Packed.{returned, packed, packedState, stateNumber, exported}
 
 -- no state is no more than the code and the value
 no-state : (n : ℕ) → n ≡ 0 * 1099511627776 + n

@@ -1,14 +1,10 @@
 -- 02, U12: what an export of a call on four tables returns: the answer in one number, with the bits of its table's call, beside the lent bytes at exit.
-use Prim.Native.Nat.{ℕ, _+_, _*_}
+use Prim.Native.Nat.{ℕ}
 use mathlib.Core.List.{List, [], _∷_}
 use Rattle.desk.specs.Calls.{Answer}
 use Rattle.card.specs.Courses.{Ask, Tables}
 use Rattle.federation.specs.Out.{courseOut}
-use Rattle.exports.specs.Packed.{Returned, packedGain, returned}
-
--- a fill's total stands above its value, in bits 16 to 31; of other calls it is 0
-unfoldable pub packedReply : Answer (List ℕ) → ℕ
-packedReply a = packedGain (a .code) (a .state) (a .total * 65536 + a .value) (a .gain)
+use Rattle.packing.specs.Packed.{Returned, packedReply, returned}
 
 -- of a list: with the sheet
 unfoldable pub exportedReply : Answer (List ℕ) → Returned

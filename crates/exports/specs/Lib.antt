@@ -1,3 +1,2 @@
--- The answers of the calls as numbers, for C and Rust.
-pub mod Packed
+-- What the exports of the calls on four tables return.
 pub mod Four

@@ -6,10 +6,8 @@ ghost use mathlib.Core.Path.{_≡_};
 ghost use lib.Dec.{eqb};
 ghost use Rattle.card.specs.Courses.{Fresh, Plain, courseServed, four};
 ghost use Rattle.desk.specs.Calls.{Bill, Bundle, Drop, Fill, Fork, Join, Looks, Mark, Preview, Query, Records, Show, Sync, Update, Verify, Yield};
-ghost use Rattle.federation.specs.Replies.{replied};
-ghost use Rattle.exports.specs.Four.{courseExported, exportedReply, fourReturned, packedReply};
-ghost use Rattle.exports.specs.Packed.{returned};
-use crate::state_number;
+ghost use Rattle.packing.specs.Packed.{packedReply, returned};
+ghost use Rattle.exports.specs.Four.{courseExported, exportedReply, fourReturned};
 use federation::fresh::fresh;
 use federation::list::list;
 use federation::looks::LookCall;
@@ -18,17 +16,7 @@ use federation::on_board::BoardCall;
 use federation::on_board::on_board;
 use federation::on_table::TableCall;
 use federation::on_table::on_table;
-use federation::reply::Reply;
-
-// A fill's total in bits 16 to 31, the code from bit 32, the state from bit 40, a preview's gain from bit 48.
-fn pack_reply(a: Reply) -> u64
-    ensures { λ r. ⌜ r ≡ packedReply (replied a []) ⌝ }
-{
-    let state = a.state;
-    (a.gain as u64) * 281474976710656
-        + (state_number(state) * 1099511627776
-            + ((a.code as u64) * 4294967296 + ((a.total as u64) * 65536 + (a.value as u64))))
-}
+use packing::pack::pack_reply;
 
 #[no_mangle]
 pub extern "C" fn silttongs_course_fresh(

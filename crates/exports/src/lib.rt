@@ -1,5 +1,5 @@
 // The calls of the table for C and Rust: numbers and byte slices alone, the answer packed into one number
-// (specs/Packed.antt). A slice is passed as a pointer and a length.
+// (`packing` specs/Packed.antt). A slice is passed as a pointer and a length.
 ghost use mathlib.Core.Bool.{not};
 ghost use mathlib.Core.Path.{_≡_};
 ghost use lib.Dec.{eqb};
@@ -7,42 +7,12 @@ ghost use Prim.Native.Nat.{_≤_};
 ghost use lib.ListN.{length};
 ghost use Rattle.lists.specs.Differences.{differences};
 ghost use Rattle.table.specs.Calls.{billOut, boardOut, bundleOut, dropOut, fillOut, forkOut, freshBoard, freshOut, joinOut, listOut, markOut, previewOut, queryOut, syncOut, updateOut, verifyOut, yieldOut};
-ghost use Rattle.exports.specs.Packed.{exported, exportedAnswer, exportedLevel, exportedProspect, returned, packed, packedGain, packedState, stateNumber};
-use updates::standing::State;
+ghost use Rattle.packing.specs.Packed.{exported, exportedAnswer, exportedLevel, exportedProspect, returned};
+use packing::pack::pack;
+use packing::pack::pack_gain;
+use packing::pack::pack_state;
 
 pub mod courses; // courses.rt: the calls on four tables
-
-// The value in the lower 32 bits, the code in the eight above them.
-fn pack(code: u8, value: u32) -> u64
-    ensures { λ r. ⌜ r ≡ packed code value ⌝ }
-{
-    (code as u64) * 4294967296 + (value as u64)
-}
-
-pub(crate) fn state_number(state: State) -> u64
-    ensures { λ r. ⌜ (r ≡ stateNumber state) × (r ≤ 2) ⌝ }
-{
-    match state {
-        State::Neither => 0,
-        State::Timed => 1,
-        State::Struck => 2,
-    }
-}
-
-// A query's state besides, above the code.
-fn pack_state(code: u8, state: State, value: u32) -> u64
-    ensures { λ r. ⌜ r ≡ packedState code state value ⌝ }
-{
-    state_number(state) * 1099511627776 + ((code as u64) * 4294967296 + (value as u64))
-}
-
-// A preview's gain besides, above the state.
-fn pack_gain(code: u8, state: State, value: u32, gain: u16) -> u64
-    ensures { λ r. ⌜ r ≡ packedGain code state value gain ⌝ }
-{
-    (gain as u64) * 281474976710656
-        + (state_number(state) * 1099511627776 + ((code as u64) * 4294967296 + (value as u64)))
-}
 
 #[no_mangle]
 pub extern "C" fn silttongs_fresh(t: &mut [u8], board: &mut [u8], single: u8) -> u64

@@ -11,9 +11,9 @@ use Rattle.table.specs.Served.{onBoard, onTable, outReply}
 use Rattle.table.specs.declared.answer.Answer.{Answer}
 use Rattle.table.specs.declared.answer.Reading.{Reading}
 use Rattle.card.specs.Courses.{madeFresh}
+use Rattle.beside.specs.Replies.{ofAnswer, ofReading, replied}
+use Rattle.beside.specs.declared.reply.Reply.{Reply}
 use Rattle.federation.specs.Out.{servedAs}
-use Rattle.federation.specs.Replies.{ofAnswer, ofReading, replied}
-use Rattle.federation.specs.declared.reply.Reply.{Reply}
 
 pub answers : {r : Reply} {a : Answer} {t : List ℕ} {o : Out} → r ≡ ofAnswer a → left a t ≡ o → servedAs r [] t [] ≡ onTable o
 answers {t = t} e f = ap (λ r. servedAs r [] t []) e ∙ ap onTable f

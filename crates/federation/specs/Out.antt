@@ -4,8 +4,8 @@ use mathlib.Core.List.{List, [], _∷_}
 use Rattle.desk.specs.Calls.{Answer}
 use Rattle.table.specs.Served.{Served}
 use Rattle.card.specs.Courses.{Ask, Tables, courseServed, written}
-use Rattle.federation.specs.Replies.{replied}
-use Rattle.federation.specs.declared.reply.Reply.{Reply}
+use Rattle.beside.specs.Replies.{replied}
+use Rattle.beside.specs.declared.reply.Reply.{Reply}
 
 -- of one table, and the board lent to it
 abbrev pub servedAs : Reply → List ℕ → List ℕ → List ℕ → Served

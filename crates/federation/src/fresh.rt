@@ -3,9 +3,9 @@ ghost use mathlib.Core.List.{[]};
 ghost use mathlib.Core.Path.{_≡_};
 ghost use Rattle.card.specs.Courses.{four, Fresh, madeFresh};
 ghost use Rattle.federation.specs.Out.{courseOut, fourLeft, servedAs};
-use crate::reply::Reply;
-use crate::reply::no_course;
-use crate::reply::of_answer;
+use beside::reply::Reply;
+use beside::reply::no_course;
+use beside::reply::of_answer;
 
 fn make(t: &mut [u8], board: &mut [u8], single: bool) -> Reply
     ensures { λ r. ⌜ servedAs r [] (now (t .exit)) (now (board .exit)) ≡ madeFresh (now (t .entry)) single (now (board .entry)) ⌝ }

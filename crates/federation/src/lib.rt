@@ -5,5 +5,3 @@ pub mod list; // list.rt: the call list, with a sheet
 pub mod looks; // looks.rt: calls that only look
 pub mod on_board; // on_board.rt: calls that a board is lent to
 pub mod on_table; // on_table.rt: calls on the table alone
-pub mod others; // others.rt: 1 of the other three tables, and the room that they leave
-pub mod reply; // reply.rt: what a call answers

@@ -3,11 +3,11 @@ ghost use mathlib.Core.Path.{_≡_};
 ghost use Rattle.card.specs.Courses.{Plain, courseServed, four};
 ghost use Rattle.card.specs.Room.{servedBeside};
 ghost use Rattle.desk.specs.Calls.{Looks, Show};
-ghost use Rattle.federation.specs.Replies.{replied};
-use crate::others::check_three;
-use crate::reply::Reply;
-use crate::reply::no_course;
-use crate::reply::of_answer;
+ghost use Rattle.beside.specs.Replies.{replied};
+use beside::others::check_three;
+use beside::reply::Reply;
+use beside::reply::no_course;
+use beside::reply::of_answer;
 use table::sound::TableCheck;
 
 // The call on the table t beside the other three.

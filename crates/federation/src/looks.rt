@@ -5,14 +5,14 @@ ghost use Rattle.card.specs.Courses.{Plain, courseServed, four};
 ghost use Rattle.card.specs.Room.{servedBeside};
 ghost use Rattle.desk.specs.Calls.{Looks};
 ghost use Rattle.table.specs.Served.{looked};
+ghost use Rattle.beside.specs.Replies.{replied};
 ghost use Rattle.federation.specs.Calls.{lookCall};
-ghost use Rattle.federation.specs.Replies.{replied};
-use crate::others::check_three;
-use crate::reply::Reply;
-use crate::reply::no_course;
-use crate::reply::of_answer;
-use crate::reply::of_level;
-use crate::reply::of_prospect;
+use beside::others::check_three;
+use beside::reply::Reply;
+use beside::reply::no_course;
+use beside::reply::of_answer;
+use beside::reply::of_level;
+use beside::reply::of_prospect;
 use table::sound::TableCheck;
 
 // A verify has its file beside: an enum holds no slice.

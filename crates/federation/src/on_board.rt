@@ -6,11 +6,11 @@ ghost use Rattle.card.specs.Room.{servedBeside};
 ghost use Rattle.table.specs.Shared.{above};
 ghost use Rattle.federation.specs.Calls.{boardCall};
 ghost use Rattle.federation.specs.Out.{courseOut, fourLeft, servedAs};
-use crate::others::check_three;
-use crate::others::most_beside;
-use crate::reply::Reply;
-use crate::reply::no_course;
-use crate::reply::of_answer;
+use beside::others::check_three;
+use beside::others::most_beside;
+use beside::reply::Reply;
+use beside::reply::no_course;
+use beside::reply::of_answer;
 use table::sound::TableCheck;
 
 // A bundle has its records beside: an enum holds no slice.

@@ -6,12 +6,12 @@ ghost use Rattle.card.specs.Room.{servedBeside};
 ghost use Rattle.table.specs.Shared.{above};
 ghost use Rattle.federation.specs.Calls.{tableCall};
 ghost use Rattle.federation.specs.Out.{courseOut, fourLeft, servedAs};
-use crate::others::check_three;
-use crate::others::most_beside;
-use crate::reply::Reply;
-use crate::reply::no_course;
-use crate::reply::of_answer;
-use crate::reply::of_reading;
+use beside::others::check_three;
+use beside::others::most_beside;
+use beside::reply::Reply;
+use beside::reply::no_course;
+use beside::reply::of_answer;
+use beside::reply::of_reading;
 use table::sound::TableCheck;
 
 // A mark and a drop have their name beside: an enum holds no slice.

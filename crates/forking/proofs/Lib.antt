@@ -1,5 +1,4 @@
--- Laws of a fork's checks and of a cleared table, and the calls from what their checks find.
+-- Laws of a fork's checks and of a cleared table, and the call from what its checks find.
 pub mod Checks
 pub mod Cleared
 pub mod Calls
-pub mod Syncs

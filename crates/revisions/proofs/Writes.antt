@@ -1,5 +1,5 @@
 -- Each step is its writes in a row: from what every write says of the bytes before and after it to the step's definition.
-use Prim.Native.Nat.{ℕ, suc, _+_, _-_, _/_, _%_, _<_, _≤_}
+use Prim.Native.Nat.{ℕ, suc, _+_, _-_, _<_, _≤_}
 use mathlib.Core.Bool.{Bool, true, false, cond}
 use mathlib.Core.Path.{_≡_, refl, sym, ap, fun-ext, _∙_}
 use mathlib.Core.List.{List, [], _∷_, _++_}
@@ -8,35 +8,29 @@ use native.Mathlib.Omega.{arith}
 use lib.Dec.{eqb, ltb}
 use lib.ListN.{length, set, take, replicate, length-replicate, length-set}
 use lib.Seq.{getD-set-other, set-getD, set-set}
-use borrow.Author.Tests.{eq-eqb, eqb-true, le-ltb, lt-ltb, ne-eqb}
+use borrow.Author.Tests.{eqb-true, le-ltb, lt-ltb, ne-eqb}
 use Rattle.lists.specs.Lists.{restOf}
 use Rattle.lists.specs.Arranged.{insertBefore, remove, replaced}
 use Rattle.lists.specs.Names.{Name}
 use Rattle.lists.proofs.Cases.{cases}
 use Rattle.cells.specs.Sizes.{lowerBytes, revisions, clients, closed, main, stateOut, stateJoined, stateMarked}
-use Rattle.cells.specs.Parts.{Parts, Sized, parts, offset, size, split, glue, wrote, _⟨_≔_⟩, rowsPart, lowPart, highPart, seenPart, caughtPart, statePart, usedPart, lastPart, firstPart}
+use Rattle.cells.specs.Parts.{Parts, Sized, parts, offset, size, split, glue, wrote, _⟨_≔_⟩, rowsPart, seenPart, caughtPart, statePart, usedPart}
 use Rattle.cells.specs.Parts.{countPart, basePart, layoutPart, queuePart, openedPart, countersPart, namesPart, singlePart, settledPart, startedPart, signaturePart}
 use Rattle.cells.specs.Range.{signature}
-use Rattle.cells.specs.Words.{putWord, putHalf, putName}
+use Rattle.cells.specs.Words.{putWord, putName}
 use Rattle.cells.specs.Flags.{pack, putRow}
 use Rattle.cells.specs.Decode.{decode}
 use Rattle.lists.specs.Pool.{forkPool, joinPool}
 use Rattle.cells.specs.CellSteps.{counted, oneFewer, closeSettled, forkCaught, forkRow, forkStarted, joinCaught}
-use Rattle.cells.specs.Steps.{queryParts, linkParts, appendParts, putRowOf, inheritParts, branchParts, spliceParts, mergeParts, dropParts}
+use Rattle.cells.specs.Steps.{queryParts, appendParts, putRowOf, inheritParts, branchParts, spliceParts, mergeParts, dropParts}
 use Rattle.cells.specs.Steps.{freshBytes, queryBytes, updateBytes, closeBytes, forkBytes, markBytes, joinBytes, dropBytes}
-use Rattle.cells.proofs.Parts.{Holds, glue-split, holds-split, holds-put, holds-step, holds-wrote, sized-with, split-is, with-same}
-use Rattle.cells.proofs.Words.{putWord-length, putHalf-length, putName-length}
+use Rattle.cells.proofs.Parts.{Holds, holds-split, holds-put, holds-step, holds-wrote, sized-with, split-is, with-same}
+use Rattle.cells.proofs.Words.{putName-length}
 use Rattle.cells.proofs.Sized.{append-sized, caught-sized, caughtRow-sized, branch-sized, drop-sized, inherit-sized}
-use Rattle.cells.proofs.Sized.{layout-sized, link-sized, merge-sized, query-sized, row-sized, seen-sized, seenRow-sized, splice-sized}
+use Rattle.cells.proofs.Sized.{layout-sized, merge-sized, query-sized, row-sized, seen-sized, seenRow-sized, splice-sized}
 use Rattle.cells.proofs.Places.{insert-length, remove-length}
+use Rattle.linking.proofs.Writes.{byte-wrote, word-wrote}
 use Rattle.revisions.specs.Pieces.{freshCounts, freshRevisions, numberParts, startParts}
-
--- a byte, and a word, of one part
-byte-wrote : {d d′ : List ℕ} {p : Parts} (i r v : ℕ) → Holds d p → d′ ≡ wrote d i (set (split d i) r v) → Holds d′ (p ⟨ i ≔ set (p i) r v ⟩)
-byte-wrote {p = p} i r v h e = holds-wrote i (λ t. set t r v) h e (length-set (p i) r v ∙ h .sized .of i)
-
-word-wrote : {d d′ : List ℕ} {p : Parts} (i r v : ℕ) → Holds d p → d′ ≡ wrote d i (putWord (split d i) r v) → Holds d′ (p ⟨ i ≔ putWord (p i) r v ⟩)
-word-wrote {p = p} i r v h e = holds-wrote i (λ t. putWord t r v) h e (putWord-length (p i) r v ∙ h .sized .of i)
 
 -- part i put in whole
 abbrev pub Put : List ℕ → List ℕ → ℕ → List ℕ → Type 0
@@ -99,12 +93,6 @@ branched p q c = cases (ltb (decode p .given) revisions)
     stays = ap (set A 3) (sym (getD-set-other (p countersPart) 2 3 (suc (decode p .out)) 0 (λ f. absurd (omega arith)))) ∙ set-getD A 3 0
 
 module _ (d : List ℕ) (l : length d ≡ lowerBytes) where
-  pub link-done : (d₁ d₂ : List ℕ) (u v : ℕ) → d₁ ≡ wrote d lowPart (set (split d lowPart) u (v % 256)) → d₂ ≡ wrote d₁ highPart (putHalf (split d₁ highPart) u (v / 256)) → d₂ ≡ glue (linkParts (split d) u v)
-  link-done d₁ d₂ u v e₁ e₂ =
-      let h = holds-split d l in
-      let h₁ = byte-wrote lowPart u (v % 256) h e₁ in
-      holds-wrote highPart (λ t. putHalf t u (v / 256)) h₁ e₂ (putHalf-length (split d highPart) u _ ∙ h .sized .of highPart) .eq
-
   pub query-done : (d₁ d₂ : List ℕ) (c r v : ℕ) → c < clients → v ≡ r → d₁ ≡ wrote d caughtPart (putRow 8 (split d caughtPart) c (λ y. eqb y r)) → d₂ ≡ wrote d₁ openedPart (set (split d₁ openedPart) c v) → d₂ ≡ queryBytes d c r
   unfolding queryBytes
   query-done d₁ d₂ c r v cl ev e₁ e₂ =
@@ -119,43 +107,12 @@ module _ (d : List ℕ) (l : length d ≡ lowerBytes) where
       let h₁ = byte-wrote openedPart c closed (holds-split d l) e₁ in
       word-wrote settledPart 0 v h₁ e₂ .eq ∙ rw ev
 
-  pub append-done : (d₁ d₂ d₃ d₄ d₅ : List ℕ) (r u last count first : ℕ)
-      → u ≡ decode (split d) .updates → last ≡ decode (split d) .last r → count ≡ counted (decode (split d) .count r + 1) → first ≡ cond (eqb (decode (split d) .count r) 0) u (decode (split d) .first r)
-      → d₁ ≡ glue (linkParts (split d) u last) → d₂ ≡ wrote d₁ lastPart (putWord (split d₁ lastPart) r u) → d₃ ≡ wrote d₂ firstPart (putWord (split d₂ firstPart) r first)
-      → d₄ ≡ wrote d₃ countPart (putWord (split d₃ countPart) r count) → d₅ ≡ wrote d₄ countersPart (putWord (split d₄ countersPart) 0 (u + 1))
-      → d₅ ≡ glue (appendParts (split d) r)
-  append-done d₁ d₂ d₃ d₄ d₅ r u last count first eu el ec ef e₁ e₂ e₃ e₄ e₅ =
-      let h = holds-split d l in
-      let h₁ = holds-step (λ q. linkParts q u last) h e₁ (link-sized (h .sized) u last) in
-      let h₂ = word-wrote lastPart r u h₁ e₂ in
-      let h₃ = word-wrote firstPart r first h₂ e₃ in
-      let h₄ = word-wrote countPart r count h₃ e₄ in
-      word-wrote countersPart 0 (u + 1) h₄ e₅ .eq ∙ rw (ec, add-one, add-one, ef, eu, el)
-
   pub update-done : (d₁ d₂ : List ℕ) (c r : ℕ) → c < clients → d₁ ≡ glue (appendParts (split d) r) → d₂ ≡ queryBytes d₁ c r → d₂ ≡ updateBytes d c r
   unfolding queryBytes updateBytes
   update-done d₁ d₂ c r cl e₁ e₂ =
       let h = holds-split d l in
       let h₁ = holds-step (λ q. appendParts q r) h e₁ (append-sized (h .sized) r) in
       holds-step (λ q. queryParts q c r) h₁ e₂ (query-sized (h₁ .sized) c r cl) .eq
-
-  same-parts : (p : Parts) → p ⟨ lowPart ≔ p lowPart ⟩ ⟨ highPart ≔ p highPart ⟩ ⟨ lastPart ≔ p lastPart ⟩ ⟨ firstPart ≔ p firstPart ⟩ ≡ p
-  same-parts p = rw (with-same p lowPart) (rw (with-same p highPart) (rw (with-same p lastPart) (with-same p firstPart)))
-
-  -- nothing to splice
-  pub splice-none : (a b n : ℕ) → n ≡ decode (split d) .count b → n ≡ 0 → d ≡ glue (spliceParts (split d) a b)
-  splice-none a b n en z = rw (eq-eqb (decode (split d) .count b) 0 (sym en ∙ z), same-parts (split d)) (sym (glue-split d l))
-
-  pub splice-done : (d₁ d₂ d₃ : List ℕ) (a b n from to end first : ℕ)
-      → n ≡ decode (split d) .count b → (n ≡ 0 → ⊥) → from ≡ decode (split d) .first b → to ≡ decode (split d) .last a → end ≡ decode (split d) .last b
-      → first ≡ cond (eqb (decode (split d) .count a) 0) from (decode (split d) .first a)
-      → d₁ ≡ glue (linkParts (split d) from to) → d₂ ≡ wrote d₁ lastPart (putWord (split d₁ lastPart) a end) → d₃ ≡ wrote d₂ firstPart (putWord (split d₂ firstPart) a first)
-      → d₃ ≡ glue (spliceParts (split d) a b)
-  splice-done d₁ d₂ d₃ a b n from to end first en nz ef et ee eg e₁ e₂ e₃ =
-      let h = holds-split d l in
-      let h₁ = holds-step (λ q. linkParts q from to) h e₁ (link-sized (h .sized) from to) in
-      let h₂ = word-wrote lastPart a end h₁ e₂ in
-      word-wrote firstPart a first h₂ e₃ .eq ∙ rw (ne-eqb (decode (split d) .count b) 0 (λ z. nz (en ∙ z)), eg, ef, et, ee)
 
   pub merge-done : (d₁ d₂ d₃ d₄ d₅ : List ℕ) (a b m n t v : ℕ) → a < revisions → m ≡ decode (split d) .count a → n ≡ decode (split d) .count b → t ≡ counted (m + n)
       → v ≡ cond (eqb a main) t (decode (split d) .settled)

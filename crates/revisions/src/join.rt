@@ -10,9 +10,9 @@ ghost use Rattle.cells.specs.Decode.{cells};
 ghost use Rattle.cells.specs.Range.{inRange};
 ghost use Rattle.cells.specs.Steps.{joinBytes, mergeParts};
 use crate::drop;
-use crate::own;
 use fields::read;
 use fields::write;
+use linking::own;
 use sizes::numbers::Revision;
 
 // How many of the main revision's own updates are settled once a has `total`: all, where a is that revision.

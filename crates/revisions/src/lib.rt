@@ -5,6 +5,5 @@ pub mod fresh; // fresh.rt: a new day
 pub mod inherit; // inherit.rt: what a forked revision inherits
 pub mod join; // join.rt: a revision joins another
 pub mod mark; // mark.rt: a revision is marked
-pub mod own; // own.rt: own lists and their links written
 pub mod record; // record.rt: an update or a query is recorded
 pub mod transactions; // transactions.rt: open transactions

@@ -7,8 +7,8 @@ ghost use Rattle.cells.specs.Sizes.{lowerBytes, clients, revisions, updates};
 ghost use Rattle.cells.specs.Decode.{cells};
 ghost use Rattle.cells.specs.Range.{inRange};
 ghost use Rattle.cells.specs.Steps.{queryBytes, updateBytes};
-use crate::own;
 use crate::transactions;
+use linking::own;
 use sizes::numbers::Client;
 use sizes::numbers::Revision;
 

@@ -11,8 +11,8 @@ use Rattle.lists.proofs.Told.{held, failed, Told, told}
 use Rattle.boards.specs.Board.{boardBytes, boardCheck, isWrongBoard}
 use Rattle.boards.specs.declared.check.BoardCheck.the-variants as board
 use Rattle.cells.specs.Range.{inRange}
-use Rattle.checks.specs.Answers.{rangeCheck}
-use Rattle.checks.specs.declared.range.RangeCheck.the-variants as range
+use Rattle.ranges.specs.Answers.{rangeCheck}
+use Rattle.ranges.specs.declared.range.RangeCheck.the-variants as range
 use Rattle.table.specs.Halves.{low, isTable}
 use Rattle.table.specs.Out.{tableBytes}
 use Rattle.table.specs.Checks.{lengthCheck, tableCheck}

@@ -1,8 +1,8 @@
 // Code 1: the buffer has the length of a table, and is a table.
 ghost use mathlib.Core.Path.{_≡_};
 ghost use Rattle.table.specs.Checks.{lengthCheck, tableCheck};
-use checks::range::RangeCheck;
-use checks::range::check_range;
+use ranges::range::RangeCheck;
+use ranges::range::check_range;
 use sizes::table::Table;
 
 pub enum LengthCheck {

@@ -1,7 +1,7 @@
 -- `exports::silttongs_fill` meets its contract: it returns the two numbers of `table`. Assumes nothing.
 use mathlib.Core.Path.{_∙_, ap}
 use borrow.Author.Needs.{needs}
-use Rattle.exports.specs.Packed.{exportedLevel}
+use Rattle.packing.specs.Packed.{exportedLevel}
 use Rattle.exports.proofs.silttongs_fill.Statement.{statement}
 use Rattle.exports.proofs.silttongs_fill.Tie as tie
 

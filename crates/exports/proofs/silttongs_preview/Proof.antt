@@ -1,7 +1,7 @@
 -- `exports::silttongs_preview` meets its contract: it returns the numbers of `previewing`. Assumes nothing.
 use mathlib.Core.Path.{_∙_, ap}
 use borrow.Author.Needs.{needs}
-use Rattle.exports.specs.Packed.{exportedProspect}
+use Rattle.packing.specs.Packed.{exportedProspect}
 use Rattle.exports.proofs.silttongs_preview.Statement.{statement}
 use Rattle.exports.proofs.silttongs_preview.Tie as tie
 

@@ -1,7 +1,7 @@
 -- `exports::silttongs_verify` meets its contract: it returns the code and the value of `table`. Assumes nothing.
 use mathlib.Core.Path.{_∙_, ap}
 use borrow.Author.Needs.{needs}
-use Rattle.exports.specs.Packed.{exportedAnswer}
+use Rattle.packing.specs.Packed.{exportedAnswer}
 use Rattle.exports.proofs.silttongs_verify.Statement.{statement}
 use Rattle.exports.proofs.silttongs_verify.Tie as tie
 

@@ -1,7 +1,7 @@
 -- `checks::name::is_four_letters` meets its contract: the length, and each of four bytes. Assumes nothing.
 use Prim.Native.Nat.{ℕ}
 use mathlib.Core.Bool.{Bool, _&&_, false, and-true}
-use mathlib.Core.Path.{_≡_, _∙_, ap, sym}
+use mathlib.Core.Path.{_≡_, _∙_, ap, sym, ap₂}
 use mathlib.Core.List.{List}
 use native.Mathlib.Omega.{arith}
 use lib.Dec.{ltb}
@@ -11,7 +11,6 @@ use borrow.Author.Tests.{eq-eqb, ne-eqb}
 use Rattle.lists.specs.Names.{allLetters, fourLetters}
 use Rattle.cells.specs.Words.{byte}
 use Rattle.cells.proofs.Words.{four-bytes}
-use Rattle.checks.proofs.Flags.{both}
 use Rattle.checks.proofs.name.is_four_letters.Statement.{statement}
 use Rattle.checks.proofs.name.is_four_letters.Tie as tie
 
@@ -39,7 +38,7 @@ returns-2 c =
     let at-second = at-third .before .before in
     let at-first = at-second .before .before in
     let start = at-first .before .before .before .before in
-    both (at-first .is-letter .ensures) (both (at-second .is-letter2 .ensures) (both (at-third .is-letter3 .ensures) (c .is-letter4 .ensures)))
+    ap₂ _&&_ (at-first .is-letter .ensures) (ap₂ _&&_ (at-second .is-letter2 .ensures) (ap₂ _&&_ (at-third .is-letter3 .ensures) (c .is-letter4 .ensures)))
     ∙ by-letters (start .args .name .now) (omega arith)
 
 pub is-four-letters-spec : {M : Type 1} → statement M

@@ -1,11 +1,11 @@
 -- `checks::name::is_letter` meets its contract: at least A and at most Z. Assumes nothing.
 use Prim.Native.Nat.{ℕ, suc}
-use mathlib.Core.Path.{_≡_, _∙_, sym}
+use mathlib.Core.Bool.{_&&_}
+use mathlib.Core.Path.{_≡_, _∙_, sym, ap₂}
 use native.Mathlib.Omega.{arith}
 use lib.Dec.{leb, ltb}
 use borrow.Author.Tests.{le-leb, lt-leb, ltb-false, ltb-true}
 use Rattle.lists.proofs.Cases.{cases}
-use Rattle.checks.proofs.Flags.{both}
 use Rattle.checks.proofs.name.is_letter.Statement.{statement}
 use Rattle.checks.proofs.name.is_letter.Tie as tie
 
@@ -16,7 +16,7 @@ at-most : (a b : ℕ) → leb a b ≡ ltb a (suc b)
 at-most a b = cases (ltb a (suc b)) (λ e. let h = ltb-true a (suc b) e in le-leb a b (omega arith) ∙ sym e) (λ e. lt-leb a b (ltb-false a (suc b) e) ∙ sym e)
 
 returns : tie.Need-returns
-returns c = both (at-least 64 (c .args .b)) (at-most (c .args .b) 90)
+returns c = ap₂ _&&_ (at-least 64 (c .args .b)) (at-most (c .args .b) 90)
 
 pub is-letter-spec : {M : Type 1} → statement M
 is-letter-spec = tie.close (tie.spec returns)

@@ -1,7 +1,7 @@
 -- `exports::courses::silttongs_course_fill` meets its contract: it returns the answer of the call on four tables. Assumes nothing.
 use mathlib.Core.Path.{_∙_, ap}
 use borrow.Author.Needs.{needs}
-use Rattle.exports.specs.Four.{packedReply}
+use Rattle.packing.specs.Packed.{packedReply}
 use Rattle.exports.proofs.courses.silttongs_course_fill.Statement.{statement}
 use Rattle.exports.proofs.courses.silttongs_course_fill.Tie as tie
 

@@ -3,8 +3,8 @@ use mathlib.Core.Path.{_∙_, ap, sym}
 use borrow.Author.Needs.{needs}
 use Rattle.card.proofs.Courses.{no-such-course}
 use Rattle.card.proofs.Room.{by-number}
+use Rattle.beside.specs.Replies.{replied}
 use Rattle.federation.proofs.Numbers.{other-number}
-use Rattle.federation.specs.Replies.{replied}
 use Rattle.table.specs.Served.{Served}
 use Rattle.federation.proofs.list.list.Statement.{statement}
 use Rattle.federation.proofs.list.list.Tie as tie

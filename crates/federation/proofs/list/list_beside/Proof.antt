@@ -1,9 +1,9 @@
 -- `federation::list::list_beside` meets its contract: 1 of the other three, then the call. Assumes nothing.
 use mathlib.Core.Path.{_∙_, ap, sym}
 use borrow.Author.Needs.{needs}
+use Rattle.beside.proofs.Beside.{beside-none, beside-tables}
+use Rattle.beside.specs.Replies.{replied}
 use Rattle.federation.proofs.Answers.{shows}
-use Rattle.federation.proofs.Beside.{beside-none, beside-tables}
-use Rattle.federation.specs.Replies.{replied}
 use Rattle.table.specs.Served.{Served}
 use Rattle.federation.proofs.list.list_beside.Statement.{statement}
 use Rattle.federation.proofs.list.list_beside.Tie as tie

@@ -4,9 +4,9 @@ use mathlib.Core.Path.{_∙_, ap, sym}
 use borrow.Author.Needs.{needs}
 use Rattle.card.proofs.Courses.{no-such-course}
 use Rattle.card.proofs.Room.{by-number}
+use Rattle.beside.specs.Replies.{replied}
 use Rattle.federation.proofs.Blank.{look-turned}
 use Rattle.federation.proofs.Numbers.{other-number}
-use Rattle.federation.specs.Replies.{replied}
 use Rattle.table.specs.Served.{Served}
 use Rattle.federation.proofs.looks.looks.Statement.{statement}
 use Rattle.federation.proofs.looks.looks.Tie as tie

@@ -2,9 +2,9 @@
 use mathlib.Core.List.{[]}
 use mathlib.Core.Path.{_∙_, ap, sym}
 use borrow.Author.Needs.{needs}
-use Rattle.federation.proofs.Beside.{beside-none, beside-tables}
+use Rattle.beside.proofs.Beside.{beside-none, beside-tables}
+use Rattle.beside.specs.Replies.{replied}
 use Rattle.federation.proofs.Blank.{look-turned}
-use Rattle.federation.specs.Replies.{replied}
 use Rattle.table.specs.Served.{Served}
 use Rattle.federation.proofs.looks.on_beside.Statement.{statement}
 use Rattle.federation.proofs.looks.on_beside.Tie as tie

@@ -1,7 +1,7 @@
 -- `federation::looks::on_own` meets its contract: each look is its call. Assumes nothing.
 use mathlib.Core.Path.{_∙_, ap}
 use borrow.Author.Needs.{needs}
-use Rattle.federation.specs.Replies.{ofAnswer, ofLevel, ofProspect, replied}
+use Rattle.beside.specs.Replies.{ofAnswer, ofLevel, ofProspect, replied}
 use Rattle.federation.proofs.looks.on_own.Statement.{statement}
 use Rattle.federation.proofs.looks.on_own.Tie as tie
 

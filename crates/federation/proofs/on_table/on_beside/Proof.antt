@@ -3,7 +3,7 @@ use mathlib.Core.List.{[]}
 use mathlib.Core.Path.{_∙_, ap, sym}
 use borrow.Author.Needs.{needs}
 use Rattle.card.specs.Courses.{sharing}
-use Rattle.federation.proofs.Beside.{beside-none, beside-tables, long-tables}
+use Rattle.beside.proofs.Beside.{beside-none, beside-tables, long-tables}
 use Rattle.federation.proofs.Blank.{table-turned}
 use Rattle.federation.specs.Calls.{tableCall}
 use Rattle.federation.specs.Out.{servedAs}

@@ -1,0 +1,2 @@
+-- A sync from what its checks find.
+pub mod Syncs

@@ -1,0 +1,2 @@
+-- Laws of own lists: each change is its writes in a row.
+pub mod Writes

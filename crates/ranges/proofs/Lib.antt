@@ -1,0 +1,2 @@
+-- A law that serves the loops.
+pub mod Flags

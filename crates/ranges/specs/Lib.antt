@@ -1,0 +1,2 @@
+-- The answer of the check.
+pub mod Answers
