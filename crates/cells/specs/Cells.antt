@@ -1,4 +1,4 @@
--- No claim rests on this file: it serves the code.
+-- Of the claims only `VerdictsFit` (crate consistency, a verify on any buffer) rests on this file; else it serves the code.
 -- The cells as functions of a revision, a client or an update: docs/CELLS.md, "What the cells mean".
 use Prim.Native.Nat.{ℕ, zero, suc, _-_}
 use mathlib.Core.Bool.{Bool, cond, _&&_}

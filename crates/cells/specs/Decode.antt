@@ -1,4 +1,4 @@
--- No claim rests on this file: it serves the code.
+-- Of the claims only `VerdictsFit` (crate consistency, a verify on any buffer) rests on this file; else it serves the code.
 -- What the parts, and so the bytes, mean as cells. Every function is 0 or false outside its range.
 use Prim.Native.Nat.{ℕ, zero, suc}
 use mathlib.Core.Bool.{Bool, false}

@@ -1,4 +1,4 @@
--- No claim rests on this file: it serves the code.
+-- Of the claims only `VerdictsFit` (crate consistency, a verify on any buffer) rests on this file; else it serves the code.
 -- The order of a revision: the updates visible at its terminal, as 01 lists them: "in the order in which the effects apply on
 -- the way from the root". Total on every content; in range, at most 4,096 entries of at most 64 lists of at most 4,096.
 use Prim.Native.Nat.{ℕ}

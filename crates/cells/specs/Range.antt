@@ -1,4 +1,5 @@
--- Of the claims only `StaysTable` (crate consistency) rests on this file; else it serves the code.
+-- Of the claims those about any buffer rest on this file: `StaysTable`, `FreshMakesTable` (crate consistency), `OnesExactly`, `OnceAllMade` and
+-- `BundlesOneByOne` (crate courses). Else it serves the code.
 -- Code 1, "a cell is out of its range": docs/CELLS.md, "Ranges". Fixed numbers; rows, links, flags and names have every byte in range.
 use Prim.Native.Nat.{ℕ}
 use mathlib.Core.Bool.{Bool, _&&_}

@@ -19,7 +19,8 @@ use Rattle.entries.specs.Entries.{entryAt}
 use Rattle.following.specs.Reached.{cellsAfter}
 use Rattle.following.proofs.Follow.{same-cells}
 use Rattle.following.proofs.Shown.{Quiet, lengthens, quiet-brings, run-shown}
-use Rattle.plain.specs.Record.{PlainDay, freshDay, standingOf}
+use Rattle.entries.specs.Folded.{standingOf}
+use Rattle.plain.specs.Record.{PlainDay, freshDay}
 use Rattle.plain.specs.Answers.{called, dayAfter, dayFrom}
 use Rattle.plain.specs.Boards.{Brings, HasRight, Right, bibOf, updateOf}
 use Rattle.plain.specs.Taken.{stepOf, stepsAfter, stepsOf}

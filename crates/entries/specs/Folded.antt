@@ -1,4 +1,3 @@
--- No claim rests on this file: it serves the code.
 -- The standing of one bib: the updates of the bib among some numbers, "applied to the fresh values", in their order.
 use Prim.Native.Nat.{ℕ}
 use mathlib.Core.List.{List}

@@ -1,4 +1,4 @@
--- No claim rests on this file: it serves proofs and code. Further words for lists: one element put in or taken out, some replaced, blocks last to first.
+-- Of the claims only those about boards rest on this file (`replaced`); else it serves proofs and code. Further words for lists: one element put in or taken out, some replaced, blocks last to first.
 use Prim.Native.Nat.{ℕ, _+_}
 use mathlib.Core.Bool.{Bool, false, cond, _||_}
 use mathlib.Core.List.{List, [], _∷_, _++_}

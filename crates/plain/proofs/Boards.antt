@@ -11,10 +11,10 @@ use Rattle.boards.specs.Board.{bibs, boardBytes, boardOf, postedAll}
 use Rattle.boards.proofs.Entries.{entries-length}
 use Rattle.boards.proofs.Posted.{board-same, fresh-right, stays-right}
 use Rattle.entries.specs.declared.entry.Entry.{Entry}
-use Rattle.entries.specs.Folded.{ofBib}
+use Rattle.entries.specs.Folded.{ofBib, standingOf}
 use Rattle.entries.proofs.Folded.{applied-both}
 use Rattle.diagram.specs.Effects.{tabulate}
-use Rattle.plain.specs.Record.{PlainDay, freshDay, standingOf}
+use Rattle.plain.specs.Record.{PlainDay, freshDay}
 use Rattle.plain.specs.Boards.{Brings, OneRight, Right, bibOf, updateOf}
 use Rattle.plain.proofs.LineUp.{ofBib-same}
 

@@ -10,7 +10,7 @@ use Rattle.desk.specs.Calls.{Bill, Bundle, Call, Drop, Fill, Fork, Join, Looks,
 use Rattle.desk.proofs.Checks.{_also_}
 use Rattle.diagram.proofs.Days.Naming.{meant-low}
 use Rattle.diagram.proofs.Days.Marking.{Marks}
-use Rattle.entries.specs.Folded.{ofBib}
+use Rattle.entries.specs.Folded.{ofBib, standingOf}
 use Rattle.diagram.proofs.Graph.Tables.{numberStep, tabulate-newest}
 use Rattle.diagram.proofs.Order.Growth.{Fine, busy-idle, tabulate-stays}
 use Rattle.diagram.proofs.Order.Inherited.{entry-is}
@@ -47,7 +47,7 @@ use Rattle.plain.specs.Bundles.{AllTaken, Bundled, part, parts}
 use Rattle.plain.specs.Told.{AnsweredBy, ListedBy, Told}
 use Rattle.plain.specs.LineUp.{LineUp}
 use Rattle.entries.specs.declared.entry.Entry.{Entry}
-use Rattle.plain.specs.Record.{PlainDay, linesOf, noted, pathResult, standingOf}
+use Rattle.plain.specs.Record.{PlainDay, linesOf, noted, pathResult}
 use Rattle.updates.specs.Applied.{applied, freshStanding}
 use Rattle.updates.specs.Kinds.{kindOf}
 

@@ -15,7 +15,8 @@ use Rattle.diagram.specs.Steps.{after}
 use Rattle.diagram.proofs.Graph.Tables.{tabulate-newest}
 use Rattle.boards.specs.Board.{boardBytes}
 use Rattle.desk.proofs.Checks.{_also_}
-use Rattle.plain.specs.Record.{PlainDay, pathResult, standingOf}
+use Rattle.entries.specs.Folded.{standingOf}
+use Rattle.plain.specs.Record.{PlainDay, pathResult}
 use Rattle.plain.specs.Answers.{called, joined, stepped}
 use Rattle.plain.specs.Previews.{Foresees, joinOf}
 use Rattle.plain.proofs.Ends.{preview-passes, was-taken}

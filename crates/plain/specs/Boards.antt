@@ -8,7 +8,8 @@ use Rattle.boards.specs.Board.{boardOf, postedAll}
 use Rattle.boards.specs.Posted.{Posted}
 use Rattle.diagram.specs.Closed.{ClosedShown}
 use Rattle.desk.specs.Calls.{Call}
-use Rattle.plain.specs.Record.{PlainDay, standingOf}
+use Rattle.entries.specs.Folded.{standingOf}
+use Rattle.plain.specs.Record.{PlainDay}
 use Rattle.plain.specs.Answers.{dayAfter}
 
 -- "It shows box 0 by closed transactions only", "equal to working it out afresh": how each bib stands after the updates that box 0's line end sees, of closed

@@ -6,8 +6,8 @@ use Rattle.lists.specs.Lists.{changed, mapped}
 use Rattle.updates.specs.declared.kind.Kind.{Kind}
 use Rattle.updates.specs.declared.kind.Kind.the-variants.{Time}
 use Rattle.updates.specs.declared.standing.Standing.{Standing}
-use Rattle.updates.specs.Applied.{applied, freshStanding, ofBib}
 use Rattle.entries.specs.declared.entry.Entry.{Entry}
+use Rattle.entries.specs.Folded.{standingOf}
 use Rattle.diagram.specs.Views.{view}
 use Rattle.diagram.specs.Day as Day
 use Rattle.diagram.specs.Day.{Day}
@@ -29,10 +29,6 @@ pub record PlainDay : Type 0 where
 -- "It begins with box 0 out, at the root": no update has been taken yet. "Fresh gains a choice of such a day."
 abbrev pub freshDay : Bool → PlainDay
 freshDay single = record { single = single; day = Day.fresh; entries = λ n. record { kind = Time; client = 0; bib = 0; v = 0 }; started = 1 }
-
--- the updates of one bib among some numbers, "applied to the fresh values"
-abbrev pub standingOf : (ℕ → Entry) → ℕ → List ℕ → Standing
-standingOf entries bib ns = applied (ofBib (λ n. entries n .bib) (λ n. record { kind = entries n .kind; v = entries n .v }) bib ns) freshStanding
 
 -- 002, Definition 9: the path-result of a vertex, for one bib. 01: "A query's answer is the effects along its path from the
 -- root that uses no join edge, applied to the fresh values."

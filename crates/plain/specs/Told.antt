@@ -11,7 +11,8 @@ use Rattle.diagram.specs.Day.{Day, meant}
 use Rattle.diagram.specs.Reuse.{Takes}
 use Rattle.diagram.specs.Arbitration.{Shows, WholeAt}
 use Rattle.desk.specs.Calls.{Call, Update, Query, Yield, Fork, Join, Sync, Mark, Drop, Bundle, Looks, Show, Fill, Preview, Verify, Bill, Answer, entriesOf, plainly, reading}
-use Rattle.plain.specs.Record.{PlainDay, Line, standingOf, linesOf}
+use Rattle.entries.specs.Folded.{standingOf}
+use Rattle.plain.specs.Record.{PlainDay, Line, linesOf}
 use Rattle.plain.specs.Answers.{Outcome, answers, dayAfter}
 use Rattle.plain.specs.Taken.{endOf, stepsAfter}
 use Rattle.plain.specs.Bundles.{Bundled}

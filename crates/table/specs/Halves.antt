@@ -1,4 +1,5 @@
--- Of the claims only `StaysTable` (crate consistency) and those of specs/Light rest on this file; else it serves the definitions of the calls. The lent buffer in halves: the revisions' 40,960 bytes, then the entries' 24,576.
+-- The lent buffer in halves: the revisions' 40,960 bytes, then the entries' 24,576. Of the claims those of specs/Light rest on this file, and those about any
+-- buffer: `StaysTable`, `FreshMakesTable` (crate consistency), `OnesExactly`, `OnceAllMade` and `BundlesOneByOne` (crate courses). Else it serves the definitions of the calls.
 use Prim.Native.Nat.{ℕ}
 use mathlib.Core.Bool.{Bool, _&&_}
 use mathlib.Core.List.{List}

@@ -17,7 +17,6 @@ use Rattle.entries.specs.Entries.{entryAt}
 use Rattle.entries.specs.Folded as Folded
 use Rattle.sheets.specs.Lines.{line}
 use Rattle.sheets.specs.Sheet.{lines, sheet}
-use Rattle.plain.specs.Record as Plain
 use Rattle.plain.specs.Record.{PlainDay, linesOf, pathResult}
 use Rattle.plain.specs.Answers.{stepped}
 use Rattle.plain.proofs.Ends.{meaning}
@@ -29,7 +28,7 @@ use Rattle.consistency.specs.Table.{inBytes, sheetWith}
 use Rattle.consistency.proofs.Table.Stands.{Stands, numbers-are}
 
 -- a bib's standing by entries that are stored as they were entered
-pub standing-same : (f : ℕ → Entry) (g : ℕ → Entry) (bib : ℕ) (ns ms : List ℕ) → ns ≡ ms → ((k : ℕ) → k ∈ ms → f k ≡ g k) → Folded.standingOf f bib ns ≡ Plain.standingOf g bib ms
+pub standing-same : (f : ℕ → Entry) (g : ℕ → Entry) (bib : ℕ) (ns ms : List ℕ) → ns ≡ ms → ((k : ℕ) → k ∈ ms → f k ≡ g k) → Folded.standingOf f bib ns ≡ Folded.standingOf g bib ms
 standing-same f g bib ns ms e h = ap (λ us. applied us freshStanding) (ap (Folded.ofBib f bib) e ∙ ofBib-same (f) g bib ms h)
 
 -- the lines in bytes, of the entries as they are stored and as they were entered
