@@ -3,7 +3,7 @@ use mathlib.Core.List.{[]}
 use mathlib.Core.Path.{_∙_, ap, sym}
 use native.Mathlib.Omega.{arith}
 use borrow.Author.Needs.{needs}
-use Rattle.beside.proofs.Number.{known-course, unknown-course}
+use Rattle.beside.proofs.Numbers.{known-course, unknown-course}
 use Rattle.card.proofs.Courses.{fresh-by-number}
 use Rattle.card.specs.Courses.{four}
 use Rattle.federation.proofs.Numbers.{left-first, left-fourth, left-none, left-second, left-third, last-number}

@@ -1,7 +1,7 @@
 -- `federation::list::list` meets its contract: the course's table, beside the other three. Assumes nothing.
 use mathlib.Core.Path.{_∙_, ap, sym}
 use borrow.Author.Needs.{needs}
-use Rattle.beside.proofs.Number.{known-course, unknown-course}
+use Rattle.beside.proofs.Numbers.{known-course, unknown-course}
 use Rattle.card.proofs.Courses.{no-such-course}
 use Rattle.card.proofs.Room.{by-number}
 use Rattle.beside.specs.Replies.{replied}
