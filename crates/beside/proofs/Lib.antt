@@ -1,2 +1,3 @@
--- Laws of what the check of the other three tables finds.
+-- Laws of what the checks of a course's number and of the other three tables find.
 pub mod Beside
+pub mod Numbers

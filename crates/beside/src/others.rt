@@ -15,6 +15,9 @@ use table::sound::TableCheck;
 pub(crate) struct Card {}
 
 impl Card {
+    // Courses are 0 to 3.
+    pub const COURSES: u8 = 4;
+
     pub const UPDATES: usize = 8192;
 
     pub const ASSURED: usize = 1024;

@@ -11,12 +11,13 @@ use Rattle.card.specs.Courses.{Ask, Tables, courseServed, turnedAway, written, 
 use Rattle.card.proofs.Courses.{no-such-course}
 use Rattle.federation.specs.Out.{FourOut, courseOut}
 
-pub other-number : (i : ℕ) → (i ≡ 0 → ⊥) → (i ≡ 1 → ⊥) → (i ≡ 2 → ⊥) → (i ≡ 3 → ⊥) → i < courses → ⊥
-other-number zero n0 n1 n2 n3 l = n0 refl
-other-number (suc zero) n0 n1 n2 n3 l = n1 refl
-other-number (suc (suc zero)) n0 n1 n2 n3 l = n2 refl
-other-number (suc (suc (suc zero))) n0 n1 n2 n3 l = n3 refl
-other-number (suc (suc (suc (suc i)))) n0 n1 n2 n3 l = omega arith
+-- the course that is none of the first three
+pub last-number : (i : ℕ) → (i ≡ 0 → ⊥) → (i ≡ 1 → ⊥) → (i ≡ 2 → ⊥) → i < courses → i ≡ 3
+last-number zero n0 n1 n2 l = absurd (n0 refl)
+last-number (suc zero) n0 n1 n2 l = absurd (n1 refl)
+last-number (suc (suc zero)) n0 n1 n2 l = absurd (n2 refl)
+last-number (suc (suc (suc zero))) n0 n1 n2 l = refl
+last-number (suc (suc (suc (suc i)))) n0 n1 n2 l = absurd (omega arith)
 
 -- the four tables with course i's as s has it
 abbrev leaving : Tables → ℕ → Served → FourOut

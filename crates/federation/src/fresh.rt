@@ -3,6 +3,8 @@ ghost use mathlib.Core.List.{[]};
 ghost use mathlib.Core.Path.{_≡_};
 ghost use Rattle.card.specs.Courses.{four, Fresh, madeFresh};
 ghost use Rattle.federation.specs.Out.{courseOut, fourLeft, servedAs};
+use beside::number::CourseCheck;
+use beside::number::check_course;
 use beside::reply::Reply;
 use beside::reply::no_course;
 use beside::reply::of_answer;
@@ -24,6 +26,9 @@ pub fn fresh(
 ) -> Reply
     ensures { λ r. ⌜ fourLeft r [] (now (t0 .exit)) (now (t1 .exit)) (now (t2 .exit)) (now (t3 .exit)) (now (board .exit)) ≡ courseOut (four (now (t0 .entry)) (now (t1 .entry)) (now (t2 .entry)) (now (t3 .entry))) course (Fresh single (now (board .entry))) ⌝ }
 {
+    let CourseCheck::Known = check_course(course) else {
+        return no_course();
+    };
     if course == 0 {
         return make(t0, board, single);
     }
@@ -33,8 +38,5 @@ pub fn fresh(
     if course == 2 {
         return make(t2, board, single);
     }
-    if course == 3 {
-        return make(t3, board, single);
-    }
-    no_course()
+    make(t3, board, single)
 }

@@ -4,6 +4,8 @@ ghost use Rattle.card.specs.Courses.{Plain, courseServed, four};
 ghost use Rattle.card.specs.Room.{servedBeside};
 ghost use Rattle.desk.specs.Calls.{Looks, Show};
 ghost use Rattle.beside.specs.Replies.{replied};
+use beside::number::CourseCheck;
+use beside::number::check_course;
 use beside::others::check_three;
 use beside::reply::Reply;
 use beside::reply::no_course;
@@ -31,6 +33,9 @@ pub fn list(
 ) -> Reply
     ensures { λ r. ⌜ replied r (now (sheet .exit)) ≡ courseServed (four (now (t0 .entry)) (now (t1 .entry)) (now (t2 .entry)) (now (t3 .entry))) course (Plain (Looks (Show revision (now (sheet .entry))))) .reply ⌝ }
 {
+    let CourseCheck::Known = check_course(course) else {
+        return no_course();
+    };
     if course == 0 {
         return list_beside(t0, t1, t2, t3, revision, sheet);
     }
@@ -40,8 +45,5 @@ pub fn list(
     if course == 2 {
         return list_beside(t2, t0, t1, t3, revision, sheet);
     }
-    if course == 3 {
-        return list_beside(t3, t0, t1, t2, revision, sheet);
-    }
-    no_course()
+    list_beside(t3, t0, t1, t2, revision, sheet)
 }

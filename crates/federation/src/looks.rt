@@ -7,6 +7,8 @@ ghost use Rattle.desk.specs.Calls.{Looks};
 ghost use Rattle.table.specs.Served.{looked};
 ghost use Rattle.beside.specs.Replies.{replied};
 ghost use Rattle.federation.specs.Calls.{lookCall};
+use beside::number::CourseCheck;
+use beside::number::check_course;
 use beside::others::check_three;
 use beside::reply::Reply;
 use beside::reply::no_course;
@@ -57,6 +59,9 @@ pub fn looks(
 ) -> Reply
     ensures { λ r. ⌜ replied r [] ≡ courseServed (four (now (t0 .entry)) (now (t1 .entry)) (now (t2 .entry)) (now (t3 .entry))) course (Plain (Looks (lookCall look (now (file .entry))))) .reply ⌝ }
 {
+    let CourseCheck::Known = check_course(course) else {
+        return no_course();
+    };
     if course == 0 {
         return on_beside(t0, t1, t2, t3, look, file);
     }
@@ -66,8 +71,5 @@ pub fn looks(
     if course == 2 {
         return on_beside(t2, t0, t1, t3, look, file);
     }
-    if course == 3 {
-        return on_beside(t3, t0, t1, t2, look, file);
-    }
-    no_course()
+    on_beside(t3, t0, t1, t2, look, file)
 }

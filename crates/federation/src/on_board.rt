@@ -6,6 +6,8 @@ ghost use Rattle.card.specs.Room.{servedBeside};
 ghost use Rattle.table.specs.Shared.{above};
 ghost use Rattle.federation.specs.Calls.{boardCall};
 ghost use Rattle.federation.specs.Out.{courseOut, fourLeft, servedAs};
+use beside::number::CourseCheck;
+use beside::number::check_course;
 use beside::others::check_three;
 use beside::others::most_beside;
 use beside::reply::Reply;
@@ -72,6 +74,9 @@ pub fn on_board(
 ) -> Reply
     ensures { λ r. ⌜ fourLeft r [] (now (t0 .exit)) (now (t1 .exit)) (now (t2 .exit)) (now (t3 .exit)) (now (board .exit)) ≡ courseOut (four (now (t0 .entry)) (now (t1 .entry)) (now (t2 .entry)) (now (t3 .entry))) course (Plain (boardCall call (now (board .entry)) (now (records .entry)))) ⌝ }
 {
+    let CourseCheck::Known = check_course(course) else {
+        return no_course();
+    };
     if course == 0 {
         return on_beside(t0, board, t1, t2, t3, call, records);
     }
@@ -81,8 +86,5 @@ pub fn on_board(
     if course == 2 {
         return on_beside(t2, board, t0, t1, t3, call, records);
     }
-    if course == 3 {
-        return on_beside(t3, board, t0, t1, t2, call, records);
-    }
-    no_course()
+    on_beside(t3, board, t0, t1, t2, call, records)
 }

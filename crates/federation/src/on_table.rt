@@ -6,6 +6,8 @@ ghost use Rattle.card.specs.Room.{servedBeside};
 ghost use Rattle.table.specs.Shared.{above};
 ghost use Rattle.federation.specs.Calls.{tableCall};
 ghost use Rattle.federation.specs.Out.{courseOut, fourLeft, servedAs};
+use beside::number::CourseCheck;
+use beside::number::check_course;
 use beside::others::check_three;
 use beside::others::most_beside;
 use beside::reply::Reply;
@@ -77,6 +79,9 @@ pub fn on_table(
 ) -> Reply
     ensures { λ r. ⌜ fourLeft r [] (now (t0 .exit)) (now (t1 .exit)) (now (t2 .exit)) (now (t3 .exit)) [] ≡ courseOut (four (now (t0 .entry)) (now (t1 .entry)) (now (t2 .entry)) (now (t3 .entry))) course (Plain (tableCall call (now (name .entry)))) ⌝ }
 {
+    let CourseCheck::Known = check_course(course) else {
+        return no_course();
+    };
     if course == 0 {
         return on_beside(t0, t1, t2, t3, call, name);
     }
@@ -86,8 +91,5 @@ pub fn on_table(
     if course == 2 {
         return on_beside(t2, t0, t1, t3, call, name);
     }
-    if course == 3 {
-        return on_beside(t3, t0, t1, t2, call, name);
-    }
-    no_course()
+    on_beside(t3, t0, t1, t2, call, name)
 }
