@@ -15,7 +15,7 @@ use Rattle.diagram.specs.Day.{Day, isNamed, outCount}
 unfoldable pub unknownClient : ℕ → Bool
 unknownClient c = not (ltb c clientLimit)
 
--- whether there is one
+-- whether there is one at all: an open transaction, a name
 abbrev pub isSome : {A : Type 0} → Option A → Bool
 isSome none = false
 isSome (some a) = true

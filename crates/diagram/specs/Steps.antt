@@ -54,15 +54,16 @@ withClients y updates lastEvent openBy transactions transaction = record {
   transaction = transaction;
 }
 
--- "a vertex at the box's line end"
+-- one more vertex, at a revision's terminal
 abbrev pub grown : Day → ℕ → Vertex → Day
 grown y r vertex = withBoxes y (vertex ∷ y .diagram) (changed (y .terminal) r (length (y .diagram))) (y .joined) (y .numbering) (y .mark)
 
--- handed in, or dropped: its number is freed
+-- a revision that is handed in, or dropped: its number is freed
 abbrev pub handIn : Day → ℕ → (ℕ → Option Name) → Day
 handIn y r mark = withBoxes y (y .diagram) (y .terminal) (changed (y .joined) r true) (handedIn (y .numbering) r) mark
 
--- "It goes into the tablet's open transaction or opens one, and is the tablet's last event."
+-- "Update, query: a vertex at the box's line end. It goes into the tablet's open transaction or opens one, and is the
+-- tablet's last event."
 abbrev pub entersInto : Day → Option ℕ → ℕ
 entersInto y none = y .transactions
 entersInto y (some t) = t
