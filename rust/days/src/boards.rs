@@ -23,10 +23,12 @@ pub fn fault_of_boards<T: Clone + PartialEq>(
     let mut day = Day::fresh();
     let (mut board, mut any) = (vec![0; BOARD], any_board(&mut rng));
     calls.iter().find_map(|call| {
-        let (before, any_before, mut other) = (day.clone(), any.clone(), table.clone());
+        // What comes before a call that takes no board is not looked at.
+        let before = call.takes_a_board().then(|| day.clone());
+        let (any_before, mut other) = (any.clone(), table.clone());
         let right = day.call(call);
         let given = [make(&mut table, &mut board, call), make(&mut other, &mut any, call)];
-        let left = rightly_left(&before, &day, call, &right, &any_before);
+        let left = rightly_left(before.as_ref().unwrap_or(&day), &day, call, &right, &any_before);
         let fault = if given.iter().any(|given| *given != right) {
             Some(format!("gives {} and {}, not {right}", given[0], given[1]))
         } else if table != other {
@@ -42,8 +44,17 @@ pub fn fault_of_boards<T: Clone + PartialEq>(
     })
 }
 
+/// Whether a call may change what a right board shows: no other closes a transaction, or brings something to
+/// box 0.
+pub fn may_change_boards(call: &Call, answer: &Answer) -> bool {
+    answer.code == Code::Accepted && call.takes_a_board()
+}
+
 /// Where two boards first differ, in words.
 fn difference(board: &[u8], right: &[u8], what: &str) -> Option<String> {
+    if board == right {
+        return None;
+    }
     let at = board.iter().zip(right).position(|(byte, right)| byte != right)?;
     let entry = at / ENTRY * ENTRY..at / ENTRY * ENTRY + ENTRY;
     let (found, right) = (&board[entry.clone()], &right[entry]);
@@ -85,7 +96,7 @@ pub fn rightly_left(
     board: &[u8],
 ) -> Vec<u8> {
     match call {
-        _ if answer.code != Code::Accepted || !call.takes_a_board() => board.to_vec(),
+        _ if !may_change_boards(call, answer) => board.to_vec(),
         Call::Fresh { .. } => vec![0; BOARD],
         _ => {
             let mut left = board.to_vec();

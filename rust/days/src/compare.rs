@@ -1,8 +1,9 @@
 //! The literal replay against the baseline, answer by answer and board by board.
 
-use calls::{Answer, Call};
+use calls::{Answer, Call, BOARD};
 use literal::Day;
 
+use crate::boards::may_change_boards;
 use crate::reads::{every_fill, every_list, every_preview};
 
 /// The first call that the two answer differently, or after which their boards differ, in words.
@@ -43,20 +44,25 @@ fn disagreement_with(calls: &[Call], reads: impl Fn(&Day) -> Vec<Call>) -> Optio
 struct Both {
     literal: Day,
     baseline: baseline::Day,
+    /// As worked out afresh when it may have changed last.
+    board: Vec<u8>,
 }
 
 impl Both {
     fn fresh() -> Self {
-        Both { literal: Day::fresh(), baseline: baseline::Day::fresh() }
+        Both { literal: Day::fresh(), baseline: baseline::Day::fresh(), board: vec![0; BOARD] }
     }
 
     fn differ(&mut self, call: &Call) -> Option<String> {
         let (literal, baseline) = (self.literal.call(call), self.baseline.call(call));
+        if may_change_boards(call, &literal) {
+            self.board = self.literal.board();
+        }
         (literal != baseline).then(|| format!("`{call}`: literal {literal}, baseline {baseline}"))
     }
 
     fn boards_differ(&self, call: &Call) -> Option<String> {
-        (self.literal.board() != self.baseline.board())
+        (self.board != self.baseline.board())
             .then(|| format!("`{call}`: the baseline's board is not as worked out afresh"))
     }
 }

@@ -4,6 +4,7 @@
 use baseline::Federation;
 use calls::{Answer, Code, CourseCall, BOARD, COURSES};
 
+use crate::boards::may_change_boards;
 use crate::card::CardStep;
 
 /// A federation day, and what is right on it.
@@ -35,7 +36,7 @@ impl<'a> Judged<'a> {
         let right = |step: &CardStep| match step {
             CardStep::Made(call) => {
                 let answer = literal.call(call);
-                let changes = answer.code == Code::Accepted && call.call.takes_a_board();
+                let changes = may_change_boards(&call.call, &answer);
                 let day = literal.day(call.course).filter(|_| changes);
                 Some(Right { answer, board: day.map(literal::Day::board) })
             }

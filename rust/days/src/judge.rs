@@ -1,9 +1,11 @@
 //! Whether a check passes on days: a failed one tells the seed, what is wrong, and a short day that
 //! shows it.
 
+use std::collections::BTreeMap;
 use std::fmt::Display;
 
-use crate::sample::Sample;
+use crate::sample::{Sample, Steps};
+use crate::tally;
 
 /// Judges every day, of which there must be one at least.
 ///
@@ -12,19 +14,25 @@ use crate::sample::Sample;
 /// If the check answers with a complaint. The message has it, and the shortest day found that the
 /// check still finds fault with.
 #[track_caller]
-pub fn must_pass<C: Clone + Display>(
+pub fn must_pass<C: Steps>(
     days: impl IntoIterator<Item = Sample<C>>,
     check: impl Fn(&[C]) -> Option<String>,
 ) {
-    let mut judged = 0;
+    let mut judged: BTreeMap<&'static str, u64> = BTreeMap::new();
     for day in days {
         if let Some(complaint) = check(&day.calls) {
             let length = day.calls.len();
             panic!("{day}, {length} calls: {complaint}\n{}", shortest(&day.calls, &check));
         }
-        judged += 1;
+        *judged.entry(day.kind).or_default() += 1;
     }
-    assert_ne!(judged, 0, "no day was judged");
+    assert!(!judged.is_empty(), "no day was judged");
+    for (kind, days) in judged {
+        tally::count(C::DAYS, kind, days);
+        // The seeds of a kind are the same in every test.
+        tally::measure(C::DAYS, kind, days);
+    }
+    tally::tell();
 }
 
 /// Judges days on which something was made wrong.
@@ -38,9 +46,14 @@ pub fn must_find<C>(
     days: impl IntoIterator<Item = Sample<C>>,
     check: impl Fn(&[C]) -> Option<String>,
 ) {
-    let complaints: Vec<_> = days.into_iter().map(|day| check(&day.calls)).collect();
-    let found = complaints.iter().flatten().count();
-    assert!(found >= 5, "{wrong}: found on {found} days of {}", complaints.len());
+    let mut judged = 0;
+    let complaints = days.into_iter().filter_map(|day| {
+        judged += 1;
+        check(&day.calls)
+    });
+    // The others would tell no more.
+    let found = complaints.take(5).count();
+    assert!(found == 5, "{wrong}: found on {found} days of {judged}");
 }
 
 /// The shortest day found that a check finds fault with, and what it says of that.

@@ -6,7 +6,7 @@ use std::collections::BTreeMap;
 use calls::{Call, Code, State, BIBS, KINDS, REVISIONS};
 use days::{
     chains_of_joins, disagreement, disagreement_with_previews, disagreement_with_reads, late_days,
-    must_pass, one_in, seeds, Profile, Sample,
+    must_pass, once_in, one_in, seeds, Profile, Sample,
 };
 use literal::Revision;
 
@@ -70,7 +70,7 @@ fn days_with_late_updates_agree() {
 #[test]
 fn every_call_meets_each_of_its_codes() {
     let mut met: BTreeMap<(&str, u8), usize> = BTreeMap::new();
-    for Sample { calls, .. } in one_in(1) {
+    for Sample { calls, .. } in once_in(1) {
         let mut day = baseline::Day::fresh();
         for call in calls {
             *met.entry((call.name(), day.call(&call).code.number())).or_default() += 1;
@@ -134,7 +134,7 @@ impl Found {
 #[test]
 fn queries_find_bibs_in_every_state() {
     let mut found = Found::default();
-    for Sample { calls, .. } in one_in(2) {
+    for Sample { calls, .. } in once_in(2) {
         let mut day = literal::Day::fresh();
         for call in calls {
             let answer = day.call(&call);
@@ -173,7 +173,7 @@ fn name_of(update: literal::Update) -> &'static str {
 #[test]
 fn fills_of_every_kind_are_made() {
     let mut met: BTreeMap<&str, usize> = BTreeMap::new();
-    for Sample { calls, .. } in one_in(2) {
+    for Sample { calls, .. } in once_in(2) {
         let mut day = literal::Day::fresh();
         for call in calls {
             if let Call::Fill { revision } = call {

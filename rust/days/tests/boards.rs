@@ -5,8 +5,8 @@ use std::collections::BTreeMap;
 
 use calls::{Answer, Call, Code, BOARD};
 use days::{
-    brought, chains_of_joins, days_of, fault_of_boards, late_days, must_pass, one_in, seeds,
-    Profile, Sample,
+    brought, chains_of_joins, days_of, fault_of_boards, late_days, must_pass, once_in, one_in,
+    seeds, Profile, Sample,
 };
 use literal::{Day, Update};
 
@@ -79,7 +79,7 @@ impl Met {
 #[test]
 fn calls_of_every_kind_are_made() {
     let mut met = Met::default();
-    for Sample { calls, .. } in one_in(4) {
+    for Sample { calls, .. } in once_in(4) {
         let mut day = Day::fresh();
         for call in calls {
             let before = call.takes_a_board().then(|| day.clone());

@@ -34,9 +34,9 @@ fn courses_have_what_02_asks_to_show() {
 
 #[test]
 fn days_that_agree_in_a_course_agree_in_its_answers() {
-    let days = || CardProfile::UNDAMAGED.days(seeds(12));
-    must_pass(days(), |steps| fault_of_agreement(steps, Federation::call));
-    let twenties = days().map(|day| {
+    let days = |seeds| CardProfile::UNDAMAGED.days(seeds);
+    must_pass(days(seeds(12)), |steps| fault_of_agreement(steps, Federation::call));
+    let twenties = days(0..12).map(|day| {
         let mut lent = Federation::new();
         let codes = day.calls.iter().map(|step| match step {
             CardStep::Made(call) => lent.call(call).code,
@@ -162,7 +162,8 @@ impl Met {
 #[test]
 fn every_case_is_met() {
     let mut times: BTreeMap<&str, usize> = BTreeMap::new();
-    for day in federation_days() {
+    let days = KINDS.into_iter().flat_map(|(profile, count)| profile.days(0..count));
+    for day in days {
         let mut met = Met { broken: [true; COURSES], ..Met::default() };
         day.calls.iter().for_each(|step| met.step(step));
         met.times.into_iter().for_each(|(what, count)| *times.entry(what).or_default() += count);

@@ -5,7 +5,7 @@ use std::collections::BTreeMap;
 
 use calls::{Answer, Call, Code};
 use days::{
-    chains_of_joins, fault_of_orders, late_days, must_find, must_pass, one_in, own_order, seeds,
+    chains_of_joins, fault_of_orders, late_days, must_find, must_pass, once_in, own_order, seeds,
     Profile, Sample,
 };
 use literal::Day;
@@ -30,7 +30,7 @@ fn the_own_line_up_gets_a_yes() {
 #[test]
 fn verifies_of_every_kind_are_made() {
     let mut met: BTreeMap<&str, usize> = BTreeMap::new();
-    for Sample { calls, .. } in one_in(2) {
+    for Sample { calls, .. } in once_in(2) {
         let mut day = Day::fresh();
         for call in calls {
             let answer = day.call(&call);

@@ -4,8 +4,8 @@
 use baseline::Federation;
 use calls::{Answer, Call, Code, CourseCall, Line, ASSURED, CARD, COURSES};
 use days::{
-    fault_of_agreement, fault_of_claims, must_find, seeds, updates_of, CardProfile, CardStep,
-    Judged, Sample,
+    fault_of_agreement, fault_of_claims, must_find, updates_of, CardProfile, CardStep, Judged,
+    Sample,
 };
 
 /// What a wrong program has at hand for a call on one of the four courses.
@@ -283,7 +283,7 @@ fn course(number: u8) -> Option<usize> {
 fn wrong_courses_are_found() {
     let kinds = [(CardProfile::OPEN, 8), (CardProfile::FULL, 20), (CardProfile::FULL_TABLE, 30)];
     let days: Vec<Sample<CardStep>> =
-        kinds.into_iter().flat_map(|(kind, count)| kind.days(seeds(count))).collect();
+        kinds.into_iter().flat_map(|(kind, count)| kind.days(0..count)).collect();
     let judged: Vec<Judged<'_>> = days.iter().map(|day| Judged::new(&day.calls)).collect();
     let found = |wrong: Wrong, numbers: fn(u8) -> Option<usize>| {
         let is_found = |day: &&Judged<'_>| {
@@ -320,12 +320,12 @@ fn some_are_found_by_what_02_asks_to_show() {
         "fresh refused for another's buffer",
         "every call is one of course 0",
     ] {
-        must_find(name, CardProfile::FULL_TABLE.days(seeds(16)), |steps| {
+        must_find(name, CardProfile::FULL_TABLE.days(0..16), |steps| {
             fault_of_claims(steps, by(named(name), course))
         });
     }
     for name in ["a query of the next course", "no fork where the others hold half the card"] {
-        must_find(name, CardProfile::UNDAMAGED.days(seeds(5)), |steps| {
+        must_find(name, CardProfile::UNDAMAGED.days(0..5), |steps| {
             fault_of_agreement(steps, |lent, call| by(named(name), course)(lent, call))
         });
     }

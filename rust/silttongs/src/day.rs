@@ -11,3 +11,10 @@ pub enum Day {
     /// preview are refused with [`Refusal::OffTheLine`](crate::Refusal::OffTheLine), and so is every mark.
     SingleMain,
 }
+
+impl Day {
+    /// As the call takes it.
+    pub(crate) fn choice(self) -> u8 {
+        u8::from(self == Day::SingleMain)
+    }
+}

@@ -4,12 +4,15 @@ use crate::board::Board;
 use crate::course::{Course, COURSES};
 use crate::day::Day;
 use crate::entry::{records, Entry, BUNDLE};
-use crate::exports::courses::{self as exports, Lent, Read};
+use crate::exports::courses as exports;
 use crate::fill::Fill;
 use crate::mark::{marks, Mark};
 use crate::preview::Preview;
 use crate::refusal::Refusal;
 use crate::standing::Standing;
+
+/// The tables of courses 0 to 3: lent to be written.
+type Lent<'a> = [&'a mut [u8]; COURSES];
 
 /// The updates that the card of all four courses holds.
 pub const CARD: usize = 8_192;
@@ -111,7 +114,7 @@ impl<B: AsMut<[u8]>, C: AsMut<[u8]>> Federation<B, C> {
     /// The other tables are not looked at.
     pub fn fresh(&mut self, course: Course, day: Day) -> Result<(), Refusal> {
         let (tables, board) = self.lent(course);
-        exports::fresh(tables, course.into(), board, day).map(|_| ())
+        exports::fresh(tables, course.into(), board, day.choice())
     }
 
     /// As [`Table::update`](crate::Table::update), on a course.
@@ -153,7 +156,7 @@ impl<B: AsMut<[u8]>, C: AsMut<[u8]>> Federation<B, C> {
     /// As for a table, and 1 as said [above](Federation).
     pub fn yield_(&mut self, course: Course, client: u8) -> Result<(), Refusal> {
         let (tables, board) = self.lent(course);
-        exports::yield_(tables, course.into(), board, client).map(|_| ())
+        exports::yield_(tables, course.into(), board, client)
     }
 
     /// As [`Table::fork`](crate::Table::fork), on a course.
@@ -205,7 +208,7 @@ impl<B: AsMut<[u8]>, C: AsMut<[u8]>> Federation<B, C> {
     ///
     /// As for a table, and 1 as said [above](Federation).
     pub fn drop(&mut self, course: Course, name: impl AsRef<[u8]>) -> Result<(), Refusal> {
-        exports::drop(self.tables(), course.into(), name.as_ref()).map(|_| ())
+        exports::drop(self.tables(), course.into(), name.as_ref())
     }
 
     /// As [`Table::bundle`](crate::Table::bundle), on a course. Its board is lent.
@@ -243,7 +246,7 @@ impl<B: AsMut<[u8]>, C: AsMut<[u8]>> Federation<B, C> {
 }
 
 impl<B: AsRef<[u8]>, C> Federation<B, C> {
-    fn read(&self) -> Read<'_> {
+    fn read(&self) -> [&[u8]; COURSES] {
         self.tables.each_ref().map(AsRef::as_ref)
     }
 
@@ -295,7 +298,7 @@ impl<B: AsRef<[u8]>, C> Federation<B, C> {
     ///
     /// As for a table, and 1 as said [above](Federation).
     pub fn bill(&self, course: Course, member: bool) -> Result<u32, Refusal> {
-        exports::bill(self.read(), course.into(), member)
+        exports::bill(self.read(), course.into(), member.into())
     }
 
     /// As [`Table::marks`](crate::Table::marks), on a course.

@@ -88,7 +88,7 @@ impl<B: AsMut<[u8]>> Table<B> {
         board: &mut Board<impl AsMut<[u8]>>,
         day: Day,
     ) -> Result<Self, Refusal> {
-        exports::fresh(bytes.as_mut(), board.lent(), day)?;
+        exports::fresh(bytes.as_mut(), board.lent(), day.choice())?;
         Ok(Table(bytes))
     }
 
@@ -182,7 +182,7 @@ impl<B: AsMut<[u8]>> Table<B> {
         board: &mut Board<impl AsMut<[u8]>>,
         client: u8,
     ) -> Result<(), Refusal> {
-        exports::yield_(self.0.as_mut(), board.lent(), client).map(|_| ())
+        exports::yield_(self.0.as_mut(), board.lent(), client)
     }
 
     /// Sends a new box off from a box, marked or not. Its number is the answer: the next that was never used; once
@@ -347,7 +347,7 @@ impl<B: AsMut<[u8]>> Table<B> {
     ///
     /// Codes 1 and 18; 18 for letters that are no name, too.
     pub fn drop(&mut self, name: impl AsRef<[u8]>) -> Result<(), Refusal> {
-        exports::drop(self.0.as_mut(), name.as_ref()).map(|_| ())
+        exports::drop(self.0.as_mut(), name.as_ref())
     }
 
     /// Enters 1 to 64 updates on a box, and closes the tablet's transaction there: as
@@ -573,7 +573,7 @@ impl<B: AsRef<[u8]>> Table<B> {
     ///
     /// Code 1.
     pub fn bill(&self, member: bool) -> Result<u32, Refusal> {
-        exports::bill(self.0.as_ref(), member)
+        exports::bill(self.0.as_ref(), member.into())
     }
 
     /// The marks that are out, in the order of their numbers, read from the table's cells.

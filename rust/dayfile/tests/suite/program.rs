@@ -6,7 +6,7 @@ use std::process::Command;
 
 use calls::{Call, UPDATES};
 use dayfile::{read_file, read_text, write_file, Record, LONGEST, MOST_STEPS};
-use days::{chains_of_joins, days_of, late_days, seeds, Profile, Rng};
+use days::{chains_of_joins, days_of, late_days, seeds, tally, Profile, Rng};
 
 use super::run;
 use super::samples::{day_file, file, printed_by_literal, random_records, record, with_gap};
@@ -31,6 +31,8 @@ fn must_print(bytes: &[u8], what: &str) -> usize {
         let differ = lines.find(|(line, other)| line != other);
         panic!("{what}: {} bytes of {}, {differ:?}", printed.len(), expected.len());
     }
+    tally::count("files through the program", "", 1);
+    tally::tell();
     printed.lines().filter(|line| line.ends_with(" 0 struck")).count()
 }
 

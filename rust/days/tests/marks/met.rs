@@ -3,7 +3,6 @@
 use std::collections::BTreeMap;
 
 use calls::{Answer, Call, Code};
-use days::days_of;
 use literal::{Day, Revision, Transaction};
 
 use super::KINDS;
@@ -131,7 +130,7 @@ fn came_of_a_mark(day: &Day, number: u8) -> bool {
 #[test]
 fn days_with_marks_meet_what_they_are_for() {
     let mut met = Met::default();
-    for sample in days_of(&KINDS) {
+    for sample in KINDS.into_iter().flat_map(|(kind, count)| kind.days(0..count)) {
         met.dropped.clear();
         let (mut day, mut table) = (Day::fresh(), baseline::Day::fresh());
         for call in &sample.calls {

@@ -3,9 +3,7 @@
 
 use baseline::Federation;
 use calls::{order_file, Answer, Call, Code, CourseCall, BOARD, BUNDLE, COURSES};
-use days::{
-    fault_of_agreement, fault_of_claims, must_pass, seeds, CardProfile, CardStep, Judged, Sample,
-};
+use days::{card_days_of, fault_of_agreement, fault_of_claims, must_pass, CardProfile, Judged};
 use silttongs::{Board, Course, Day, Entry, Kind, Refusal, Table, BYTES};
 
 use super::given::{course_library, first_difference, sheet};
@@ -13,7 +11,17 @@ use super::given::{course_library, first_difference, sheet};
 /// What the library answers, as the baseline does; it must leave what the baseline leaves, of all four tables
 /// and boards, and the sheet behind the lines as it was.
 pub(crate) fn judged(lent: &mut Federation, call: &CourseCall) -> Result<Answer, String> {
-    let mut right = lent.clone();
+    judged_beside(&mut Federation::new(), lent, call)
+}
+
+/// The same, with buffers for the baseline.
+fn judged_beside(
+    right: &mut Federation,
+    lent: &mut Federation,
+    call: &CourseCall,
+) -> Result<Answer, String> {
+    right.tables.clone_from(&lent.tables);
+    right.boards.clone_from(&lent.boards);
     let expected = right.call(call);
     let given = course_library(lent, call);
     for course in 0..COURSES {
@@ -42,27 +50,26 @@ fn answered(lent: &mut Federation, call: &CourseCall) -> Answer {
     course_library(lent, call).with_lines()
 }
 
-fn federation_days() -> impl Iterator<Item = Sample<CardStep>> {
+#[test]
+fn federation_days_as_by_four_literal_replays() {
     let kinds = [
         (CardProfile::OPEN, 150),
         (CardProfile::FULL, 50),
         (CardProfile::FULL_TABLE, 40),
         (CardProfile::UNDAMAGED, 12),
     ];
-    kinds.into_iter().flat_map(|(profile, count)| profile.days(seeds(count)))
-}
-
-#[test]
-fn federation_days_as_by_four_literal_replays() {
-    must_pass(federation_days(), |steps| Judged::new(steps).fault(judged));
+    must_pass(card_days_of(&kinds), |steps| {
+        let mut right = Federation::new();
+        Judged::new(steps).fault(|lent, call| judged_beside(&mut right, lent, call))
+    });
 }
 
 #[test]
 fn courses_have_what_02_asks_to_show() {
     let kinds = [(CardProfile::OPEN, 30), (CardProfile::FULL_TABLE, 10)];
-    let days = kinds.into_iter().flat_map(|(profile, count)| profile.days(seeds(count)));
-    must_pass(days, |steps| fault_of_claims(steps, answered));
-    must_pass(CardProfile::UNDAMAGED.days(seeds(6)), |steps| fault_of_agreement(steps, answered));
+    must_pass(card_days_of(&kinds), |steps| fault_of_claims(steps, answered));
+    let undamaged = [(CardProfile::UNDAMAGED, 6)];
+    must_pass(card_days_of(&undamaged), |steps| fault_of_agreement(steps, answered));
 }
 
 /// Four courses and their boards.

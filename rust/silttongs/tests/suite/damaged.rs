@@ -5,7 +5,7 @@
 use std::collections::BTreeMap;
 
 use calls::{order_file, Answer, Call, Code, Line, State, CLIENTS, REVISIONS};
-use days::{fault_of_bundles, fault_of_previews, fault_of_syncs, seeds, Heaviest, Rng};
+use days::{fault_of_bundles, fault_of_previews, fault_of_syncs, seeds, tally, Heaviest, Rng};
 use silttongs::{Board, Refusal, Table, BOARD, BUNDLE, BYTES};
 
 use super::cells::{cells, is_table, Cell};
@@ -262,7 +262,9 @@ fn random_calls_on_damaged_buffers() {
                 given
             });
         }
+        tally::count("damaged buffers", "of one table", 1);
     }
+    tally::tell();
     assert!(reused >= 50, "{reused} forks took a number from the queue");
     assert!(synced >= 50, "{synced} syncs");
     assert!(marked >= 50, "{marked} marks");

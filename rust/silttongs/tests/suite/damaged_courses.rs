@@ -5,7 +5,7 @@ use std::collections::BTreeMap;
 
 use baseline::Federation;
 use calls::{Answer, Call, Code, CourseCall, COURSES};
-use days::{seeds, Rng};
+use days::{seeds, tally, Rng};
 use silttongs::BYTES;
 
 use super::cells::{cells, is_table, Cell};
@@ -101,7 +101,9 @@ fn random_calls_on_four_damaged_buffers() {
                 Err(fault) => panic!("seed {seed}, call {step}, `{call}`: {fault}"),
             }
         }
+        tally::count("damaged buffers", "of four tables", COURSES as u64);
     }
+    tally::tell();
     // 13 is given by the program alone.
     let numbers: Vec<u8> = codes.keys().map(|code| code.number()).collect();
     assert!(numbers.iter().copied().eq((0..=12).chain(14..=21)), "{codes:?}");

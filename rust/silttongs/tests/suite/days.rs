@@ -2,12 +2,12 @@
 //! of the literal replay, leaves the bytes that the baseline leaves, and the board that the literal replay
 //! works out afresh.
 
-use calls::{Answer, Call, Line, BIBS};
+use calls::{Answer, Call, Line, BIBS, BOARD};
 use days::{
     chains_of_joins, days_of, every_fill, every_list, every_preview, fault_of_bills,
     fault_of_bundles, fault_of_fills, fault_of_marks, fault_of_numbers, fault_of_orders,
-    fault_of_origins, fault_of_previews, fault_of_syncs, late_days, must_pass, one_in, seeds,
-    Profile,
+    fault_of_origins, fault_of_previews, fault_of_syncs, late_days, may_change_boards, must_pass,
+    one_in, seeds, Profile,
 };
 use silttongs::{lines, Board, Entry, Table};
 
@@ -175,6 +175,8 @@ struct Day {
     bytes: Bytes,
     literal: literal::Day,
     baseline: baseline::Day,
+    /// The literal replay's, as worked out afresh when it may have changed last.
+    board: Vec<u8>,
 }
 
 impl Day {
@@ -183,6 +185,7 @@ impl Day {
             bytes: Bytes::fresh(),
             literal: literal::Day::fresh(),
             baseline: baseline::Day::fresh(),
+            board: vec![0; BOARD],
         }
     }
 
@@ -198,6 +201,9 @@ impl Day {
 
     fn fault_of_answer(&mut self, call: &Call) -> Option<String> {
         let expected = self.literal.call(call);
+        if may_change_boards(call, &expected) {
+            self.board = self.literal.board();
+        }
         let Bytes { table, board } = &mut self.bytes;
         let given = library(table, board, call);
         let read = lines(&given.sheet, given.answer.value).map(|line| {
@@ -215,9 +221,8 @@ impl Day {
         if let Some(at) = first_difference(table, bytes) {
             return Some(format!("byte {at} is {}, baseline has {}", table[at], bytes[at]));
         }
-        let right = self.literal.board();
-        let at = first_difference(board, &right)?;
-        Some(format!("byte {at} of the board is {}, not {}", board[at], right[at]))
+        let at = first_difference(board, &self.board)?;
+        Some(format!("byte {at} of the board is {}, not {}", board[at], self.board[at]))
     }
 
     /// Makes these calls, which only read. The bytes are compared after the last: that takes most of

@@ -1,6 +1,9 @@
 //! The library's calls as values, and what they are compared with.
 
+use std::sync::LazyLock;
+
 use calls::{Answer, Call, Code, CourseCall, Line, State, COURSES};
+use days::tally;
 use silttongs::{Board, Course, Day, Federation, Refusal, Standing, Table, BOARD};
 
 use super::{fresh, Lent};
@@ -39,13 +42,14 @@ pub(crate) fn fresh_bytes() -> Vec<u8> {
     Bytes::fresh().table
 }
 
-/// The sheet of a list before the call: as long as the call says, up to more than any listing
-/// needs, and no byte like its neighbours.
+/// Bytes of which none is like its neighbours; more than any listing needs.
+static ANY: LazyLock<Vec<u8>> =
+    LazyLock::new(|| (0..50_000).map(|at: usize| (at * 167 + at / 256) as u8).collect());
+
+/// The sheet of a list before the call: as long as the call says, up to more than any listing needs.
 pub(crate) fn sheet(call: &Call) -> Vec<u8> {
     match *call {
-        Call::List { room, .. } => {
-            (0..room.min(50_000)).map(|at| (at * 167 + at / 256) as u8).collect()
-        }
+        Call::List { room, .. } => ANY[..room.min(ANY.len())].to_vec(),
         _ => Vec::new(),
     }
 }
@@ -102,6 +106,7 @@ pub(crate) fn library(bytes: &mut [u8], board: &mut [u8], call: &Call) -> Given 
     if let Call::OnBoard { length, call } = call {
         return lent_other(*length, call, |board| library(bytes, board, call));
     }
+    tally::count("calls on a table", call.name(), 1);
     let mut board = Board::from_bytes(board);
     let mut sheet = sheet(call);
     let answer = if let Call::Fresh { single_main } = *call {
@@ -140,6 +145,7 @@ fn on_course(
     course: Course,
     call: &Call,
 ) -> Given {
+    tally::count("calls on a course", call.name(), 1);
     let mut federation = Federation::from_bytes(tables, boards.map(Board::from_bytes));
     let mut sheet = sheet(call);
     let answer = if let Call::Fresh { single_main } = *call {
@@ -152,8 +158,8 @@ fn on_course(
 
 /// What is given with a board of so many bytes lent. If the call is refused, that board keeps every byte.
 fn lent_other(length: usize, call: &Call, make: impl FnOnce(&mut [u8]) -> Given) -> Given {
-    let before: Vec<u8> = (0..length).map(|at| (at * 167 + at / 256) as u8).collect();
-    let mut board = before.clone();
+    let before = &ANY[..length];
+    let mut board = before.to_vec();
     let given = make(&mut board);
     let refused = given.answer.code != Code::Accepted;
     assert!(!refused || board == before, "`{call}`: a refusal changes a board of {length} bytes");
