@@ -35,6 +35,9 @@ settled-code t o = cases (eqb (o .code) 0) (λ e. rw e (sym (eqb-true (o .code) 
 settled-lent : (t : List ℕ) (o : Out) → o .code ≡ 0 → settled t o .lent ≡ o .lent
 settled-lent t o e = rw e
 
+settled-value : (t : List ℕ) (o : Out) → o .code ≡ 0 → settled t o .value ≡ countIn t
+settled-value t o e = rw e
+
 module _ (i : ℕ) where
   abbrev calling : Call (List ℕ) → CourseCall
   calling q = record { course = i; ask = Plain q }
@@ -117,4 +120,8 @@ bundles-one-by-one ts i c n batch board e w b =
     let R = sent-one-by-one i c n board b (isFull ts i) (entriesOf batch) ts e (λ k. refl) in
     let h = bundle-sent ts i c n batch board e w b in
     let k = ap (λ (u : Served). u .reply .code) h ∙ settled-code (ts i) o in
-    record { code = k ∙ R .code; table = λ z. ap (λ (u : Served). u .table) h ∙ settled-lent (ts i) o (sym k ∙ z) ∙ R .lent (sym k ∙ z) }
+    record {
+      code = k ∙ R .code;
+      table = λ z. ap (λ (u : Served). u .table) h ∙ settled-lent (ts i) o (sym k ∙ z) ∙ R .lent (sym k ∙ z);
+      value = λ z. ap (λ (u : Served). u .reply .value) h ∙ settled-value (ts i) o (sym k ∙ z);
+    }

@@ -8,7 +8,7 @@ use lib.ListN.{length}
 use Rattle.bundles.specs.declared.entry.Entry.{Entry}
 use Rattle.boards.specs.Board.{boardBytes}
 use Rattle.desk.specs.Calls.{Batch, Bundle, Update, Yield, entriesOf, isWrongBatch}
-use Rattle.card.specs.Courses.{CourseCall, Plain, Tables, courseServed, noCourse}
+use Rattle.card.specs.Courses.{CourseCall, Plain, Tables, counts, courseServed, noCourse}
 use Rattle.courses.specs.Heard.{Heard, heard, tablesAfter}
 
 -- the calls of course i that a bundle stands for
@@ -26,6 +26,8 @@ pub record OneByOne (ts : Tables) (i c n : ℕ) (batch : Batch) (board : List �
   pub code : courseServed ts i (Plain (Bundle c n batch board)) .reply .code ≡ firstCode (heard i ts (singly i c n (entriesOf batch) board))
   pub table : courseServed ts i (Plain (Bundle c n batch board)) .reply .code ≡ 0
       → courseServed ts i (Plain (Bundle c n batch board)) .table ≡ tablesAfter ts (singly i c n (entriesOf batch) board) i
+  -- "The value is the first entry's number": as many as its table had taken
+  pub value : courseServed ts i (Plain (Bundle c n batch board)) .reply .code ≡ 0 → courseServed ts i (Plain (Bundle c n batch board)) .reply .value ≡ counts ts i
 
 -- where 1, 14 and 19 don't apply
 abbrev pub BundlesOneByOne : Type 0
