@@ -3,7 +3,9 @@
 
 use baseline::Federation;
 use calls::{order_file, Answer, Call, Code, CourseCall, BOARD, BUNDLE, COURSES};
-use days::{card_days_of, fault_of_agreement, fault_of_claims, must_pass, CardProfile, Judged};
+use days::{
+    card_days_of, fault_of_agreement, fault_of_claims, must_pass, CardProfile, CardStep, Judged,
+};
 use silttongs::{Board, Course, Day, Entry, Kind, Refusal, Table, BYTES};
 
 use super::given::{course_library, first_difference, sheet};
@@ -11,17 +13,15 @@ use super::given::{course_library, first_difference, sheet};
 /// What the library answers, as the baseline does; it must leave what the baseline leaves, of all four tables
 /// and boards, and the sheet behind the lines as it was.
 pub(crate) fn judged(lent: &mut Federation, call: &CourseCall) -> Result<Answer, String> {
-    judged_beside(&mut Federation::new(), lent, call)
+    judged_beside(&mut lent.clone(), lent, call)
 }
 
-/// The same, with buffers for the baseline.
+/// The same, with a copy for the baseline.
 fn judged_beside(
     right: &mut Federation,
     lent: &mut Federation,
     call: &CourseCall,
 ) -> Result<Answer, String> {
-    right.tables.clone_from(&lent.tables);
-    right.boards.clone_from(&lent.boards);
     let expected = right.call(call);
     let given = course_library(lent, call);
     for course in 0..COURSES {
@@ -59,8 +59,18 @@ fn federation_days_as_by_four_literal_replays() {
         (CardProfile::UNDAMAGED, 12),
     ];
     must_pass(card_days_of(&kinds), |steps| {
-        let mut right = Federation::new();
-        Judged::new(steps).fault(|lent, call| judged_beside(&mut right, lent, call))
+        let (mut copy, mut done) = (None, steps.iter());
+        Judged::new(steps).fault(|lent, call| {
+            // One copy for the whole day: what is not a call is done to both.
+            let right = copy.get_or_insert_with(|| lent.clone());
+            for step in done.by_ref() {
+                match step {
+                    CardStep::Broken(damage) | CardStep::Scratched(damage) => damage.put(right),
+                    CardStep::Made(_) => break,
+                }
+            }
+            judged_beside(right, lent, call)
+        })
     });
 }
 
