@@ -11,7 +11,7 @@ ghost use Rattle.cells.specs.Range.{inRange};
 ghost use Rattle.cells.specs.CellSteps.{counted};
 ghost use Rattle.cells.specs.Steps.{appendParts, linkParts, spliceParts};
 use fields::read;
-use fields::write;
+use stores::write;
 use sizes::numbers::Revision;
 use sizes::table::Table;
 

@@ -9,7 +9,7 @@ ghost use Rattle.cells.specs.Range.{inRange};
 ghost use Rattle.cells.specs.CellSteps.{oneFewer};
 ghost use Rattle.cells.specs.Steps.{dropBytes};
 use fields::read;
-use fields::write;
+use stores::write;
 use sizes::numbers::Revision;
 use sizes::table::Table;
 

@@ -11,7 +11,7 @@ ghost use Rattle.cells.specs.Steps.{branchParts, forkBytes};
 ghost use Rattle.revisions.specs.Pieces.{numberParts, startParts};
 use crate::inherit;
 use fields::read;
-use fields::write;
+use stores::write;
 use sizes::numbers::Revision;
 use sizes::table::Table;
 

@@ -9,8 +9,8 @@ ghost use Rattle.cells.specs.Steps.{freshBytes};
 ghost use Rattle.revisions.specs.Pieces.{freshCounts, freshRevisions};
 use buffers::clear::clear;
 use buffers::put::put;
-use fields::fresh::caught;
-use fields::parts;
+use stores::fresh::caught;
+use places::parts;
 use sizes::table::Table;
 
 // States, layout and queue.

@@ -12,7 +12,7 @@ ghost use Rattle.cells.specs.CellSteps.{forkRow};
 ghost use Rattle.cells.specs.Steps.{inheritParts};
 use fields::read;
 use fields::row;
-use fields::write;
+use stores::write;
 use flags::bits;
 use order::links;
 use sizes::numbers::Revision;

@@ -11,7 +11,7 @@ ghost use Rattle.cells.specs.Range.{inRange};
 ghost use Rattle.cells.specs.Steps.{joinBytes, mergeParts};
 use crate::drop;
 use fields::read;
-use fields::write;
+use stores::write;
 use linking::own;
 use sizes::numbers::Revision;
 

@@ -7,7 +7,7 @@ ghost use Rattle.cells.specs.Sizes.{lowerBytes, revisions};
 ghost use Rattle.cells.specs.Range.{inRange};
 ghost use Rattle.cells.specs.Steps.{markBytes};
 use crate::fork;
-use fields::write;
+use stores::write;
 use sizes::numbers::Revision;
 use sizes::table::Table;
 

@@ -7,7 +7,7 @@ ghost use Rattle.cells.specs.Decode.{cells};
 ghost use Rattle.cells.specs.CellSteps.{closeSettled};
 ghost use Rattle.cells.specs.Steps.{closeBytes, queryBytes};
 use fields::read;
-use fields::write;
+use stores::write;
 use sizes::numbers::Client;
 use sizes::numbers::Revision;
 use sizes::numbers::wide;
