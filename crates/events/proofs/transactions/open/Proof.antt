@@ -1,8 +1,8 @@
--- `revisions::transactions::open` meets its contract: two parts are written. Assumes nothing.
+-- `events::transactions::open` meets its contract: two parts are written. Assumes nothing.
 use borrow.Author.Needs.{needs}
-use Rattle.revisions.proofs.Writes.{query-done}
-use Rattle.revisions.proofs.transactions.open.Statement.{statement}
-use Rattle.revisions.proofs.transactions.open.Tie as tie
+use Rattle.events.proofs.Writes.{query-done}
+use Rattle.events.proofs.transactions.open.Statement.{statement}
+use Rattle.events.proofs.transactions.open.Tie as tie
 
 returns : tie.Need-returns
 returns c =

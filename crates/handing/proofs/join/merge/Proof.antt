@@ -1,9 +1,9 @@
--- `revisions::join::merge` meets its contract: the writes in a row. Assumes nothing.
+-- `handing::join::merge` meets its contract: the writes in a row. Assumes nothing.
 use borrow.Author.Needs.{needs}
 use Rattle.cells.specs.Decode.{cells}
-use Rattle.revisions.proofs.Writes.{merge-done}
-use Rattle.revisions.proofs.join.merge.Statement.{statement}
-use Rattle.revisions.proofs.join.merge.Tie as tie
+use Rattle.handing.proofs.Writes.{merge-done}
+use Rattle.handing.proofs.join.merge.Statement.{statement}
+use Rattle.handing.proofs.join.merge.Tie as tie
 
 returns : tie.Need-returns
 unfolding cells

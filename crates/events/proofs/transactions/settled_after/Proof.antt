@@ -1,10 +1,10 @@
--- `revisions::transactions::settled_after` meets its contract: where the transaction is decides. Assumes nothing.
+-- `events::transactions::settled_after` meets its contract: where the transaction is decides. Assumes nothing.
 use mathlib.Core.Path.{_∙_, ap, sym}
 use borrow.Author.Needs.{needs}
 use borrow.Author.Tests.{eq-eqb, ne-eqb}
 use Rattle.cells.specs.Decode.{cells}
-use Rattle.revisions.proofs.transactions.settled_after.Statement.{statement}
-use Rattle.revisions.proofs.transactions.settled_after.Tie as tie
+use Rattle.events.proofs.transactions.settled_after.Statement.{statement}
+use Rattle.events.proofs.transactions.settled_after.Tie as tie
 
 returns : tie.Need-returns
 returns c =

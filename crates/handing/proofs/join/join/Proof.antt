@@ -1,12 +1,12 @@
--- `revisions::join::join` meets its contract: the merge, which leaves a table in range, and the drop. Assumes nothing.
+-- `handing::join::join` meets its contract: the merge, which leaves a table in range, and the drop. Assumes nothing.
 use mathlib.Core.Path.{_∙_, ap}
 use native.Mathlib.Omega.{arith}
 use borrow.Author.Needs.{needs}
 use Rattle.cells.specs.Range.{inRange}
 use Rattle.cells.proofs.Stays.{Lower, merge-stays}
-use Rattle.revisions.proofs.Writes.{join-done}
-use Rattle.revisions.proofs.join.join.Statement.{statement}
-use Rattle.revisions.proofs.join.join.Tie as tie
+use Rattle.handing.proofs.Writes.{join-done}
+use Rattle.handing.proofs.join.join.Statement.{statement}
+use Rattle.handing.proofs.join.join.Tie as tie
 
 drop-requires : tie.Need-drop-requires
 drop-requires c κs =

@@ -1,8 +1,8 @@
--- `revisions::join::settled_with` meets its contract: the joiner's number decides. Assumes nothing.
+-- `handing::join::settled_with` meets its contract: the joiner's number decides. Assumes nothing.
 use borrow.Author.Needs.{needs}
 use borrow.Author.Tests.{eq-eqb, ne-eqb}
-use Rattle.revisions.proofs.join.settled_with.Statement.{statement}
-use Rattle.revisions.proofs.join.settled_with.Tie as tie
+use Rattle.handing.proofs.join.settled_with.Statement.{statement}
+use Rattle.handing.proofs.join.settled_with.Tie as tie
 
 returns : tie.Need-returns
 returns c = (rw (eq-eqb _ _ (c .if1 .taken)), c .before .before .before .pre .1)

@@ -1,9 +1,9 @@
--- `revisions::drop::queue_end` meets its contract: both counts are in range. Assumes nothing.
+-- `handing::drop::queue_end` meets its contract: both counts are in range. Assumes nothing.
 use native.Mathlib.Omega.{arith}
 use borrow.Author.Needs.{needs}
 use Rattle.cells.proofs.Range.{ranges}
-use Rattle.revisions.proofs.drop.queue_end.Statement.{statement}
-use Rattle.revisions.proofs.drop.queue_end.Tie as tie
+use Rattle.handing.proofs.drop.queue_end.Statement.{statement}
+use Rattle.handing.proofs.drop.queue_end.Tie as tie
 
 returns : tie.Need-returns
 returns c =

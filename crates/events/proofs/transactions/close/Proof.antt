@@ -1,9 +1,9 @@
--- `revisions::transactions::close` meets its contract: the writes in a row. Assumes nothing.
+-- `events::transactions::close` meets its contract: the writes in a row. Assumes nothing.
 use borrow.Author.Needs.{needs}
 use Rattle.cells.specs.Decode.{cells}
-use Rattle.revisions.proofs.Writes.{close-done}
-use Rattle.revisions.proofs.transactions.close.Statement.{statement}
-use Rattle.revisions.proofs.transactions.close.Tie as tie
+use Rattle.events.proofs.Writes.{close-done}
+use Rattle.events.proofs.transactions.close.Statement.{statement}
+use Rattle.events.proofs.transactions.close.Tie as tie
 
 returns : tie.Need-returns
 unfolding cells

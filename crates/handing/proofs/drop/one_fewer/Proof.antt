@@ -1,10 +1,10 @@
--- `revisions::drop::one_fewer` meets its contract: the test decides. Assumes nothing.
+-- `handing::drop::one_fewer` meets its contract: the test decides. Assumes nothing.
 use native.Mathlib.Omega.{arith}
 use borrow.Author.Needs.{needs}
 use borrow.Author.Tests.{lt-ltb, le-ltb}
 use Rattle.cells.specs.CellSteps.{oneFewer}
-use Rattle.revisions.proofs.drop.one_fewer.Statement.{statement}
-use Rattle.revisions.proofs.drop.one_fewer.Tie as tie
+use Rattle.handing.proofs.drop.one_fewer.Statement.{statement}
+use Rattle.handing.proofs.drop.one_fewer.Tie as tie
 
 returns : tie.Need-returns
 unfolding oneFewer

@@ -1,11 +1,11 @@
--- `revisions::drop::drop` meets its contract: the writes in a row. Assumes nothing.
+-- `handing::drop::drop` meets its contract: the writes in a row. Assumes nothing.
 use mathlib.Core.Path.{_∙_, ap}
 use borrow.Author.Needs.{needs}
 use Rattle.cells.specs.CellSteps.{oneFewer}
 use Rattle.cells.specs.Decode.{cells}
-use Rattle.revisions.proofs.Writes.{drop-done}
-use Rattle.revisions.proofs.drop.drop.Statement.{statement}
-use Rattle.revisions.proofs.drop.drop.Tie as tie
+use Rattle.handing.proofs.Writes.{drop-done}
+use Rattle.handing.proofs.drop.drop.Statement.{statement}
+use Rattle.handing.proofs.drop.drop.Tie as tie
 
 returns : tie.Need-returns
 unfolding cells

@@ -1,8 +1,8 @@
--- `revisions::record::update` meets its contract: the update is appended, and its transaction is open. Assumes nothing.
+-- `events::record::update` meets its contract: the update is appended, and its transaction is open. Assumes nothing.
 use borrow.Author.Needs.{needs}
-use Rattle.revisions.proofs.Writes.{update-done}
-use Rattle.revisions.proofs.record.update.Statement.{statement}
-use Rattle.revisions.proofs.record.update.Tie as tie
+use Rattle.events.proofs.Writes.{update-done}
+use Rattle.events.proofs.record.update.Statement.{statement}
+use Rattle.events.proofs.record.update.Tie as tie
 
 returns : tie.Need-returns
 returns c =
