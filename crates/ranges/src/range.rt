@@ -8,6 +8,7 @@ ghost use Rattle.cells.specs.Sizes.{lowerBytes};
 ghost use Rattle.cells.specs.Parts.{countersPart, queuePart, signaturePart, split};
 ghost use Rattle.cells.specs.Range.{bytesBelow, countersIn, inRange, placesIn, queueIn, recordsIn, signed, singlesIn, wordsBelow};
 ghost use Rattle.ranges.specs.Answers.{rangeCheck};
+use fields::read;
 use places::parts::BASE;
 use places::parts::COUNT;
 use places::parts::FIRST;
@@ -20,7 +21,6 @@ use places::parts::SIGNATURE;
 use places::parts::SINGLE;
 use places::parts::STATE;
 use places::parts::USED;
-use fields::read;
 use sizes::table::Table;
 
 pub enum RangeCheck {
