@@ -95,14 +95,14 @@ among-in (n ∷ ns) ms h k i =
 
 -- 01: "The checks run in ascending number"; 02: 14, 19 and 21 right after 1, 15 and 16 after 4, 17 and 18 last. One order for all calls but a preview, whose 5
 -- is last
-abbrev order : List ℕ
+abbrev pub order : List ℕ
 order = 1 ∷ 14 ∷ 19 ∷ 21 ∷ 2 ∷ 3 ∷ 4 ∷ 15 ∷ 16 ∷ 5 ∷ 6 ∷ 7 ∷ 8 ∷ 9 ∷ 10 ∷ 11 ∷ 12 ∷ 17 ∷ 18 ∷ []
 
-abbrev OtherThanPreview : Call ℕ → Type 0
+abbrev pub OtherThanPreview : Call ℕ → Type 0
 OtherThanPreview c = (n m bib : ℕ) → c ≡ Looks (Preview n m bib) → ⊥
 
 -- each once, and in the order of the second list
-abbrev along : List ℕ → List ℕ → Bool
+abbrev pub along : List ℕ → List ℕ → Bool
 along [] os = true
 along (n ∷ ns) os = member n os && along ns (behind n os)
 
@@ -113,7 +113,8 @@ later (k ∷ ks) = ltb 1 (k .code) && later ks
 -- a row begins with 1, its other numbers are above 1, it runs in that order, and its numbers are those listed for the call, of a bundle besides those of its
 -- updates
 data Row (q : Tests) (c : Call ℕ) : List Check → Type 0 where
-  begins : (ks : List Check) (more : List ℕ) → later ks ≡ true → among (1 ∷ numbersOf ks) (codesFor c) ≡ true → among (codesFor c) ((1 ∷ numbersOf ks) ++ more) ≡ true
+  begins : (ks : List Check) (more : List ℕ) → later ks ≡ true
+      → among (1 ∷ numbersOf ks) (codesFor c) ≡ true → among (codesFor c) ((1 ∷ numbersOf ks) ++ more) ≡ true
       → (OtherThanPreview c → along (1 ∷ numbersOf ks) order ≡ true) → Row q c (1 if q .noTable ∷ ks)
 
 rows : (q : Tests) (c : Call ℕ) → Row q c (checks q c)
@@ -146,7 +147,8 @@ later-in (j ∷ ks) h k i =
     either (List·Memᴰ·cases-cons i) (λ e. rw e (ltb-true 1 (j .code) (b .0))) (λ m. later-in ks (b .1) k m)
 
 in-row : (q : Tests) (c : Call ℕ) {ks : List Check} → Row q c ks → (k : ℕ) → k ∈ numbersOf ks → (0 < k) × (k ∈ codesFor c)
-in-row q c (begins ks more h a w p) k i = (either (List·Memᴰ·cases-cons i) (λ z. omega arith) (λ m. let b = later-in ks h k m in omega arith), among-in (1 ∷ numbersOf ks) (codesFor c) a k i)
+in-row q c (begins ks more h a w p) k i =
+    (either (List·Memᴰ·cases-cons i) (λ z. omega arith) (λ m. let b = later-in ks h k m in omega arith), among-in (1 ∷ numbersOf ks) (codesFor c) a k i)
 
 pub in-list : (q : Tests) (c : Call ℕ) (k : ℕ) → k ∈ numbersOf (checks q c) → (0 < k) × (k ∈ codesFor c)
 in-list q c k i = in-row q c (rows q c) k i
@@ -190,7 +192,8 @@ pub data Ends {A : Type 0} (ks : List Check) (refusal : ℕ → A) (end : A) : A
   no : (k : ℕ) → 1 < k → Ends ks refusal end (refusal k)
   yes : Passed ks → Ends ks refusal end end
 
-ends-by : {A : Type 0} (refusal : ℕ → A) (end : A) (q : Tests) → q .noTable ≡ false → (c : Call ℕ) {ks : List Check} → Row q c ks → Ends ks refusal end (settle ks refusal end)
+ends-by : {A : Type 0} (refusal : ℕ → A) (end : A) (q : Tests) → q .noTable ≡ false
+    → (c : Call ℕ) {ks : List Check} → Row q c ks → Ends ks refusal end (settle ks refusal end)
 ends-by refusal end q e c (begins ks more h a w p) = rw e (by (settled refusal end ks))
   where
     by : {a : _} → Settled ks refusal end a → Ends (1 if false ∷ ks) refusal end a
@@ -201,7 +204,8 @@ pub ends : {A : Type 0} (refusal : ℕ → A) (end : A) (q : Tests) → q .noTab
 ends refusal end q e c = ends-by refusal end q e c (rows q c)
 
 -- without a table every row gives 1
-first-by : {A : Type 0} (refusal : ℕ → A) (end : A) (q : Tests) → q .noTable ≡ true → (c : Call ℕ) {ks : List Check} → Row q c ks → settle ks refusal end ≡ refusal 1
+first-by : {A : Type 0} (refusal : ℕ → A) (end : A) (q : Tests) → q .noTable ≡ true
+    → (c : Call ℕ) {ks : List Check} → Row q c ks → settle ks refusal end ≡ refusal 1
 first-by refusal end q e c (begins ks more h a w p) = rw e
 
 pub no-table-first : {A : Type 0} (refusal : ℕ → A) (end : A) (q : Tests) → q .noTable ≡ true → (c : Call ℕ) → settle (checks q c) refusal end ≡ refusal 1
