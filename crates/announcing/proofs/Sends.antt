@@ -30,7 +30,7 @@ use Rattle.entries.proofs.Entries.{wrote-length}
 use Rattle.table.specs.Halves.{cellsOf, high, isTable, low}
 use Rattle.table.specs.Answers.{afterTaken, refused}
 use Rattle.table.specs.Out.{Out}
-use Rattle.table.specs.Calls.{asked, settled, yieldOut}
+use Rattle.table.specs.Calls.{asked, bundled, yieldOut}
 use Rattle.table.specs.Shared.{batchShared, countIn, sentShared, updateShared}
 use Rattle.table.proofs.Brings.{Shows, stays-shown, yield-shows}
 use Rattle.table.proofs.Halves.{low-of, lower-of, table-of, upper-length}
@@ -59,9 +59,9 @@ module _ (t : List ℕ) (room : ℕ) where
     unfolding batchShared
     wrong-bundle h m C e = rw (h, C .right, e)
 
-    pub right-bundle : isTable t ≡ true → (m : ℕ) → Counted b m → room ≡ boardBytes → settled t (sentShared full t c n (entriesFrom b 0 m)) ≡ batchShared full t c n (Records b) room
+    pub right-bundle : isTable t ≡ true → (m : ℕ) → Counted b m → room ≡ boardBytes → bundled t (sentShared full t c n (entriesFrom b 0 m)) ≡ batchShared full t c n (Records b) room
     unfolding batchShared entriesIn
-    right-bundle h m C l = rw (h, C .right, l) (ap (λ k. settled t (sentShared full t c n (entriesFrom b 0 k))) (C .count))
+    right-bundle h m C l = rw (h, C .right, l) (ap (λ k. bundled t (sentShared full t c n (entriesFrom b 0 k))) (C .count))
 
 -- t′ is left of the table t, and no update more is settled
 record Keeps (t t′ : List ℕ) : Type 0 where
@@ -117,8 +117,8 @@ module _ (full : ℕ → Bool) where
       goes-on : (o : Out) → Keeps t (o .lent) → (isTable (o .lent) ≡ true → Shows (o .lent) (sentShared full (o .lent) c n es .lent)) → Shows t (afterTaken o (λ d. sentShared full d c n es) .lent)
       goes-on o K f = cases (eqb (o .code) 0) (λ q. rw q (shows-on t (o .lent) _ K (f (K .table)))) (λ q. rw q (keeps-shown t (o .lent) K))
 
-  pub bundle-shows : (t : List ℕ) → isTable t ≡ true → (c n : ℕ) (es : List Entry) → Shows t (settled t (sentShared full t c n es) .lent)
+  pub bundle-shows : (t : List ℕ) → isTable t ≡ true → (c n : ℕ) (es : List Entry) → Shows t (bundled t (sentShared full t c n es) .lent)
   bundle-shows t h c n es = by (sentShared full t c n es) (sent-shows es t h c n)
     where
-      by : (o : Out) → Shows t (o .lent) → Shows t (settled t o .lent)
+      by : (o : Out) → Shows t (o .lent) → Shows t (bundled t o .lent)
       by o S = cases (eqb (o .code) 0) (λ q. rw q S) (λ q. rw q (stays-shown t h))

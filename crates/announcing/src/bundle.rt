@@ -12,7 +12,7 @@ ghost use Rattle.table.specs.Halves.{isTable, low};
 ghost use Rattle.table.specs.Out.{tableBytes};
 ghost use Rattle.table.specs.Answers.{left};
 ghost use Rattle.table.specs.Calls.{boardOut, bundleOut};
-ghost use Rattle.table.specs.Calls.{settled as settledOut};
+ghost use Rattle.table.specs.Calls.{bundled as bundledOut};
 ghost use Rattle.table.specs.Shared.{above, batchShared, sentShared};
 use boards::check::BoardCheck;
 use boards::check::check_board;
@@ -37,7 +37,7 @@ fn bundle_shown(
     n: usize,
 ) -> Answer
     requires { ⌜ (isTable (now t) ≡ true) × (length (now t) ≡ tableBytes) × (inRange (low (now t)) ≡ true) × (length (now board) ≡ boardBytes) × (12 * n ≤ length (now b)) × (0 < n) × (n ≤ 64) ⌝ }
-    ensures { λ a. ⌜ (left a (now (t .exit)) ≡ settledOut (now (t .entry)) (sentShared (above most) (now (t .entry)) client revision (entriesFrom (now (b .entry)) 0 n))) × (now (board .exit) ≡ boardOut (now (t .entry)) (now (t .exit)) (now (board .entry))) ⌝ }
+    ensures { λ a. ⌜ (left a (now (t .exit)) ≡ bundledOut (now (t .entry)) (sentShared (above most) (now (t .entry)) client revision (entriesFrom (now (b .entry)) 0 n))) × (now (board .exit) ≡ boardOut (now (t .entry)) (now (t .exit)) (now (board .entry))) ⌝ }
 {
     let before = settled(t);
     let a = bundle_sound(t, most, client, revision, b, n);

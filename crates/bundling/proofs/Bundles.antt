@@ -18,7 +18,7 @@ use Rattle.sizes.specs.declared.numbers.Client.{Client}
 use Rattle.sizes.specs.declared.numbers.Revision.{Revision}
 use Rattle.table.specs.Halves.{low, cellsOf, isTable}
 use Rattle.table.specs.Answers.{afterTaken, refused}
-use Rattle.table.specs.Calls.{settled}
+use Rattle.table.specs.Calls.{bundled}
 use Rattle.table.specs.Found.{onKind}
 use Rattle.table.specs.Shared.{sentShared, updateShared}
 use Rattle.table.proofs.Calls.{client-is, given-is}
@@ -27,7 +27,7 @@ use Rattle.updating.specs.Checks.{updateCheck}
 use Rattle.updating.specs.declared.update.UpdateCheck.{UpdateCheck}
 use Rattle.updating.specs.declared.update.UpdateCheck.the-variants as update
 use Rattle.updating.proofs.Calls as Calls
-use Rattle.bundling.proofs.Sent.{refused-settled}
+use Rattle.bundling.proofs.Sent.{refused-bundled}
 
 -- the first update's checks, one by one
 checks-are : (d : List ℕ) (c n k bib : ℕ)
@@ -77,26 +77,26 @@ first-settles t h c n k bib =
 
 -- a bundle whose first update is refused
 pub first-refusal : (full : ℕ → Bool) (t : List ℕ) (c n : ℕ) (e : Entry) (es : List Entry) (code : ℕ) → refused t code ≡ updateShared full t c n (e .kind) (e .bib) (e .v) → (code ≡ 0 → ⊥)
-    → refused t code ≡ settled t (sentShared full t c n (e ∷ es))
+    → refused t code ≡ bundled t (sentShared full t c n (e ∷ es))
 unfolding sentShared
 first-refusal full t c n e es code q z =
-    refused-settled t (sentShared full t c n (e ∷ es)) code (ap (λ o. afterTaken o (λ d. sentShared full d c n es) .code) (sym q) ∙ rw (ne-eqb code 0 z)) z
+    refused-bundled t (sentShared full t c n (e ∷ es)) code (ap (λ o. afterTaken o (λ d. sentShared full d c n es) .code) (sym q) ∙ rw (ne-eqb code 0 z)) z
 
 -- the bundle from what the checks of its first update find
 module _ (full : ℕ → Bool) (t : List ℕ) (h : isTable t ≡ true) (c n : ℕ) (b : List ℕ) (m : ℕ) (some : 0 < m) (f : UpdateCheck) (e : f ≡ updateCheck (low t) c n (entryAt b 0 .kind) (entryAt b 0 .bib)) where
   settles : Settles t c n f
   settles = subst (Settles t c n) (sym e) (first-settles t h c n (entryAt b 0 .kind) (entryAt b 0 .bib))
 
-  pub bundle-refused : (code : ℕ) → f ≡ update.Refused code → refused t code ≡ settled t (sentShared full t c n (entriesFrom b 0 m))
+  pub bundle-refused : (code : ℕ) → f ≡ update.Refused code → refused t code ≡ bundled t (sentShared full t c n (entriesFrom b 0 m))
   bundle-refused code g =
       let es = some-of b m (λ z. omega arith) in
       first-refusal full t c n (entryAt b 0) (es .0) code (Calls.update-refused t h full c n (entryAt b 0 .kind) (entryAt b 0 .bib) (entryAt b 0 .v) f e code g) (subst (Settles t c n) g settles)
-      ∙ ap (λ l. settled t (sentShared full t c n l)) (sym (es .1))
+      ∙ ap (λ l. bundled t (sentShared full t c n l)) (sym (es .1))
 
   pub bundle-going : (x : Client) (y : Revision) (kind : Kind) → f ≡ update.Allowed x y kind → Going t (x .0) (y .0)
   bundle-going x y kind g = let s = subst (Settles t c n) g settles in rw (s .1, s .2) (s .0)
 
-  pub bundle-sent : (x : Client) (y : Revision) (kind : Kind) → f ≡ update.Allowed x y kind → (es : List Entry) → settled t (sentShared full t (x .0) (y .0) es) ≡ settled t (sentShared full t c n es)
+  pub bundle-sent : (x : Client) (y : Revision) (kind : Kind) → f ≡ update.Allowed x y kind → (es : List Entry) → bundled t (sentShared full t (x .0) (y .0) es) ≡ bundled t (sentShared full t c n es)
   bundle-sent x y kind g es =
       let s = subst (Settles t c n) g settles in
-      ap (λ i. settled t (sentShared full t i (y .0) es)) (s .1) ∙ ap (λ i. settled t (sentShared full t c i es)) (s .2)
+      ap (λ i. bundled t (sentShared full t i (y .0) es)) (s .1) ∙ ap (λ i. bundled t (sentShared full t c i es)) (s .2)

@@ -10,7 +10,7 @@ use Rattle.cells.specs.Steps.{closeBytes}
 use Rattle.table.specs.Halves.{low, high, cellsOf}
 use Rattle.table.specs.Answers.{afterTaken, refused, taken}
 use Rattle.table.specs.Out.{Out}
-use Rattle.table.specs.Calls.{settled, yieldOut}
+use Rattle.table.specs.Calls.{bundled, yieldOut}
 use Rattle.table.specs.Shared.{above, sentShared}
 use Rattle.bundling.specs.Bundles.{Going, entered, enteredAll, fitCheck, onFit, sentCheck}
 use Rattle.bundling.specs.declared.bundle.FitCheck.{FitCheck}
@@ -74,12 +74,12 @@ module _ (most c n : ℕ) where
   sent-refused (e ∷ es) t G code h = first-refused t G e es code (fitCheck (e .kind) (e .bib) (cellsOf t .updates) most) refl h (λ g i. sent-refused es (entered t c n e) g code i)
 
 -- the bundle's end
-pub refused-settled : (t : List ℕ) (o : Out) (code : ℕ) → o .code ≡ code → (code ≡ 0 → ⊥) → refused t code ≡ settled t o
-refused-settled t o code e z = sym (ap (λ k. cond (eqb k 0) (taken (o .lent) (cellsOf t .updates)) (refused t k)) e ∙ rw (ne-eqb code 0 z))
+pub refused-bundled : (t : List ℕ) (o : Out) (code : ℕ) → o .code ≡ code → (code ≡ 0 → ⊥) → refused t code ≡ bundled t o
+refused-bundled t o code e z = sym (ap (λ k. cond (eqb k 0) (taken (o .lent) (cellsOf t .updates)) (refused t k)) e ∙ rw (ne-eqb code 0 z))
 
 module _ (most : ℕ) (t : List ℕ) (c n : ℕ) (G : Going t c n) (es : List Entry) (f : FitCheck) (h : f ≡ sentCheck es (cellsOf t .updates) most) where
-  pub settle-refused : (code : ℕ) → f ≡ Refused code → refused t code ≡ settled t (sentShared (above most) t c n es)
-  settle-refused code e = let r = sent-refused most c n es t G code (sym h ∙ e) in refused-settled t (sentShared (above most) t c n es) code (r .0) (r .1)
+  pub settle-refused : (code : ℕ) → f ≡ Refused code → refused t code ≡ bundled t (sentShared (above most) t c n es)
+  settle-refused code e = let r = sent-refused most c n es t G code (sym h ∙ e) in refused-bundled t (sentShared (above most) t c n es) code (r .0) (r .1)
 
-  pub settle-fits : f ≡ Fits → {q : List ℕ} {u : ℕ} → q ≡ closeBytes (low (enteredAll t c n es)) c ++ high (enteredAll t c n es) → u ≡ cellsOf t .updates → taken q u ≡ settled t (sentShared (above most) t c n es)
-  settle-fits e eq eu = rw (eq, eu) (sym (ap (settled t) (sent-fits most c n es t G (sym h ∙ e))))
+  pub settle-fits : f ≡ Fits → {q : List ℕ} {u : ℕ} → q ≡ closeBytes (low (enteredAll t c n es)) c ++ high (enteredAll t c n es) → u ≡ cellsOf t .updates → taken q u ≡ bundled t (sentShared (above most) t c n es)
+  settle-fits e eq eu = rw (eq, eu) (sym (ap (bundled t) (sent-fits most c n es t G (sym h ∙ e))))

@@ -12,7 +12,7 @@ ghost use Rattle.updating.specs.Checks.{updateCheck};
 ghost use Rattle.table.specs.Halves.{cellsOf, isTable, low};
 ghost use Rattle.table.specs.Out.{tableBytes};
 ghost use Rattle.table.specs.Answers.{left};
-ghost use Rattle.table.specs.Calls.{settled};
+ghost use Rattle.table.specs.Calls.{bundled};
 ghost use Rattle.table.specs.Shared.{above, sentShared};
 ghost use Rattle.bundling.specs.Bundles.{Going, entered, enteredAll, entryCheck, fitCheck, fitCode, sentCheck};
 ghost use Rattle.bundling.specs.declared.bundle.FitCheck.the-variants as fit;
@@ -122,7 +122,7 @@ fn enter_all(t: &mut [u8], c: Client, r: Revision, b: &[u8], n: usize)
 // The updates and the yield, where the client may have its next event on the revision.
 fn send(t: &mut [u8], most: usize, c: Client, r: Revision, b: &[u8], n: usize) -> Answer
     requires { ⌜ Going (now t) (c .0) (r .0) × (length (now t) ≡ tableBytes) × (12 * n ≤ length (now b)) × (n ≤ 64) ⌝ }
-    ensures { λ a. ⌜ left a (now (t .exit)) ≡ settled (now (t .entry)) (sentShared (above most) (now (t .entry)) (c .0) (r .0) (entriesFrom (now (b .entry)) 0 n)) ⌝ }
+    ensures { λ a. ⌜ left a (now (t .exit)) ≡ bundled (now (t .entry)) (sentShared (above most) (now (t .entry)) (c .0) (r .0) (entriesFrom (now (b .entry)) 0 n)) ⌝ }
 {
     let taken = counts::taken(t);
     let found = check_sent(b, n, taken, most);
@@ -159,7 +159,7 @@ pub fn bundle_sound(
     n: usize,
 ) -> Answer
     requires { ⌜ (isTable (now t) ≡ true) × (length (now t) ≡ tableBytes) × (inRange (low (now t)) ≡ true) × (12 * n ≤ length (now b)) × (0 < n) × (n ≤ 64) ⌝ }
-    ensures { λ a. ⌜ left a (now (t .exit)) ≡ settled (now (t .entry)) (sentShared (above most) (now (t .entry)) client revision (entriesFrom (now (b .entry)) 0 n)) ⌝ }
+    ensures { λ a. ⌜ left a (now (t .exit)) ≡ bundled (now (t .entry)) (sentShared (above most) (now (t .entry)) client revision (entriesFrom (now (b .entry)) 0 n)) ⌝ }
 {
     let found = check_first(t, client, revision, b);
     let UpdateCheck::Allowed(c, r, k) = found else {

@@ -12,7 +12,7 @@ use Rattle.lists.proofs.Sums.{any-never, any-none}
 use Rattle.boards.specs.Board.{boardBytes}
 use Rattle.desk.specs.Calls.{Batch, Bundle, Call, entriesOf, isWrongBatch, plainly}
 use Rattle.table.specs.Halves.{isTable}
-use Rattle.table.specs.Calls.{settled}
+use Rattle.table.specs.Calls.{bundled}
 use Rattle.table.specs.Served.{onBoard}
 use Rattle.table.specs.Shared.{batchShared, sentShared}
 use Rattle.card.specs.Log.{courses}
@@ -47,7 +47,7 @@ served-by-course ts i e q = rw e
 
 -- a bundle that neither 1 nor 14 nor 19 refuses
 pub bundle-sent : (ts : Tables) (i c n : ℕ) (batch : Batch) (board : List ℕ) → noCourse ts i ≡ false → isWrongBatch batch ≡ false → length board ≡ boardBytes
-    → courseServed ts i (Plain (Bundle c n batch board)) ≡ onBoard (ts i) board (settled (ts i) (sentShared (isFull ts i) (ts i) c n (entriesOf batch)))
+    → courseServed ts i (Plain (Bundle c n batch board)) ≡ onBoard (ts i) board (bundled (ts i) (sentShared (isFull ts i) (ts i) c n (entriesOf batch)))
 unfolding batchShared
 bundle-sent ts i c n batch board e w b = let C = is-course ts i e in served-by-course ts i e (Bundle c n batch board) ∙ rw (C .tables i (C .number), w, b)
 

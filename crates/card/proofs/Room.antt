@@ -17,13 +17,13 @@ use Rattle.desk.specs.Checks.{checks, settle}
 use Rattle.table.specs.Answers.{refused}
 use Rattle.table.specs.Halves.{isTable}
 use Rattle.table.specs.Out.{Out}
-use Rattle.table.specs.Calls.{asked, settled}
+use Rattle.table.specs.Calls.{asked, bundled}
 use Rattle.table.specs.Served.{onBoard, onTable}
 use Rattle.table.specs.Shared.{above, batchShared, countIn, sentShared, updateShared}
 use Rattle.table.proofs.Shared.{batch-alone, bundle-is, update-alone}
 use Rattle.card.specs.Log.{assured, card, courses, larger, logged, passes}
 use Rattle.card.specs.Courses.{Plain, Tables, counts, courseServed, isFull, noCourse, sharing, four}
-use Rattle.card.specs.Room.{AloneByMost, ByNumbers, beside, most, servedBeside}
+use Rattle.card.specs.Room.{AloneByMost, CoursesByNumber, beside, most, servedBeside}
 use Rattle.card.proofs.Log.{at-least, larger-assured}
 use Rattle.card.proofs.Ones.{no-table}
 
@@ -67,7 +67,7 @@ module _ (full other : ℕ → Bool) (same : (n : ℕ) → full (suc n) ≡ othe
   shared-same t (Mark n name) = refl
   shared-same t (Drop name) = refl
   shared-same t (Bundle c n batch board) =
-      ap (λ o. onBoard t board (settle (checks (asked t) (Bundle c n batch (length board))) (refused t) (settled t o))) (sent-same (entriesOf batch) t c n)
+      ap (λ o. onBoard t board (settle (checks (asked t) (Bundle c n batch (length board))) (refused t) (bundled t o))) (sent-same (entriesOf batch) t c n)
   shared-same t (Looks l) = refl
 
 -- j, k and l are the courses beside i
@@ -120,7 +120,7 @@ others-3 : Others 3 0 1 2
 unfolding noCourse anyBelow logged
 others-3 = record { own = omega arith; first = omega arith; second = omega arith; third = omega arith; all = λ ts d a b c. rw (d, c, b, a); sum = λ f n. omega arith }
 
-pub by-number : ByNumbers
+pub by-number : CoursesByNumber
 unfolding four
 by-number a b c d q =
     let ts = four a b c d in

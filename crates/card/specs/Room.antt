@@ -24,14 +24,14 @@ unfoldable pub servedBeside : List ℕ → List ℕ → List ℕ → List ℕ �
 servedBeside a b c t q = cond (isTable a && isTable b && isTable c) (sharing (above (most (beside a b c))) t q) (turnedAway 1 t (Plain q))
 
 -- so that one function may serve each course
-pub record ByNumber (a b c d : List ℕ) (q : Call (List ℕ)) : Type 0 where
+pub record CourseByNumber (a b c d : List ℕ) (q : Call (List ℕ)) : Type 0 where
   pub first : courseServed (four a b c d) 0 (Plain q) ≡ servedBeside b c d a q
   pub second : courseServed (four a b c d) 1 (Plain q) ≡ servedBeside a c d b q
   pub third : courseServed (four a b c d) 2 (Plain q) ≡ servedBeside a b d c q
   pub fourth : courseServed (four a b c d) 3 (Plain q) ≡ servedBeside a b c d q
 
-abbrev pub ByNumbers : Type 0
-ByNumbers = (a b c d : List ℕ) (q : Call (List ℕ)) → ByNumber a b c d q
+abbrev pub CoursesByNumber : Type 0
+CoursesByNumber = (a b c d : List ℕ) (q : Call (List ℕ)) → CourseByNumber a b c d q
 
 -- a table alone is one whose most is 4,096, so that one function may serve both
 abbrev pub AloneByMost : Type 0

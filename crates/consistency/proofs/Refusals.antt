@@ -19,7 +19,7 @@ use Rattle.desk.proofs.Checks as Rows
 use Rattle.desk.proofs.Checks.{Passed, Refused, Settled, _also_, among-in, code-exactly, goes, refused-only, settled as settled-row, stops}
 use Rattle.table.specs.Answers.{afterTaken, refused, taken}
 use Rattle.table.specs.Out.{Out, tableBytes}
-use Rattle.table.specs.Calls.{asked, batchOut, billOut, bundleOut, dropOut, entriesOut, fillOut, forkOut, freshBoard, freshOut, joinOut, listOut, markOut, noBill, noFill, noProspect, previewOut, queryOut, sentOut, settled, syncOut, updateOut, verdict, verifyOut, yieldOut}
+use Rattle.table.specs.Calls.{asked, batchOut, billOut, bundleOut, dropOut, entriesOut, fillOut, forkOut, freshBoard, freshOut, joinOut, listOut, markOut, noBill, noFill, noProspect, previewOut, queryOut, sentOut, bundled, syncOut, updateOut, verdict, verifyOut, yieldOut}
 use Rattle.table.specs.declared.answer.Answer.{Answer}
 use Rattle.table.specs.declared.answer.Level.{Level}
 use Rattle.table.specs.declared.answer.Prospect.{Prospect}
@@ -83,12 +83,12 @@ sent-refused [] t c n = λ h. among-in (1 ∷ 19 ∷ 2 ∷ []) eventCodes refl (
 sent-refused (e ∷ es) t c n =
     after-sent (updateOut t c n (e .kind) (e .bib) (e .v)) (λ d. sentOut d c n es) (λ h. List·Memᴰ·tail (update-refused t c n (e .kind) (e .bib) (e .v) h .number)) (λ d. sent-refused es d c n)
 
-settled-refused : (t : List ℕ) (o : Out) (c n : ℕ) (batch : Batch) (room : ℕ) → ((o .code ≡ 0 → ⊥) → o .code ∈ eventCodes) → (settled t o .code ≡ 0 → ⊥) → OutRefused t (listed (Bundle c n batch room)) (settled t o)
-settled-refused t o c n batch room f =
+bundled-refused : (t : List ℕ) (o : Out) (c n : ℕ) (batch : Batch) (room : ℕ) → ((o .code ≡ 0 → ⊥) → o .code ∈ eventCodes) → (bundled t o .code ≡ 0 → ⊥) → OutRefused t (listed (Bundle c n batch room)) (bundled t o)
+bundled-refused t o c n batch room f =
     cases (eqb (o .code) 0) (λ q. rw q (λ h. absurd (h refl))) (λ q. rw q (λ h. record { number = among-in eventCodes (listed (Bundle c n batch room)) refl (o .code) (f (eqb-false (o .code) 0 q)); is = refl }))
 
 batch-refused : (t : List ℕ) (c n : ℕ) (batch : Batch) (room : ℕ) → (batchOut t c n batch room .code ≡ 0 → ⊥) → OutRefused t (listed (Bundle c n batch room)) (batchOut t c n batch room)
-batch-refused t c n batch room = out-refused t t (Bundle c n batch room) _ (λ P. settled-refused t (sentOut t c n (entriesOf batch)) c n batch room (sent-refused (entriesOf batch) t c n))
+batch-refused t c n batch room = out-refused t t (Bundle c n batch room) _ (λ P. bundled-refused t (sentOut t c n (entriesOf batch)) c n batch room (sent-refused (entriesOf batch) t c n))
 
 pub refusals-change-nothing : RefusalsChangeNothing
 unfolding queryOut forkOut joinOut markOut dropOut listOut fillOut bundleOut entriesOut

@@ -30,7 +30,7 @@ use Rattle.entries.proofs.Entries.{wrote-length}
 use Rattle.table.specs.Halves.{low, high, cellsOf, isTable}
 use Rattle.table.specs.Answers.{afterTaken, refused}
 use Rattle.table.specs.Out.{Out, tableBytes}
-use Rattle.table.specs.Calls.{asOne, asked, batchOut, billOut, bundleOut, dropOut, entriesOut, fillOut, forkOut, freshOut, joinEnd, joinOut, listOut, markOut, noBill, noFill, noProspect, previewOut, queryOut, sentOut, settled, syncOut, updateOut, verdict, verifyOut, yieldOut}
+use Rattle.table.specs.Calls.{asOne, asked, batchOut, billOut, bundleOut, dropOut, entriesOut, fillOut, forkOut, freshOut, joinEnd, joinOut, listOut, markOut, noBill, noFill, noProspect, previewOut, queryOut, sentOut, bundled, syncOut, updateOut, verdict, verifyOut, yieldOut}
 use Rattle.table.proofs.Halves.{lower-of, table-of, upper-length}
 use Rattle.table.proofs.Syncs.{joins}
 use Rattle.table.specs.declared.answer.Answer.{Answer}
@@ -130,17 +130,17 @@ sent-kept (e ∷ es) t h c n = goes-on (updateOut t c n (e .kind) (e .bib) (e .v
     goes-on : (o : Out) → Kept o → (isTable (o .lent) ≡ true → Kept (sentOut (o .lent) c n es)) → Kept (afterTaken o (λ d. sentOut d c n es))
     goes-on o K f = cases (eqb (o .code) 0) (λ q. rw q (f (K .0))) (λ q. rw q K)
 
-settled-kept : (t : List ℕ) → isTable t ≡ true → (c n : ℕ) (es : List Entry) → Kept (settled t (sentOut t c n es))
-settled-kept t h c n es = by (sentOut t c n es) (sent-kept es t h c n)
+bundled-kept : (t : List ℕ) → isTable t ≡ true → (c n : ℕ) (es : List Entry) → Kept (bundled t (sentOut t c n es))
+bundled-kept t h c n es = by (sentOut t c n es) (sent-kept es t h c n)
   where
-    by : (o : Out) → Kept o → Kept (settled t o)
+    by : (o : Out) → Kept o → Kept (bundled t o)
     by o K = cases (eqb (o .code) 0) (λ q. rw q (K .0, λ e. omega arith)) (λ q. rw q (h, K .1))
 
 batch-stays : (t : List ℕ) → isTable t ≡ true → (c n : ℕ) (batch : Batch) (room : ℕ) → isTable (batchOut t c n batch room .lent) ≡ true
-batch-stays t h c n batch room = out-stays t h (Bundle c n batch room) _ (λ P. settled-kept t h c n (entriesOf batch) .0)
+batch-stays t h c n batch room = out-stays t h (Bundle c n batch room) _ (λ P. bundled-kept t h c n (entriesOf batch) .0)
 
 batch-one : (t : List ℕ) (c n : ℕ) (batch : Batch) (room : ℕ) → (batchOut t c n batch room .code ≡ 1) ↔ (isTable t ≡ false)
-batch-one t c n batch room = out-one t t (Bundle c n batch room) _ (λ h P. settled-kept t h c n (entriesOf batch) .1)
+batch-one t c n batch room = out-one t t (Bundle c n batch room) _ (λ h P. bundled-kept t h c n (entriesOf batch) .1)
 
 -- a sync's join leaves a table to its fork
 fork-leaves : (t : List ℕ) (n : ℕ) → LeavesTable t (Fork n)

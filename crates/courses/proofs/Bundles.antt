@@ -13,7 +13,7 @@ use Rattle.desk.specs.Calls.{Call, Update, Yield, entriesOf}
 use Rattle.table.specs.Answers.{afterTaken}
 use Rattle.table.specs.Halves.{isTable}
 use Rattle.table.specs.Out.{Out}
-use Rattle.table.specs.Calls.{settled, yieldOut}
+use Rattle.table.specs.Calls.{bundled, yieldOut}
 use Rattle.table.specs.Served.{Served, onTable}
 use Rattle.table.specs.Shared.{countIn, sentShared, updateShared}
 use Rattle.consistency.proofs.Stays.{stays-table}
@@ -29,14 +29,14 @@ use Rattle.courses.proofs.Told.{others-stay, own-written}
 only-code : (k : ℕ) → k ≡ cond (eqb k 0) 0 k
 only-code k = cases (eqb k 0) (λ e. rw e (eqb-true k 0 e)) (λ e. rw e)
 
-settled-code : (t : List ℕ) (o : Out) → settled t o .code ≡ o .code
-settled-code t o = cases (eqb (o .code) 0) (λ e. rw e (sym (eqb-true (o .code) 0 e))) (λ e. rw e)
+bundled-code : (t : List ℕ) (o : Out) → bundled t o .code ≡ o .code
+bundled-code t o = cases (eqb (o .code) 0) (λ e. rw e (sym (eqb-true (o .code) 0 e))) (λ e. rw e)
 
-settled-lent : (t : List ℕ) (o : Out) → o .code ≡ 0 → settled t o .lent ≡ o .lent
-settled-lent t o e = rw e
+bundled-lent : (t : List ℕ) (o : Out) → o .code ≡ 0 → bundled t o .lent ≡ o .lent
+bundled-lent t o e = rw e
 
-settled-value : (t : List ℕ) (o : Out) → o .code ≡ 0 → settled t o .value ≡ countIn t
-settled-value t o e = rw e
+bundled-value : (t : List ℕ) (o : Out) → o .code ≡ 0 → bundled t o .value ≡ countIn t
+bundled-value t o e = rw e
 
 module _ (i : ℕ) where
   abbrev calling : Call (List ℕ) → CourseCall
@@ -119,9 +119,9 @@ bundles-one-by-one ts i c n batch board e w b =
     let o = sentShared (isFull ts i) (ts i) c n (entriesOf batch) in
     let R = sent-one-by-one i c n board b (isFull ts i) (entriesOf batch) ts e (λ k. refl) in
     let h = bundle-sent ts i c n batch board e w b in
-    let k = ap (λ (u : Served). u .reply .code) h ∙ settled-code (ts i) o in
+    let k = ap (λ (u : Served). u .reply .code) h ∙ bundled-code (ts i) o in
     record {
       code = k ∙ R .code;
-      table = λ z. ap (λ (u : Served). u .table) h ∙ settled-lent (ts i) o (sym k ∙ z) ∙ R .lent (sym k ∙ z);
-      value = λ z. ap (λ (u : Served). u .reply .value) h ∙ settled-value (ts i) o (sym k ∙ z);
+      table = λ z. ap (λ (u : Served). u .table) h ∙ bundled-lent (ts i) o (sym k ∙ z) ∙ R .lent (sym k ∙ z);
+      value = λ z. ap (λ (u : Served). u .reply .value) h ∙ bundled-value (ts i) o (sym k ∙ z);
     }

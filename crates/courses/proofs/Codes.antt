@@ -19,7 +19,7 @@ use Rattle.desk.specs.Listed.{codesFor}
 use Rattle.plain.specs.Fills.{enters}
 use Rattle.table.specs.Answers.{refused}
 use Rattle.table.specs.Out.{Out}
-use Rattle.table.specs.Calls.{asked, sentOut, settled, updateOut}
+use Rattle.table.specs.Calls.{asked, sentOut, bundled, updateOut}
 use Rattle.table.specs.Served.{Served, onBoard, served}
 use Rattle.table.specs.Shared.{batchShared, findsFull, sentShared, unlessFull, updateShared}
 use Rattle.table.proofs.Shared.{bundle-is}
@@ -30,7 +30,7 @@ use Rattle.card.specs.Courses.{Ask, Fresh, Plain, Tables, counts, courseServed,
 use Rattle.card.proofs.Log.{over-passes, passes-over}
 use Rattle.card.proofs.Courses.{IsCourse, is-course}
 use Rattle.courses.specs.Heard.{alone}
-use Rattle.courses.specs.Claims.{IsTurnedAway, OnesExactly, RefusalsChangeNothing, TwentyByUpdates, TwentyExactly, codesOf}
+use Rattle.courses.specs.Claims.{IsTurnedAway, OnesExactly, RefusalsChangeNothing, TwentyByUpdates, TwentyExactly, codesAsked}
 use Rattle.courses.proofs.Shared.{sharing-is}
 use Rattle.courses.proofs.Told.{refused-alone}
 
@@ -107,7 +107,7 @@ sharing-twenty full t (Sync m board) h = refl
 sharing-twenty full t (Mark n name) h = refl
 sharing-twenty full t (Drop name) h = refl
 sharing-twenty full t (Bundle c n batch board) h =
-    ap (λ o. onBoard t board (settle (checks (asked t) (Bundle c n batch (length board))) (refused t) (settled t o))) (none-sent full (entriesOf batch) t c n h)
+    ap (λ o. onBoard t board (settle (checks (asked t) (Bundle c n batch (length board))) (refused t) (bundled t o))) (none-sent full (entriesOf batch) t c n h)
     ∙ sym (bundle-is t c n batch board)
 sharing-twenty full t (Looks l) h = refl
 
@@ -121,7 +121,7 @@ twenty-by-updates ts i q =
     (λ l. absurd (never-twenty (ts i) q (sym (ap (λ (u : Served). u .reply .code) (sharing-twenty (isFull ts i) (ts i) q (λ k. true≢false (sym (lt-ltb 0 _ k) ∙ l)))) ∙ h)))))
 
 -- a refusal has a number of its row, 1 or 20, and leaves every byte
-alone-number : (t : List ℕ) (a : Ask) → (alone t a .reply .code ≡ 0 → ⊥) → alone t a .reply .code ∈ codesOf a
+alone-number : (t : List ℕ) (a : Ask) → (alone t a .reply .code ≡ 0 → ⊥) → alone t a .reply .code ∈ codesAsked a
 alone-number t (Fresh single board) h = fresh-refused t single board h .number
 alone-number t (Plain q) h = List·Memᴰ·tail (List·Memᴰ·tail (refusals-change-nothing t q h .number))
 

@@ -17,7 +17,7 @@ use Rattle.plain.specs.Fills.{enters}
 use Rattle.plain.proofs.Fills.{adds}
 use Rattle.table.specs.Answers.{refused, taken}
 use Rattle.table.specs.Out.{Out}
-use Rattle.table.specs.Calls.{asked, sentOut, settled, updateOut, yieldOut}
+use Rattle.table.specs.Calls.{asked, sentOut, bundled, updateOut, yieldOut}
 use Rattle.table.specs.Served.{Served, onBoard, onTable, served}
 use Rattle.table.specs.Shared.{batchShared, countIn, findsFull, sentShared, unlessFull, updateShared}
 use Rattle.table.proofs.Shared.{bundle-is}
@@ -97,7 +97,7 @@ module _ (full : ℕ → Bool) (B : ℕ → Type 0) (room : (n : ℕ) → full n
   unfolding batchShared
   batch-room p t S b c n batch size =
       let o = sentShared full t c n (entriesOf batch) in
-      settle-all (λ (o : Out). B (countIn (o .lent))) (checks (asked t) (Bundle c n batch size)) (refused t) (settled t o) (λ k. b)
+      settle-all (λ (o : Out). B (countIn (o .lent))) (checks (asked t) (Bundle c n batch size)) (refused t) (bundled t o) (λ k. b)
       (cond-all (λ (o : Out). B (countIn (o .lent))) (eqb (o .code) 0) (taken (o .lent) (countIn t)) (refused t (o .code)) (sent-room (entriesOf batch) p t S b c n) b)
 
   pub sharing-room : (p : PlainDay) (t : List ℕ) → Stands p t → B (countIn t) → (q : Call (List ℕ)) → B (countIn (sharing full t q .table))
@@ -142,6 +142,6 @@ module _ (full : ℕ → Bool) (limit : ℕ) (room : (n : ℕ) → n ≤ limit �
   sharing-passes p t S (Mark n name) l = refl
   sharing-passes p t S (Drop name) l = refl
   sharing-passes p t S (Bundle c n batch board) l =
-      ap (λ o. onBoard t board (settle (checks (asked t) (Bundle c n batch (length board))) (refused t) (settled t o))) (sent-passes (entriesOf batch) p t S c n l)
+      ap (λ o. onBoard t board (settle (checks (asked t) (Bundle c n batch (length board))) (refused t) (bundled t o))) (sent-passes (entriesOf batch) p t S c n l)
       ∙ sym (bundle-is t c n batch board)
   sharing-passes p t S (Looks l) k = refl

@@ -12,7 +12,7 @@ use Rattle.desk.specs.Calls.{Call, Update, Query, Yield, Fork, Join, Sync, Mark
 use Rattle.desk.specs.Checks.{Check, checks, settle}
 use Rattle.table.specs.Answers.{afterTaken, refused}
 use Rattle.table.specs.Out.{Out}
-use Rattle.table.specs.Calls.{asked, batchOut, sentOut, settled, updateOut}
+use Rattle.table.specs.Calls.{asked, batchOut, sentOut, bundled, updateOut}
 use Rattle.table.specs.Served.{onBoard, onTable, served}
 use Rattle.table.specs.Shared.{batchShared, findsFull, sentShared, unlessFull, updateShared}
 use Rattle.table.proofs.Brings.{board-blank}
@@ -45,16 +45,16 @@ module _ (full : ℕ → Bool) where
           → (afterTaken o (λ d. sentShared full d c n es) ≡ afterTaken o (λ d. sentOut d c n es)) ⊎ (afterTaken o (λ d. sentShared full d c n es) .code ≡ 20)
       by o rest = cases (eqb (o .code) 0) (λ q. rw q (rest (o .lent))) (λ q. rw q (inl refl))
 
-settled-twenty : (t : List ℕ) (o : Out) → o .code ≡ 20 → settled t o ≡ refused t 20
-settled-twenty t o e = rw e
+bundled-twenty : (t : List ℕ) (o : Out) → o .code ≡ 20 → bundled t o ≡ refused t 20
+bundled-twenty t o e = rw e
 
 ended-is : (t : List ℕ) (c n : ℕ) (batch : Batch) (room : ℕ) (o : Out) → (o ≡ sentOut t c n (entriesOf batch)) ⊎ (o .code ≡ 20)
-    → (settle (checks (asked t) (Bundle c n batch room)) (refused t) (settled t o) ≡ batchOut t c n batch room) ⊎ (settle (checks (asked t) (Bundle c n batch room)) (refused t) (settled t o) ≡ refused t 20)
+    → (settle (checks (asked t) (Bundle c n batch room)) (refused t) (bundled t o) ≡ batchOut t c n batch room) ⊎ (settle (checks (asked t) (Bundle c n batch room)) (refused t) (bundled t o) ≡ refused t 20)
 ended-is t c n batch room o h =
     let ks = checks (asked t) (Bundle c n batch room) in
     either h
-    (λ q. inl (ap (λ o. settle ks (refused t) (settled t o)) q))
-    (λ q. either (stops-or-ends (refused t) (settled t o) (settled t (sentOut t c n (entriesOf batch))) ks) (λ s. inl s) (λ s. inr (s ∙ settled-twenty t o q)))
+    (λ q. inl (ap (λ o. settle ks (refused t) (bundled t o)) q))
+    (λ q. either (stops-or-ends (refused t) (bundled t o) (bundled t (sentOut t c n (entriesOf batch))) ks) (λ s. inl s) (λ s. inr (s ∙ bundled-twenty t o q)))
 
 batch-is : (full : ℕ → Bool) (t : List ℕ) (c n : ℕ) (batch : Batch) (room : ℕ) → (batchShared full t c n batch room ≡ batchOut t c n batch room) ⊎ (batchShared full t c n batch room ≡ refused t 20)
 unfolding batchShared

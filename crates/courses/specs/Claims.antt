@@ -35,12 +35,12 @@ LightCourses =
     → (differences (ts i) (courseServed ts i (Plain (Join n m board)) .table) ≤ 256) × (differences (ts i) (courseServed ts i (Plain (Sync m board)) .table) ≤ 512)
 
 -- 00, demand 1: "A refused call gives its number from the list with value 0 and changes no byte"
-abbrev pub codesOf : Ask → List ℕ
-codesOf (Fresh single board) = 1 ∷ 19 ∷ []
-codesOf (Plain q) = 1 ∷ 20 ∷ codesFor q
+abbrev pub codesAsked : Ask → List ℕ
+codesAsked (Fresh single board) = 1 ∷ 19 ∷ []
+codesAsked (Plain q) = 1 ∷ 20 ∷ codesFor q
 
 pub record IsTurnedAway (t : List ℕ) (a : Ask) (s : Served) : Type 0 where
-  pub number : s .reply .code ∈ codesOf a
+  pub number : s .reply .code ∈ codesAsked a
   pub blank : s ≡ turnedAway (s .reply .code) t a
 
 abbrev pub RefusalsChangeNothing : Type 0

@@ -9,7 +9,7 @@ use native.Mathlib.Omega.{arith}
 use lib.Dec.{eqb, ltb}
 use borrow.Author.Tests.{eqb-false, ltb-true}
 use Rattle.lists.specs.Lists.{_∈_}
-use Rattle.lists.specs.Arranged.{member}
+use Rattle.lists.specs.Arranged.{behind, member}
 use Rattle.lists.proofs.Cases.{and-true, cases, either, or-false}
 use Rattle.lists.proofs.Keep.{in-member, member-in}
 use Rattle.desk.specs.Calls.{Call, Update, Query, Yield, Fork, Join, Sync, Mark, Drop, Bundle, Looks, Show, Fill, Preview, Verify, Bill}
@@ -82,49 +82,8 @@ module _ {A : Type 0} (codeOf : A → ℕ) (refusal : ℕ → A) (own : (k : ℕ
       → (codeOf (settle (ks ++ (k ∷ js)) refusal end) ≡ k .code) ↔ (Passed ks × (k .applies ≡ true))
   code-exactly ks js h g = (stops-by ks js h g, λ r. stops-back ks js (r .0) (r .1))
 
--- a row begins with 1, its other numbers are above 1, and its numbers are those listed for the call, in their order
-abbrev later : List Check → Bool
-later [] = true
-later (k ∷ ks) = ltb 1 (k .code) && later ks
-
-data Row (q : Tests) (listed : List ℕ) : List Check → Type 0 where
-  begins : (ks : List Check) (more : List ℕ) → later ks ≡ true → listed ≡ (1 ∷ numbersOf ks) ++ more → Row q listed (1 if q .noTable ∷ ks)
-
-rows : (q : Tests) (c : Call ℕ) → Row q (codesFor c) (checks q c)
-rows q (Update c n k bib v) = begins _ [] refl refl
-rows q (Query c n bib) = begins _ [] refl refl
-rows q (Yield c room) = begins _ [] refl refl
-rows q (Fork n) = begins _ [] refl refl
-rows q (Join n m room) = begins _ [] refl refl
-rows q (Sync m room) = begins _ [] refl refl
-rows q (Mark n name) = begins _ [] refl refl
-rows q (Drop name) = begins _ [] refl refl
-rows q (Bundle c n batch room) = begins _ (2 ∷ 3 ∷ 4 ∷ 16 ∷ 5 ∷ 6 ∷ 7 ∷ 8 ∷ 9 ∷ []) refl refl
-rows q (Looks (Show n room)) = begins _ [] refl refl
-rows q (Looks (Fill n)) = begins _ [] refl refl
-rows q (Looks (Preview n m bib)) = begins _ [] refl refl
-rows q (Looks (Verify file)) = begins _ [] refl refl
-rows q (Looks (Bill member)) = begins _ [] refl refl
-
-later-in : (ks : List Check) → later ks ≡ true → (k : ℕ) → k ∈ numbersOf ks → 1 < k
-later-in [] h k i = absurd (List·Memᴰ·not-nil i)
-later-in (j ∷ ks) h k i =
-    let b = and-true (ltb 1 (j .code)) (later ks) h in
-    either (List·Memᴰ·cases-cons i) (λ e. rw e (ltb-true 1 (j .code) (b .0))) (λ m. later-in ks (b .1) k m)
-
-first-in : (k : ℕ) (ns ms : List ℕ) → k ∈ ns → k ∈ ns ++ ms
-first-in k (n ∷ ns) ms (List·Memᴰ·head e) = List·Memᴰ·head e
-first-in k (n ∷ ns) ms (List·Memᴰ·tail i) = List·Memᴰ·tail (first-in k ns ms i)
-
-in-row : (q : Tests) {listed : List ℕ} {ks : List Check} → Row q listed ks → (k : ℕ) → k ∈ numbersOf ks → (0 < k) × (k ∈ listed)
-in-row q (begins ks more h e) k i =
-    (either (List·Memᴰ·cases-cons i) (λ z. omega arith) (λ m. let b = later-in ks h k m in omega arith), subst (λ ns. k ∈ ns) (sym e) (first-in k (1 ∷ numbersOf ks) more i))
-
-pub in-list : (q : Tests) (c : Call ℕ) (k : ℕ) → k ∈ numbersOf (checks q c) → (0 < k) × (k ∈ codesFor c)
-in-list q c k i = in-row q (rows q c) k i
-
 -- the numbers of one call among those of another
-abbrev among : List ℕ → List ℕ → Bool
+abbrev pub among : List ℕ → List ℕ → Bool
 among [] ms = true
 among (n ∷ ns) ms = member n ms && among ns ms
 
@@ -133,6 +92,66 @@ among-in [] ms h k i = absurd (List·Memᴰ·not-nil i)
 among-in (n ∷ ns) ms h k i =
     let b = and-true (member n ms) (among ns ms) h in
     either (List·Memᴰ·cases-cons i) (λ e. subst (λ x. x ∈ ms) (sym e) (member-in n ms (b .0))) (λ m. among-in ns ms (b .1) k m)
+
+-- 01: "The checks run in ascending number"; 02: 14, 19 and 21 right after 1, 15 and 16 after 4, 17 and 18 last. One order for all calls but a preview, whose 5
+-- is last
+abbrev pub order : List ℕ
+order = 1 ∷ 14 ∷ 19 ∷ 21 ∷ 2 ∷ 3 ∷ 4 ∷ 15 ∷ 16 ∷ 5 ∷ 6 ∷ 7 ∷ 8 ∷ 9 ∷ 10 ∷ 11 ∷ 12 ∷ 17 ∷ 18 ∷ []
+
+abbrev pub OtherThanPreview : Call ℕ → Type 0
+OtherThanPreview c = (n m bib : ℕ) → c ≡ Looks (Preview n m bib) → ⊥
+
+-- each once, and in the order of the second list
+abbrev pub along : List ℕ → List ℕ → Bool
+along [] os = true
+along (n ∷ ns) os = member n os && along ns (behind n os)
+
+abbrev later : List Check → Bool
+later [] = true
+later (k ∷ ks) = ltb 1 (k .code) && later ks
+
+-- a row begins with 1, its other numbers are above 1, it runs in that order, and its numbers are those listed for the call, of a bundle besides those of its
+-- updates
+data Row (q : Tests) (c : Call ℕ) : List Check → Type 0 where
+  begins : (ks : List Check) (more : List ℕ) → later ks ≡ true
+      → among (1 ∷ numbersOf ks) (codesFor c) ≡ true → among (codesFor c) ((1 ∷ numbersOf ks) ++ more) ≡ true
+      → (OtherThanPreview c → along (1 ∷ numbersOf ks) order ≡ true) → Row q c (1 if q .noTable ∷ ks)
+
+rows : (q : Tests) (c : Call ℕ) → Row q c (checks q c)
+unfolding behind
+rows q (Update c n k bib v) = begins _ [] refl refl refl (λ o. refl)
+rows q (Query c n bib) = begins _ [] refl refl refl (λ o. refl)
+rows q (Yield c room) = begins _ [] refl refl refl (λ o. refl)
+rows q (Fork n) = begins _ [] refl refl refl (λ o. refl)
+rows q (Join n m room) = begins _ [] refl refl refl (λ o. refl)
+rows q (Sync m room) = begins _ [] refl refl refl (λ o. refl)
+rows q (Mark n name) = begins _ [] refl refl refl (λ o. refl)
+rows q (Drop name) = begins _ [] refl refl refl (λ o. refl)
+rows q (Bundle c n batch room) = begins _ (numbersOf (checks q (Update c n 0 0 0))) refl refl refl (λ o. refl)
+rows q (Looks (Show n room)) = begins _ [] refl refl refl (λ o. refl)
+rows q (Looks (Fill n)) = begins _ [] refl refl refl (λ o. refl)
+rows q (Looks (Preview n m bib)) = begins _ [] refl refl refl (λ o. absurd (o n m bib refl))
+rows q (Looks (Verify file)) = begins _ [] refl refl refl (λ o. refl)
+rows q (Looks (Bill member)) = begins _ [] refl refl refl (λ o. refl)
+
+ascends-by : (q : Tests) (c : Call ℕ) → OtherThanPreview c → {ks : List Check} → Row q c ks → along (numbersOf ks) order ≡ true
+ascends-by q c o (begins ks more h a w p) = p o
+
+pub ascends : (q : Tests) (c : Call ℕ) → OtherThanPreview c → along (numbersOf (checks q c)) order ≡ true
+ascends q c o = ascends-by q c o (rows q c)
+
+later-in : (ks : List Check) → later ks ≡ true → (k : ℕ) → k ∈ numbersOf ks → 1 < k
+later-in [] h k i = absurd (List·Memᴰ·not-nil i)
+later-in (j ∷ ks) h k i =
+    let b = and-true (ltb 1 (j .code)) (later ks) h in
+    either (List·Memᴰ·cases-cons i) (λ e. rw e (ltb-true 1 (j .code) (b .0))) (λ m. later-in ks (b .1) k m)
+
+in-row : (q : Tests) (c : Call ℕ) {ks : List Check} → Row q c ks → (k : ℕ) → k ∈ numbersOf ks → (0 < k) × (k ∈ codesFor c)
+in-row q c (begins ks more h a w p) k i =
+    (either (List·Memᴰ·cases-cons i) (λ z. omega arith) (λ m. let b = later-in ks h k m in omega arith), among-in (1 ∷ numbersOf ks) (codesFor c) a k i)
+
+pub in-list : (q : Tests) (c : Call ℕ) (k : ℕ) → k ∈ numbersOf (checks q c) → (0 < k) × (k ∈ codesFor c)
+in-list q c k i = in-row q c (rows q c) k i
 
 -- a row ends in its refusals' code, or in 0 exactly if none applies
 module _ {A : Type 0} (codeOf : A → ℕ) (refusal : ℕ → A) (own : (k : ℕ) → codeOf (refusal k) ≡ k) (q : Tests) (c : Call ℕ) where
@@ -173,22 +192,24 @@ pub data Ends {A : Type 0} (ks : List Check) (refusal : ℕ → A) (end : A) : A
   no : (k : ℕ) → 1 < k → Ends ks refusal end (refusal k)
   yes : Passed ks → Ends ks refusal end end
 
-ends-by : {A : Type 0} (refusal : ℕ → A) (end : A) (q : Tests) → q .noTable ≡ false → {listed : List ℕ} {ks : List Check} → Row q listed ks → Ends ks refusal end (settle ks refusal end)
-ends-by refusal end q e (begins ks more h l) = rw e (by (settled refusal end ks))
+ends-by : {A : Type 0} (refusal : ℕ → A) (end : A) (q : Tests) → q .noTable ≡ false
+    → (c : Call ℕ) {ks : List Check} → Row q c ks → Ends ks refusal end (settle ks refusal end)
+ends-by refusal end q e c (begins ks more h a w p) = rw e (by (settled refusal end ks))
   where
     by : {a : _} → Settled ks refusal end a → Ends (1 if false ∷ ks) refusal end a
     by (stops k i) = no k (later-in ks h k i)
     by (goes P) = yes (refl also P)
 
 pub ends : {A : Type 0} (refusal : ℕ → A) (end : A) (q : Tests) → q .noTable ≡ false → (c : Call ℕ) → Ends (checks q c) refusal end (settle (checks q c) refusal end)
-ends refusal end q e c = ends-by refusal end q e (rows q c)
+ends refusal end q e c = ends-by refusal end q e c (rows q c)
 
 -- without a table every row gives 1
-first-by : {A : Type 0} (refusal : ℕ → A) (end : A) (q : Tests) → q .noTable ≡ true → {listed : List ℕ} {ks : List Check} → Row q listed ks → settle ks refusal end ≡ refusal 1
-first-by refusal end q e (begins ks more h l) = rw e
+first-by : {A : Type 0} (refusal : ℕ → A) (end : A) (q : Tests) → q .noTable ≡ true
+    → (c : Call ℕ) {ks : List Check} → Row q c ks → settle ks refusal end ≡ refusal 1
+first-by refusal end q e c (begins ks more h a w p) = rw e
 
 pub no-table-first : {A : Type 0} (refusal : ℕ → A) (end : A) (q : Tests) → q .noTable ≡ true → (c : Call ℕ) → settle (checks q c) refusal end ≡ refusal 1
-no-table-first refusal end q e c = first-by refusal end q e (rows q c)
+no-table-first refusal end q e c = first-by refusal end q e c (rows q c)
 
 -- two rows that find the same, each check asked only where those before it found nothing
 pub data Agree : List Check → List Check → Type 0 where

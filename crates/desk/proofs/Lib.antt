@@ -1,2 +1,3 @@
 -- The laws of rows of checks.
+pub mod Alike
 pub mod Checks

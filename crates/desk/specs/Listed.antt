@@ -1,10 +1,10 @@
 -- 00, "its number from the list": the codes of each call. The claims about refusals go by it (crates consistency and courses); no call does, and `rows`
--- (proofs/Checks) proves that each list is that of the call's row of checks.
+-- (proofs/Checks) proves that each list has the numbers of the call's row of checks, and no other.
 use Prim.Native.Nat.{ℕ}
 use mathlib.Core.List.{List, [], _∷_}
 use Rattle.desk.specs.Calls.{Call, Update, Query, Yield, Fork, Join, Sync, Mark, Drop, Bundle, Looks, Show, Fill, Preview, Verify, Bill}
 
--- the numbers of its row, in their order; of a bundle also those of its updates
+-- the numbers of its row; of a bundle also those of its updates
 abbrev pub codesFor : {S : Type 0} → Call S → List ℕ
 codesFor (Update c n k bib v) = 1 ∷ 2 ∷ 3 ∷ 4 ∷ 16 ∷ 5 ∷ 6 ∷ 7 ∷ 8 ∷ 9 ∷ []
 codesFor (Query c n bib) = 1 ∷ 2 ∷ 3 ∷ 4 ∷ 16 ∷ 5 ∷ 6 ∷ 7 ∷ 8 ∷ []

@@ -1,4 +1,4 @@
--- The flags of inherited updates, read and written in the whole.
+-- The flags of inherited updates, read in the whole.
 use Prim.Native.Nat.{ℕ, zero, suc, _+_, _*_, _-_, _/_, _%_, _<_}
 use mathlib.Core.Bool.{Bool, true, false, and-false}
 use mathlib.Core.Path.{_≡_, refl, sym, ap, _∙_}
@@ -10,10 +10,9 @@ use borrow.Author.Tests.{lt-ltb}
 use Rattle.cells.specs.Sizes.{revisions, updates}
 use Rattle.cells.specs.Parts.{offset, size, rowsPart}
 use Rattle.cells.specs.Words.{byte}
-use Rattle.cells.specs.Flags.{bit, putRow, rowBytes}
+use Rattle.cells.specs.Flags.{bit, rowBytes}
 use Rattle.cells.specs.Cells.{flagged}
 use Rattle.cells.specs.Decode.{cells}
-use Rattle.cells.specs.Steps.{putRowOf}
 use Rattle.cells.proofs.Flags.{rowBytes-same}
 use Rattle.cells.proofs.Parts.{part-byte}
 use Rattle.flags.proofs.Laws.{no-flags}
@@ -42,8 +41,3 @@ module _ (d : List ℕ) where
 
   pub row-unused : (r : ℕ) → cells d .used r ≡ false → replicate 512 0 ≡ rowBytes 512 (flagged (cells d) r)
   row-unused r e = no-flags 512 ∙ rowBytes-same 512 _ (flagged (cells d) r) (λ u h. unused-unflagged r u e)
-
--- the rows begin at revision 1
-pub row-of : (t : List ℕ) (r : ℕ) (f : ℕ → Bool) → 0 < r → putRow 512 t (r - 1) f ≡ putRowOf t r f
-row-of t zero f h = absurd (omega arith)
-row-of t (suc r) f h = rw sub-one

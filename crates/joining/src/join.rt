@@ -24,7 +24,7 @@ pub fn join_lower(t: &mut [u8], a: Revision, b: Revision) -> u32
     requires { ⌜ (length (now t) ≡ tableBytes) × (inRange (low (now t)) ≡ true) × (a .0 < revisions) × (b .0 < revisions) ⌝ }
     ensures { λ n. ⌜ (n ≡ cellsOf (now (t .entry)) .count (b .0)) × (now (t .exit) ≡ joinBytes (low (now (t .entry))) (a .0) (b .0) ++ high (now (t .entry))) ⌝ }
 {
-    let n = revisions::join::join(&mut t[0..Table::LOWER], a, b);
+    let n = handing::join::join(&mut t[0..Table::LOWER], a, b);
     n as u32
 }
 

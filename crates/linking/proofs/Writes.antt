@@ -1,21 +1,22 @@
 -- Each change of an own list is its writes in a row: from what every write says of the bytes before and after it to the definition.
 use Prim.Native.Nat.{ℕ, _+_, _/_, _%_}
-use mathlib.Core.Bool.{cond}
+use mathlib.Core.Bool.{Bool, cond}
 use mathlib.Core.Path.{_≡_, sym, _∙_}
 use mathlib.Core.List.{List}
 use native.Mathlib.Numerals.{add-one}
 use lib.Dec.{eqb}
 use lib.ListN.{length, set, length-set}
 use borrow.Author.Tests.{eq-eqb, ne-eqb}
-use Rattle.cells.specs.Sizes.{lowerBytes}
-use Rattle.cells.specs.Parts.{Parts, split, glue, wrote, _⟨_≔_⟩, lowPart, highPart, lastPart, firstPart, countPart, countersPart}
+use Rattle.cells.specs.Sizes.{lowerBytes, clients}
+use Rattle.cells.specs.Parts.{Parts, split, glue, wrote, _⟨_≔_⟩, caughtPart, lowPart, highPart, lastPart, firstPart, countPart, countersPart}
 use Rattle.cells.specs.Words.{putWord, putHalf}
+use Rattle.cells.specs.Flags.{pack}
 use Rattle.cells.specs.Decode.{decode}
 use Rattle.cells.specs.CellSteps.{counted}
 use Rattle.cells.specs.Steps.{linkParts, appendParts, spliceParts}
 use Rattle.cells.proofs.Parts.{Holds, glue-split, holds-split, holds-step, holds-wrote, with-same}
 use Rattle.cells.proofs.Words.{putWord-length, putHalf-length}
-use Rattle.cells.proofs.Sized.{link-sized}
+use Rattle.cells.proofs.Sized.{caught-sized, link-sized}
 
 -- a byte, and a word, of one part
 pub byte-wrote : {d d′ : List ℕ} {p : Parts} (i r v : ℕ) → Holds d p → d′ ≡ wrote d i (set (split d i) r v) → Holds d′ (p ⟨ i ≔ set (p i) r v ⟩)
@@ -23,6 +24,10 @@ byte-wrote {p = p} i r v h e = holds-wrote i (λ t. set t r v) h e (length-set (
 
 pub word-wrote : {d d′ : List ℕ} {p : Parts} (i r v : ℕ) → Holds d p → d′ ≡ wrote d i (putWord (split d i) r v) → Holds d′ (p ⟨ i ≔ putWord (p i) r v ⟩)
 word-wrote {p = p} i r v h e = holds-wrote i (λ t. putWord t r v) h e (putWord-length (p i) r v ∙ h .sized .of i)
+
+-- the caught-up flags
+pub caught-wrote : {d d′ : List ℕ} {p : Parts} (f : (ℕ → ℕ → Bool) → ℕ → ℕ → Bool) → Holds d p → d′ ≡ wrote d caughtPart (pack clients (f (decode (split d) .caught))) → Holds d′ (p ⟨ caughtPart ≔ pack clients (f (decode p .caught)) ⟩)
+caught-wrote f h e = holds-step (λ q. q ⟨ caughtPart ≔ pack clients (f (decode q .caught)) ⟩) h e (caught-sized (h .sized) _)
 
 module _ (d : List ℕ) (l : length d ≡ lowerBytes) where
   pub link-done : (d₁ d₂ : List ℕ) (u v : ℕ) → d₁ ≡ wrote d lowPart (set (split d lowPart) u (v % 256)) → d₂ ≡ wrote d₁ highPart (putHalf (split d₁ highPart) u (v / 256)) → d₂ ≡ glue (linkParts (split d) u v)

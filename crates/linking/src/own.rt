@@ -11,9 +11,9 @@ ghost use Rattle.cells.specs.Range.{inRange};
 ghost use Rattle.cells.specs.CellSteps.{counted};
 ghost use Rattle.cells.specs.Steps.{appendParts, linkParts, spliceParts};
 use fields::read;
-use fields::write;
 use sizes::numbers::Revision;
 use sizes::table::Table;
+use stores::write;
 
 // The link of u is v.
 pub fn link(d: &mut [u8], u: usize, v: usize)

@@ -24,7 +24,7 @@ fn drop_lower(t: &mut [u8], r: Revision)
     requires { ⌜ (length (now t) ≡ tableBytes) × (inRange (low (now t)) ≡ true) × (r .0 < revisions) ⌝ }
     ensures { λ _. ⌜ now (t .exit) ≡ dropBytes (low (now (t .entry))) (r .0) ++ high (now (t .entry)) ⌝ }
 {
-    revisions::drop::drop(&mut t[0..Table::LOWER], r);
+    handing::drop::drop(&mut t[0..Table::LOWER], r);
 }
 
 // The call on bytes that are a table: check 18.

@@ -62,8 +62,9 @@ refused p code = record { next = p; answer = plainly code 0 [] }
 abbrev pub taken : PlainDay → ℕ → Outcome
 taken p value = record { next = p; answer = plainly 0 value [] }
 
-abbrev pub settled : PlainDay → Call ℕ → Outcome → Outcome
-settled p c end = settle (checks (asked p) c) (refused p) end
+-- by its row of checks
+abbrev pub byRow : PlainDay → Call ℕ → Outcome → Outcome
+byRow p c end = settle (checks (asked p) c) (refused p) end
 
 -- the day of revisions goes on, and no update was taken; so many boxes were started
 abbrev pub stepped : PlainDay → Steps.Step → ℕ → PlainDay
@@ -90,15 +91,15 @@ abbrev pub asOne : PlainDay → Outcome → Outcome
 asOne p o = cond (eqb (o .answer .code) 0) o (refused p (o .answer .code))
 
 abbrev pub synced : PlainDay → ℕ → Outcome
-synced p m = let q = joined p 0 m .next in asOne p (settled q (Fork 0) (forked q 0 none 1))
+synced p m = let q = joined p 0 m .next in asOne p (byRow q (Fork 0) (forked q 0 none 1))
 
 -- 02, U4: "sending the updates one by one and then a yield", with a board of the right length; the first that is refused ends it
 abbrev pub afterTaken : Outcome → (PlainDay → Outcome) → Outcome
 afterTaken o rest = cond (eqb (o .answer .code) 0) (rest (o .next)) o
 
 unfoldable pub sent : PlainDay → ℕ → ℕ → List Sent.Entry → Outcome
-sent p c n [] = settled p (Yield c boardBytes) (yielded p c)
-sent p c n (e ∷ es) = afterTaken (settled p (Update c n (e .kind) (e .bib) (e .v)) (updated p c n (e .kind) (e .bib) (e .v))) (λ q. sent q c n es)
+sent p c n [] = byRow p (Yield c boardBytes) (yielded p c)
+sent p c n (e ∷ es) = afterTaken (byRow p (Update c n (e .kind) (e .bib) (e .v)) (updated p c n (e .kind) (e .bib) (e .v))) (λ q. sent q c n es)
 
 -- "If any of them would be refused, the code of the earliest is given"; "The value is the first entry's number."
 abbrev pub bundled : PlainDay → Outcome → Outcome
@@ -141,7 +142,7 @@ ending p (Bundle c n batch room) = bundled p (sent p c n (entriesOf batch))
 ending p (Looks l) = record { next = p; answer = told p l }
 
 unfoldable pub called : PlainDay → Call ℕ → Outcome
-called p c = settled p c (ending p c)
+called p c = byRow p c (ending p c)
 
 -- the day after a list of calls from a fresh one, each getting it "as the last one left it"; and what they answer
 unfoldable pub dayFrom : PlainDay → List (Call ℕ) → PlainDay

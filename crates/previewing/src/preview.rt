@@ -14,9 +14,9 @@ ghost use Rattle.table.specs.Calls.{foreseen, noProspect, previewOut, standingA
 ghost use Rattle.table.specs.Checks.{joinIn};
 ghost use Rattle.previewing.specs.Checks.{previewCheck};
 use buffers::put::copy;
+use handing::join::join;
 use querying::standing::standing_on;
 use querying::standing::tell;
-use revisions::join::join;
 use sizes::numbers::Revision;
 use sizes::table::Table;
 use table::answer::Prospect;

@@ -46,7 +46,7 @@ fn record(t: &mut [u8], c: Client, r: Revision)
     requires { ⌜ (length (now t) ≡ tableBytes) × (c .0 < clients) × (r .0 < revisions) ⌝ }
     ensures { λ _. ⌜ now (t .exit) ≡ queryBytes (low (now (t .entry))) (c .0) (r .0) ++ high (now (t .entry)) ⌝ }
 {
-    revisions::record::query(&mut t[0..Table::LOWER], c, r);
+    events::record::query(&mut t[0..Table::LOWER], c, r);
 }
 
 // Checks 2 to 8, and 16 after 4, on the lower half.

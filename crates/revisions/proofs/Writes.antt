@@ -1,5 +1,5 @@
 -- Each step is its writes in a row: from what every write says of the bytes before and after it to the step's definition.
-use Prim.Native.Nat.{ℕ, suc, _+_, _-_, _<_, _≤_}
+use Prim.Native.Nat.{ℕ, suc, _+_, _<_, _≤_}
 use mathlib.Core.Bool.{Bool, true, false, cond}
 use mathlib.Core.Path.{_≡_, refl, sym, ap, fun-ext, _∙_}
 use mathlib.Core.List.{List, [], _∷_, _++_}
@@ -10,26 +10,24 @@ use lib.ListN.{length, set, take, replicate, length-replicate, length-set}
 use lib.Seq.{getD-set-other, set-getD, set-set}
 use borrow.Author.Tests.{eqb-true, le-ltb, lt-ltb, ne-eqb}
 use Rattle.lists.specs.Lists.{restOf}
-use Rattle.lists.specs.Arranged.{insertBefore, remove, replaced}
+use Rattle.lists.specs.Arranged.{insertBefore, replaced}
 use Rattle.lists.specs.Names.{Name}
 use Rattle.lists.proofs.Cases.{cases}
-use Rattle.cells.specs.Sizes.{lowerBytes, revisions, clients, closed, main, stateOut, stateJoined, stateMarked}
+use Rattle.cells.specs.Sizes.{lowerBytes, revisions, clients, closed, main, stateOut, stateMarked}
 use Rattle.cells.specs.Parts.{Parts, Sized, parts, offset, size, split, glue, wrote, _⟨_≔_⟩, rowsPart, seenPart, caughtPart, statePart, usedPart}
-use Rattle.cells.specs.Parts.{countPart, basePart, layoutPart, queuePart, openedPart, countersPart, namesPart, singlePart, settledPart, startedPart, signaturePart}
+use Rattle.cells.specs.Parts.{countPart, basePart, layoutPart, queuePart, openedPart, countersPart, namesPart, singlePart, startedPart, signaturePart}
 use Rattle.cells.specs.Range.{signature}
 use Rattle.cells.specs.Words.{putWord, putName}
-use Rattle.cells.specs.Flags.{pack, putRow}
+use Rattle.cells.specs.Flags.{pack}
 use Rattle.cells.specs.Decode.{decode}
-use Rattle.lists.specs.Pool.{forkPool, joinPool}
-use Rattle.cells.specs.CellSteps.{counted, oneFewer, closeSettled, forkCaught, forkRow, forkStarted, joinCaught}
-use Rattle.cells.specs.Steps.{queryParts, appendParts, putRowOf, inheritParts, branchParts, spliceParts, mergeParts, dropParts}
-use Rattle.cells.specs.Steps.{freshBytes, queryBytes, updateBytes, closeBytes, forkBytes, markBytes, joinBytes, dropBytes}
+use Rattle.lists.specs.Pool.{forkPool}
+use Rattle.cells.specs.CellSteps.{forkCaught, forkRow, forkStarted}
+use Rattle.cells.specs.Steps.{putRowOf, inheritParts, branchParts, freshBytes, forkBytes, markBytes}
 use Rattle.cells.proofs.Parts.{Holds, holds-split, holds-put, holds-step, holds-wrote, sized-with, split-is, with-same}
 use Rattle.cells.proofs.Words.{putName-length}
-use Rattle.cells.proofs.Sized.{append-sized, caught-sized, caughtRow-sized, branch-sized, drop-sized, inherit-sized}
-use Rattle.cells.proofs.Sized.{layout-sized, merge-sized, query-sized, row-sized, seen-sized, seenRow-sized, splice-sized}
-use Rattle.cells.proofs.Places.{insert-length, remove-length}
-use Rattle.linking.proofs.Writes.{byte-wrote, word-wrote}
+use Rattle.cells.proofs.Sized.{caught-sized, branch-sized, inherit-sized, layout-sized, row-sized, seen-sized}
+use Rattle.cells.proofs.Places.{insert-length}
+use Rattle.linking.proofs.Writes.{byte-wrote, caught-wrote, word-wrote}
 use Rattle.revisions.specs.Pieces.{freshCounts, freshRevisions, numberParts, startParts}
 
 -- part i put in whole
@@ -51,12 +49,9 @@ three-put d d₁ d₂ d₃ i j k a b c l il jl kl x y z e₁ e₂ e₃ =
 with-twice : (p : Parts) (i : ℕ) (a b : List ℕ) → p ⟨ i ≔ a ⟩ ⟨ i ≔ b ⟩ ≡ p ⟨ i ≔ b ⟩
 with-twice p i a b = fun-ext (λ j. cases (eqb j i) (λ e. rw e) (λ e. rw e))
 
--- flags
+-- the seen flags
 seen-wrote : {d d′ : List ℕ} {p : Parts} (f : (ℕ → ℕ → Bool) → ℕ → ℕ → Bool) → Holds d p → d′ ≡ wrote d seenPart (pack revisions (f (decode (split d) .seen))) → Holds d′ (p ⟨ seenPart ≔ pack revisions (f (decode p .seen)) ⟩)
 seen-wrote f h e = holds-step (λ q. q ⟨ seenPart ≔ pack revisions (f (decode q .seen)) ⟩) h e (seen-sized (h .sized) _)
-
-caught-wrote : {d d′ : List ℕ} {p : Parts} (f : (ℕ → ℕ → Bool) → ℕ → ℕ → Bool) → Holds d p → d′ ≡ wrote d caughtPart (pack clients (f (decode (split d) .caught))) → Holds d′ (p ⟨ caughtPart ≔ pack clients (f (decode p .caught)) ⟩)
-caught-wrote f h e = holds-step (λ q. q ⟨ caughtPart ≔ pack clients (f (decode q .caught)) ⟩) h e (caught-sized (h .sized) _)
 
 with-swap : (p : Parts) (i j : ℕ) (a b : List ℕ) → (i ≡ j → ⊥) → p ⟨ i ≔ a ⟩ ⟨ j ≔ b ⟩ ≡ p ⟨ j ≔ b ⟩ ⟨ i ≔ a ⟩
 with-swap p i j a b n = fun-ext (λ x. cases (eqb x j)
@@ -93,60 +88,6 @@ branched p q c = cases (ltb (decode p .given) revisions)
     stays = ap (set A 3) (sym (getD-set-other (p countersPart) 2 3 (suc (decode p .out)) 0 (λ f. absurd (omega arith)))) ∙ set-getD A 3 0
 
 module _ (d : List ℕ) (l : length d ≡ lowerBytes) where
-  pub query-done : (d₁ d₂ : List ℕ) (c r v : ℕ) → c < clients → v ≡ r → d₁ ≡ wrote d caughtPart (putRow 8 (split d caughtPart) c (λ y. eqb y r)) → d₂ ≡ wrote d₁ openedPart (set (split d₁ openedPart) c v) → d₂ ≡ queryBytes d c r
-  unfolding queryBytes
-  query-done d₁ d₂ c r v cl ev e₁ e₂ =
-      let h = holds-split d l in
-      let h₁ = holds-step (λ q. q ⟨ caughtPart ≔ putRow 8 (q caughtPart) c (λ y. eqb y r) ⟩) h e₁ (caughtRow-sized (h .sized) c (λ y. eqb y r) cl) in
-      byte-wrote openedPart c v h₁ e₂ .eq ∙ rw ev
-
-  pub close-done : (d₁ d₂ : List ℕ) (c v : ℕ) → v ≡ closeSettled (decode (split d)) c → d₁ ≡ wrote d openedPart (set (split d openedPart) c closed)
-      → d₂ ≡ wrote d₁ settledPart (putWord (split d₁ settledPart) 0 v) → d₂ ≡ closeBytes d c
-  unfolding closeBytes
-  close-done d₁ d₂ c v ev e₁ e₂ =
-      let h₁ = byte-wrote openedPart c closed (holds-split d l) e₁ in
-      word-wrote settledPart 0 v h₁ e₂ .eq ∙ rw ev
-
-  pub update-done : (d₁ d₂ : List ℕ) (c r : ℕ) → c < clients → d₁ ≡ glue (appendParts (split d) r) → d₂ ≡ queryBytes d₁ c r → d₂ ≡ updateBytes d c r
-  unfolding queryBytes updateBytes
-  update-done d₁ d₂ c r cl e₁ e₂ =
-      let h = holds-split d l in
-      let h₁ = holds-step (λ q. appendParts q r) h e₁ (append-sized (h .sized) r) in
-      holds-step (λ q. queryParts q c r) h₁ e₂ (query-sized (h₁ .sized) c r cl) .eq
-
-  pub merge-done : (d₁ d₂ d₃ d₄ d₅ : List ℕ) (a b m n t v : ℕ) → a < revisions → m ≡ decode (split d) .count a → n ≡ decode (split d) .count b → t ≡ counted (m + n)
-      → v ≡ cond (eqb a main) t (decode (split d) .settled)
-      → d₁ ≡ glue (spliceParts (split d) a b) → d₂ ≡ wrote d₁ countPart (putWord (split d₁ countPart) a t) → d₃ ≡ wrote d₂ settledPart (putWord (split d₂ settledPart) 0 v)
-      → d₄ ≡ wrote d₃ seenPart (putRow 8 (split d₃ seenPart) a (joinPool (decode (split d₃) .seen) a b a)) → d₅ ≡ wrote d₄ caughtPart (pack clients (joinCaught (decode (split d₄) .caught) a b))
-      → d₅ ≡ glue (mergeParts (split d) a b)
-  merge-done d₁ d₂ d₃ d₄ d₅ a b m n t v al em en et ev e₁ e₂ e₃ e₄ e₅ =
-      let h = holds-split d l in
-      let h₁ = holds-step (λ q. spliceParts q a b) h e₁ (splice-sized (h .sized) a b) in
-      let h₂ = word-wrote countPart a t h₁ e₂ in
-      let h₃ = word-wrote settledPart 0 v h₂ e₃ in
-      let h₄ = holds-step (λ q. q ⟨ seenPart ≔ putRow 8 (q seenPart) a (joinPool (decode q .seen) a b a) ⟩) h₃ e₄ (seenRow-sized (h₃ .sized) a _ al) in
-      caught-wrote (λ f. joinCaught f a b) h₄ e₅ .eq ∙ rw (ev, et, em, en)
-
-  pub drop-done : (d₁ d₂ d₃ d₄ : List ℕ) (r i o : ℕ) → i ≡ decode (split d) .given - decode (split d) .out → o ≡ oneFewer (decode (split d) .out)
-      → d₁ ≡ wrote d statePart (set (split d statePart) r stateJoined) → d₂ ≡ wrote d₁ layoutPart (take revisions (remove r (split d₁ layoutPart) ++ (0 ∷ [])))
-      → d₃ ≡ wrote d₂ queuePart (set (split d₂ queuePart) i r) → d₄ ≡ wrote d₃ countersPart (set (split d₃ countersPart) 2 o) → d₄ ≡ dropBytes d r
-  unfolding dropBytes
-  drop-done d₁ d₂ d₃ d₄ r i o ei eo e₁ e₂ e₃ e₄ =
-      let h = holds-split d l in
-      let t = split d layoutPart in
-      let h₁ = byte-wrote statePart r stateJoined h e₁ in
-      let s = layout-sized (h₁ .sized) (remove r t ++ (0 ∷ [])) (remove-length r t) in
-      let h₂ = holds-step (λ q. q ⟨ layoutPart ≔ take revisions (remove r (q layoutPart) ++ (0 ∷ [])) ⟩) h₁ e₂ s in
-      let h₃ = byte-wrote queuePart i r h₂ e₃ in
-      byte-wrote countersPart 2 o h₃ e₄ .eq ∙ rw (ei, eo)
-
-  pub join-done : (d₁ d₂ : List ℕ) (a b : ℕ) → a < revisions → d₁ ≡ glue (mergeParts (split d) a b) → d₂ ≡ dropBytes d₁ b → d₂ ≡ joinBytes d a b
-  unfolding dropBytes joinBytes
-  join-done d₁ d₂ a b al e₁ e₂ =
-      let h = holds-split d l in
-      let h₁ = holds-step (λ q. mergeParts q a b) h e₁ (merge-sized (h .sized) a b al) in
-      holds-step (λ q. dropParts q b) h₁ e₂ (drop-sized (h₁ .sized) b) .eq
-
   -- what c inherits
   pub by-count-done : (d₁ d₂ d₃ : List ℕ) (c base : ℕ) → base ≡ decode (split d) .count 0
       → d₁ ≡ wrote d usedPart (set (split d usedPart) c 0) → d₂ ≡ wrote d₁ basePart (putWord (split d₁ basePart) c base) → d₃ ≡ wrote d₂ countPart (putWord (split d₂ countPart) c 0)

@@ -11,9 +11,9 @@ ghost use Rattle.cells.specs.Steps.{branchParts, forkBytes};
 ghost use Rattle.revisions.specs.Pieces.{numberParts, startParts};
 use crate::inherit;
 use fields::read;
-use fields::write;
 use sizes::numbers::Revision;
 use sizes::table::Table;
+use stores::write;
 
 // The flags, the child's state and place, and the count of those out.
 fn start(d: &mut [u8], parent: Revision, child: Revision, out: usize)

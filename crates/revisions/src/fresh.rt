@@ -9,9 +9,9 @@ ghost use Rattle.cells.specs.Steps.{freshBytes};
 ghost use Rattle.revisions.specs.Pieces.{freshCounts, freshRevisions};
 use buffers::clear::clear;
 use buffers::put::put;
-use fields::fresh::caught;
-use fields::parts;
+use places::parts;
 use sizes::table::Table;
+use stores::fresh::caught;
 
 // States, layout and queue.
 fn put_revisions(d: &mut [u8])

@@ -12,11 +12,11 @@ ghost use Rattle.cells.specs.CellSteps.{forkRow};
 ghost use Rattle.cells.specs.Steps.{inheritParts};
 use fields::read;
 use fields::row;
-use fields::write;
 use flags::bits;
 use order::links;
 use sizes::numbers::Revision;
 use sizes::table::Table;
+use stores::write;
 
 fn number(x: u16) -> usize
     ensures { λ r. ⌜ r ≡ x ⌝ }

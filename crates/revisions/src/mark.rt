@@ -7,9 +7,9 @@ ghost use Rattle.cells.specs.Sizes.{lowerBytes, revisions};
 ghost use Rattle.cells.specs.Range.{inRange};
 ghost use Rattle.cells.specs.Steps.{markBytes};
 use crate::fork;
-use fields::write;
 use sizes::numbers::Revision;
 use sizes::table::Table;
+use stores::write;
 
 // The mark's number is not the main revision's.
 pub fn mark(d: &mut [u8], parent: Revision, mark: Revision, name: &[u8])

@@ -20,7 +20,7 @@ use Rattle.entries.specs.Entries.{wrote}
 use Rattle.table.specs.Answers.{refused, taken}
 use Rattle.table.specs.Halves.{high, low}
 use Rattle.table.specs.Out.{Out}
-use Rattle.table.specs.Calls.{asked, batchOut, bundleOut, entriesOut, sentOut, settled, updateOut}
+use Rattle.table.specs.Calls.{asked, batchOut, bundleOut, entriesOut, sentOut, bundled, updateOut}
 use Rattle.table.specs.Served.{onBoard, served}
 use Rattle.table.specs.Shared.{above, batchShared, countIn, findsFull, sentShared, unlessFull, updateShared}
 
@@ -74,7 +74,7 @@ sent-alone (e ∷ es) t c n = let u = updateOut t c n (e .kind) (e .bib) (e .v) 
 
 pub batch-alone : (t : List ℕ) (c n : ℕ) (batch : Batch) (room : ℕ) → batchShared (above updates) t c n batch room ≡ batchOut t c n batch room
 unfolding batchShared
-batch-alone t c n batch room = ap (λ o. settle (checks (asked t) (Bundle c n batch room)) (refused t) (settled t o)) (sent-alone (entriesOf batch) t c n)
+batch-alone t c n batch room = ap (λ o. settle (checks (asked t) (Bundle c n batch room)) (refused t) (bundled t o)) (sent-alone (entriesOf batch) t c n)
 
 -- records and entries alike
 pub bundle-is : (t : List ℕ) (c n : ℕ) (batch : Batch) (board : List ℕ) → served t (Bundle c n batch board) ≡ onBoard t board (batchOut t c n batch (length board))

@@ -133,11 +133,11 @@ sentOut t c n (e ∷ es) = afterTaken (updateOut t c n (e .kind) (e .bib) (e .v)
 
 -- "If any of them would be refused, the code of the earliest is given and the table keeps every byte"; "The value is the first
 -- entry's number."
-abbrev pub settled : List ℕ → Out → Out
-settled t o = cond (eqb (o .code) 0) (taken (o .lent) (cellsOf t .updates)) (refused t (o .code))
+abbrev pub bundled : List ℕ → Out → Out
+bundled t o = cond (eqb (o .code) 0) (taken (o .lent) (cellsOf t .updates)) (refused t (o .code))
 
 abbrev pub batchOut : List ℕ → ℕ → ℕ → Batch → ℕ → Out
-batchOut t c n batch room = settle (checks (asked t) (Bundle c n batch room)) (refused t) (settled t (sentOut t c n (entriesOf batch)))
+batchOut t c n batch room = settle (checks (asked t) (Bundle c n batch room)) (refused t) (bundled t (sentOut t c n (entriesOf batch)))
 
 -- "first as 12-byte records, then as a lent list of entries"
 unfoldable pub bundleOut : List ℕ → ℕ → ℕ → List ℕ → ℕ → Out

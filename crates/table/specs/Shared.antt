@@ -10,7 +10,7 @@ use Rattle.desk.specs.Checks.{checks, settle}
 use Rattle.table.specs.Answers.{afterTaken, refused}
 use Rattle.table.specs.Halves.{cellsOf}
 use Rattle.table.specs.Out.{Out}
-use Rattle.table.specs.Calls.{asked, settled, updateOut, yieldOut}
+use Rattle.table.specs.Calls.{asked, bundled, updateOut, yieldOut}
 
 -- the updates that a table has taken
 abbrev pub countIn : List ℕ → ℕ
@@ -37,4 +37,4 @@ sentShared full t c n [] = yieldOut t c boardBytes
 sentShared full t c n (e ∷ es) = afterTaken (updateShared full t c n (e .kind) (e .bib) (e .v)) (λ d. sentShared full d c n es)
 
 unfoldable pub batchShared : (ℕ → Bool) → List ℕ → ℕ → ℕ → Batch → ℕ → Out
-batchShared full t c n batch room = settle (checks (asked t) (Bundle c n batch room)) (refused t) (settled t (sentShared full t c n (entriesOf batch)))
+batchShared full t c n batch room = settle (checks (asked t) (Bundle c n batch room)) (refused t) (bundled t (sentShared full t c n (entriesOf batch)))

@@ -116,7 +116,7 @@ fn append(t: &mut [u8], c: Client, r: Revision) -> usize
     requires { ⌜ (length (now t) ≡ tableBytes) × (inRange (low (now t)) ≡ true) × (c .0 < clients) × (r .0 < revisions) × (cellsOf (now t) .updates < updates) ⌝ }
     ensures { λ u. ⌜ (u ≡ cellsOf (now (t .entry)) .updates) × (now (t .exit) ≡ updateBytes (low (now (t .entry))) (c .0) (r .0) ++ high (now (t .entry))) ⌝ }
 {
-    revisions::record::update(&mut t[0..Table::LOWER], c, r)
+    events::record::update(&mut t[0..Table::LOWER], c, r)
 }
 
 // Entry n is stored.

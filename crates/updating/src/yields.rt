@@ -13,7 +13,7 @@ ghost use Rattle.table.specs.Answers.{left};
 ghost use Rattle.table.specs.Calls.{yieldOut};
 use checks::client::ClientCheck;
 use checks::client::check_client;
-use revisions::transactions;
+use events::transactions;
 use sizes::numbers::Client;
 use sizes::table::Table;
 use table::answer::Answer;

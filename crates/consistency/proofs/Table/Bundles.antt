@@ -13,7 +13,7 @@ use Rattle.plain.specs.Answers as Plain
 use Rattle.plain.specs.Answers.{Outcome, called, sent}
 use Rattle.table.specs.Answers as Table
 use Rattle.table.specs.Out.{Out}
-use Rattle.table.specs.Calls.{batchOut, bundleOut, entriesOut, sentOut, settled, updateOut}
+use Rattle.table.specs.Calls.{batchOut, bundleOut, entriesOut, sentOut, bundled, updateOut}
 use Rattle.table.specs.Served.{onTable}
 use Rattle.consistency.proofs.Table.Stands.{Stands, bytes-are}
 use Rattle.consistency.proofs.Table.Rows.{agree}
@@ -37,8 +37,8 @@ sent-same [] p t S c n = yield-same p t S c boardBytes
 sent-same (e ∷ es) p t S c n =
     goes-on (updateOut t c n (e .kind) (e .bib) (e .v)) (called p (Update c n (e .kind) (e .bib) (e .v))) (λ d. sentOut d c n es) (λ q. sent q c n es) (update-same p t S c n (e .kind) (e .bib) (e .v)) (λ s. sent-same es _ _ s c n)
 
-settled-same : (p : PlainDay) (t : List ℕ) → Stands p t → (u : Out) (o : Outcome) → Left u o → Left (settled t u) (Plain.bundled p o)
-settled-same p t S u o h =
+bundled-same : (p : PlainDay) (t : List ℕ) → Stands p t → (u : Out) (o : Outcome) → Left u o → Left (bundled t u) (Plain.bundled p o)
+bundled-same p t S u o h =
     rw (same-code u o h)
     (cases (eqb (o .answer .code) 0) (λ q. rw q (record { reply = same-answer 0 0 refl (bytes-are p t S .follow .same-updates) refl refl; stands = h .stands })) (λ q. rw q (record { reply = refl; stands = S })))
 
@@ -46,7 +46,7 @@ batch-same : (p : PlainDay) (t : List ℕ) (S : Stands p t) (c n : ℕ) (batch :
 unfolding called
 batch-same p t S c n batch room =
     same-end Left (Table.refused t) (Plain.refused p) (refused-same p t S) _ _ (agree p t S (Bundle c n batch room))
-    (λ P. settled-same p t S (sentOut t c n (entriesOf batch)) (sent p c n (entriesOf batch)) (sent-same (entriesOf batch) p t S c n))
+    (λ P. bundled-same p t S (sentOut t c n (entriesOf batch)) (sent p c n (entriesOf batch)) (sent-same (entriesOf batch) p t S c n))
 
 pub bundle-same : (p : PlainDay) (t : List ℕ) (S : Stands p t) (c n : ℕ) (bytes : List ℕ) (room : ℕ) → Left (bundleOut t c n bytes room) (called p (Bundle c n (Records bytes) room))
 unfolding bundleOut

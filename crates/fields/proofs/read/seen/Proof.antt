@@ -5,7 +5,7 @@ use borrow.Author.Needs.{needs}
 use Rattle.cells.specs.Decode.{cells}
 use Rattle.cells.specs.Parts.{offset, seenPart, size}
 use Rattle.cells.specs.Sizes.{revisions}
-use Rattle.fields.proofs.InPart.{flag-read}
+use Rattle.places.proofs.InPart.{flag-read}
 use Rattle.fields.proofs.read.seen.Statement.{statement}
 use Rattle.fields.proofs.read.seen.Tie as tie
 

@@ -1,7 +1,7 @@
 -- `revisions::fresh::fresh` meets its contract: the writes in a row. Assumes nothing.
 use mathlib.Core.Path.{_∙_}
 use borrow.Author.Needs.{needs}
-use Rattle.fields.proofs.Zeros.{zeros}
+use Rattle.stores.proofs.Zeros.{zeros}
 use Rattle.revisions.proofs.Writes.{fresh-done}
 use Rattle.revisions.proofs.fresh.fresh.Statement.{statement}
 use Rattle.revisions.proofs.fresh.fresh.Tie as tie

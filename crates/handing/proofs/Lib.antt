@@ -1,0 +1,2 @@
+-- Laws that belong to no one function: each step is its writes in a row.
+pub mod Writes

@@ -1,0 +1,25 @@
+-- `stores::write::base` meets its contract: one part is lent and comes back written. Assumes nothing.
+use native.Mathlib.Omega.{arith}
+use borrow.Author.Needs.{needs}
+use Rattle.cells.specs.Parts.{basePart, offset, size}
+use Rattle.places.proofs.InPart.{word-lent}
+use Rattle.stores.proofs.write.base.Statement.{statement}
+use Rattle.stores.proofs.write.base.Tie as tie
+
+returns : tie.Need-returns
+unfolding offset size
+returns c =
+    let at-put = c .before .before in
+    let at-wide = at-put .before in
+    let s = at-wide .before .before .before .args in
+    word-lent (s .d .now) basePart (s .v) (omega arith) (omega arith) (at-wide .wide .ensures .0) (at-put .put-word .ensures)
+
+pub base-spec : {M : Type 1} → statement M
+base-spec = tie.close (tie.spec
+    (λ c. search needs)
+    (λ c. search needs)
+    (λ c. search needs)
+    (λ c κs. search needs)
+    (λ c κs. search needs)
+    (λ c. search needs)
+    returns)

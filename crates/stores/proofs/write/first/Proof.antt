@@ -1,0 +1,25 @@
+-- `stores::write::first` meets its contract: one part is lent and comes back written. Assumes nothing.
+use native.Mathlib.Omega.{arith}
+use borrow.Author.Needs.{needs}
+use Rattle.cells.specs.Parts.{firstPart, offset, size}
+use Rattle.places.proofs.InPart.{word-lent}
+use Rattle.stores.proofs.write.first.Statement.{statement}
+use Rattle.stores.proofs.write.first.Tie as tie
+
+returns : tie.Need-returns
+unfolding offset size
+returns c =
+    let at-put = c .before .before in
+    let at-wide = at-put .before in
+    let s = at-wide .before .before .before .args in
+    word-lent (s .d .now) firstPart (s .v) (omega arith) (omega arith) (at-wide .wide .ensures .0) (at-put .put-word .ensures)
+
+pub first-spec : {M : Type 1} → statement M
+first-spec = tie.close (tie.spec
+    (λ c. search needs)
+    (λ c. search needs)
+    (λ c. search needs)
+    (λ c κs. search needs)
+    (λ c κs. search needs)
+    (λ c. search needs)
+    returns)
