@@ -85,7 +85,7 @@ module _ {i j k l : ℕ} (O : Others i j k l) (ts : Tables) where
 
   full-above : (n : ℕ) → isFull ts i (suc n) ≡ left (suc n)
   unfolding isFull passes
-  full-above n = rw (O .sum (counts ts) (suc n)) (passes-above (beside (ts j) (ts k) (ts l)) (suc n) (omega arith))
+  full-above n = ap (ltb card) (O .sum (counts ts) (suc n)) ∙ passes-above (beside (ts j) (ts k) (ts l)) (suc n) (omega arith)
 
   missing : (x : ℕ) → x < courses → isTable (ts x) ≡ false → noCourse ts i ≡ true
   unfolding noCourse
