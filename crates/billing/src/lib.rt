@@ -1,2 +1,3 @@
 // The call bill, above the table.
+#![tactic(auto)]
 pub mod bill; // bill.rt: the call bill

@@ -17,11 +17,13 @@ blocks-append s [] l = sym (append-nil (blocks s l))
 blocks-append s (x ∷ r) l = rw (blocks-append s r l) (append_assoc (blocks s l) (blocks s r) (s x).own)
 
 pub block_in : (s : Contents) (x : ℕ) (l : List ℕ) → x ∈ l → (s x).own ⊆ blocks s l
+block_in s x [] x3 n m = elim x3 [ ]
 block_in s x (y ∷ l) (Memᴰ.head e) n m = Memᴰ.append_right (blocks s l) (rw e at m)
 block_in s x (y ∷ l) (Memᴰ.tail h) n m = Memᴰ.append_left (s y).own (block_in s x l h n m)
 
 -- so what a revision sees is an ordered sublist of the blocks up to its own
 pub good_seen : (s : Contents) (l : List ℕ) → Good s l → (h : ℕ) → h ∈ l → seen (s h) ⊑ blocks s l
+good_seen s [] g h x'' = elim x'' [ ]
 good_seen s (x ∷ l) g h (Memᴰ.head e) = rw e (Sublistᴰ.append g.0.under (Sublistᴰ.refl (s x).own))
 good_seen s (x ∷ l) g h (Memᴰ.tail m) = Sublistᴰ.trans (good_seen s l g.1 h m) (⊑-left (blocks s l) (s x).own)
 

@@ -59,11 +59,11 @@ module _ (t : List ℕ) (c n : ℕ) (G : Going t c n) where
     new-lower : Lower (update_bytes (low t) c n)
     new-lower = update-stays (low t) lower c n client-in revision-in room
 
-    low-is : low (entered t c n e) ≡ update_bytes (low t) c n
-    low-is = ap low halves ∙ low_of (update_bytes (low t) c n) _ new-lower.long
+    low_is : low (entered t c n e) ≡ update_bytes (low t) c n
+    low_is = ap low halves ∙ low_of (update_bytes (low t) c n) _ new-lower.long
 
     pub cells_are : cells_of (entered t c n e) ≡ update_cells (cells_of t) c n
-    cells_are = ap cells low-is ∙ update-decoded (low t) lower c n client-in revision-in room
+    cells_are = ap cells low_is ∙ update-decoded (low t) lower c n client-in revision-in room
 
     sound-is : is_table (entered t c n e) ≡ true
     sound-is = ap is_table halves ∙ table_of (update_bytes (low t) c n) _ new-lower (wrote-length (high t) (cells_of t).updates (entry kind c e.bib e.v) (upper_length t long) room)

@@ -17,4 +17,4 @@ use Rattle.cells.proofs.Stops.{fewer_less}
 
 pub join-leaves : (d : List ℕ) → Lower d → (a b : ℕ) → a < revisions → b < revisions → none_left (cells (join_bytes d a b)) ≡ false
 join-leaves d L a b al bl =
-    ap none_left (join-decoded d L a b al bl) ∙ rw (lt-ltb (one_fewer (cells d).out) revisions (fewer_less (cells d).out revisions (ranges d L.ranged).most-out (omega arith)))
+    ap none_left (join-decoded d L a b al bl) ∙ rw (lt-ltb (one_fewer (cells d).out) revisions (fewer_less (cells d).out revisions (ranges d L.ranged).most_out (omega arith)))

@@ -60,9 +60,9 @@ two_sets t i v j w =
     let c = differences_by t (set t i v) (set (set t i v) j w) in
     omega arith
 
-put_word : (t : List ℕ) (r v : ℕ) → differences t (put_word t r v) ≤ 2
+put_word_lem : (t : List ℕ) (r v : ℕ) → differences t (put_word t r v) ≤ 2
 unfolding put_word
-put_word t r v = two_sets t (2 * r) (v % 256) (2 * r + 1) (v / 256)
+put_word_lem t r v = two_sets t (2 * r) (v % 256) (2 * r + 1) (v / 256)
 
 put-half : (t : List ℕ) (u v : ℕ) → differences t (put_half t u v) ≤ 1
 unfolding put_half
@@ -87,7 +87,7 @@ module _ {p q : Parts} {n : ℕ} (h : Light p q n) (i : ℕ) where
   byte-light r v = light-with (set (q i) r v) 1 (differences-set (q i) r v)
 
   word-light : (r v : ℕ) → Light p (q ⟨ i ≔ put_word (q i) r v ⟩) (n + 2)
-  word-light r v = light-with (put_word (q i) r v) 2 (put_word (q i) r v)
+  word-light r v = light-with (put_word (q i) r v) 2 (put_word_lem (q i) r v)
 
   unless-light : (t : Bool) (l : List ℕ) (m : ℕ) → differences (q i) l ≤ m → Light p (q ⟨ i ≔ cond t (q i) l ⟩) (n + m)
   unless-light t l m d =
@@ -115,8 +115,8 @@ splice_light p a b =
     let none = eqb (k.count b) 0 in
     let low = unless-light (light_none p) low_part none (set (p low_part) (k.first b) (k.last a % 256)) 1 (differences-set (p low_part) (k.first b) _) in
     let high = unless-light low high_part none (put_half (p high_part) (k.first b) (k.last a / 256)) 1 (put-half (p high_part) (k.first b) _) in
-    let last = unless-light high last_part none (put_word (p last_part) a (k.last b)) 2 (put_word (p last_part) a _) in
-    unless-light last first_part none (put_word (p first_part) a (cond (eqb (k.count a) 0) (k.first b) (k.first a))) 2 (put_word (p first_part) a _)
+    let last = unless-light high last_part none (put_word (p last_part) a (k.last b)) 2 (put_word_lem (p last_part) a _) in
+    unless-light last first_part none (put_word (p first_part) a (cond (eqb (k.count a) 0) (k.first b) (k.first a))) 2 (put_word_lem (p first_part) a _)
 
 -- the parts of flags are bytes
 record FlagBytes (p : Parts) : Type 0 where

@@ -29,9 +29,9 @@ pub record Ranges (k : Cells) : Type 0 where
   pub queue : (i : ℕ) → i < revisions → (0 < byte k.queue i) × (byte k.queue i < revisions)
   pub taken : k.updates ≤ updates
   pub some_out : 0 < k.out
-  pub most-out : k.out ≤ revisions
-  pub some-given : 0 < k.given
-  pub most-given : k.given ≤ revisions
+  pub most_out : k.out ≤ revisions
+  pub some_given : 0 < k.given
+  pub most_given : k.given ≤ revisions
   pub settled : k.settled ≤ updates
 
 module _ (n limit : ℕ) (t : List ℕ) where
@@ -112,9 +112,9 @@ ranged_ranges p h =
       queue = queue-in (p queue_part) (h.of queue_part);
       taken = let z = c.0 in omega arith;
       some_out = c.1;
-      most-out = let z = c.2 in omega arith;
-      some-given = c.3;
-      most-given = let z = c.4 in omega arith;
+      most_out = let z = c.2 in omega arith;
+      some_given = c.3;
+      most_given = let z = c.4 in omega arith;
       settled = let z = word_below 1 4097 (p settled_part) (h.of settled_part) 0 (omega arith) in omega arith;
     }
 
@@ -126,7 +126,7 @@ ranges d e = ranged_ranges (split d) (parts_ranged (split d) e)
 pub next_ranged : (k : Cells) → Ranges k → (0 < next_number k) × (next_number k < revisions)
 next_ranged k h =
     let q = rw (← (first_byte k.queue)) at (h.queue 0 (omega arith)) in
-    let g = h.some-given in
+    let g = h.some_given in
     cases (ltb k.given revisions) (λ e. rw e (g, ltb-true k.given revisions e)) (λ e. rw e q)
 
 -- the other way: parts in their ranges pass the check

@@ -164,8 +164,8 @@ module _ {p : Parts} (s : Sized p) (h : Ranged p) where
 
   fork-given : (0 < fork_given k) × (fork_given k < 65)
   fork-given =
-      let some = R.some-given in
-      let most = R.most-given in
+      let some = R.some_given in
+      let most = R.most_given in
       cases (ltb k.given revisions) (λ e. let l = ltb-true k.given revisions e in rw e (omega arith, omega arith)) (λ e. rw e (some, omega arith))
 
   pub branch-ranged : (q c : ℕ) → q < revisions → c < revisions → k.out < revisions → Ranged (branch_parts p q c)
@@ -221,7 +221,7 @@ module _ {p : Parts} (s : Sized p) (h : Ranged p) where
   pub drop-ranged : (r : ℕ) → 0 < r → r < revisions → Ranged (drop_parts p r)
   unfolding part_in size
   drop-ranged r pos rl =
-      let most = fewer_most k.out revisions R.most-out (omega arith) in
+      let most = fewer_most k.out revisions R.most_out (omega arith) in
       let a = ranged_with h state_part _ (byte-ranged state_part revisions (λ b. ltb b 4) refl (λ t. refl) r state_joined refl) in
       let b = ranged_with a layout_part _ (drop-layout r) in
       let queued = byte-ranged queue_part revisions (λ b. ltb 0 b && ltb b 64) refl (λ t. refl) (k.given - k.out) r (rw (lt-ltb 0 r pos) (lt-ltb r 64 rl)) in

@@ -55,7 +55,7 @@ module _ (t : List ℕ) (h : length t ≡ table_bytes) (single : Bool) where
 
   grows : (qs more : List (Call (List ℕ))) (member : Bool) → (bill_out (left qs) member).value ≤ (bill_out (left (qs ++ more)) member).value
   grows qs more member =
-      rw (value-is qs member, value-is (qs ++ more) member) (Plain.bills-grow single (calls (qs ++ more)) (calls qs) (calls more) (calls_both qs more) member)
+      rw (value-is qs member, value-is (qs ++ more) member) (Plain.bills_grow single (calls (qs ++ more)) (calls qs) (calls more) (calls_both qs more) member)
 
 pub bills_on_days : BillsOnDays
 bills_on_days t h single qs = record { told = told t h single qs; grows = grows t h single qs }

@@ -49,14 +49,14 @@ has_right single cs =
 -- the settled list of a table that stands for a day
 module _ (p : PlainDay) (t : List ℕ) (S : Stands p t) where
   cells_are : cells_of t ≡ cells_after p.single S.steps
-  cells_are = ap cells S.low-is ∙ same_cells p.single S.steps S.ok
+  cells_are = ap cells S.low_is ∙ same_cells p.single S.steps S.ok
 
   shown-now : ClosedShown p.day 0 (settled_own (cells_of t))
-  shown-now = subst (λ y. ClosedShown y 0 (settled_own (cells_of t))) (sym S.day-is) (subst (λ k. ClosedShown (run S.steps) 0 (settled_own k)) (sym cells_are) (run-shown p.single S.steps S.ok))
+  shown-now = subst (λ y. ClosedShown y 0 (settled_own (cells_of t))) (sym S.day_is) (subst (λ k. ClosedShown (run S.steps) 0 (settled_own k)) (sym cells_are) (run-shown p.single S.steps S.ok))
 
   -- what is shown was taken
-  closed-low : (l : List ℕ) → ClosedShown p.day 0 l → (n : ℕ) → n ∈ l → n < p.day.updates
-  closed-low l C n i = shown_of S.steps S.ok p.day S.day-is 0 n (only-in C n i)
+  closed_low : (l : List ℕ) → ClosedShown p.day 0 l → (n : ℕ) → n ∈ l → n < p.day.updates
+  closed_low l C n i = shown_of S.steps S.ok p.day S.day_is 0 n (only-in C n i)
 
 -- a call, and a table that stands for the day after it
 module _ (p : PlainDay) (t : List ℕ) (S : Stands p t) (c : Call ℕ) (t' : List ℕ) (S' : Stands (called p c).next t') where
@@ -70,10 +70,10 @@ module _ (p : PlainDay) (t : List ℕ) (S : Stands p t) (c : Call ℕ) (t' : Lis
   D = did p (marks p t S) c
 
   accepts : AcceptedFrom (run S.steps) ss
-  accepts = subst (λ y. AcceptedFrom y ss) S.day-is D.accepts
+  accepts = subst (λ y. AcceptedFrom y ss) S.day_is D.accepts
 
   shown-then : ClosedShown (run_from (run S.steps) ss) 0 (settled_own (cells_of t'))
-  shown-then = subst (λ y. ClosedShown y 0 (settled_own (cells_of t'))) (D.same ∙ ap (λ y. run_from y ss) S.day-is) (shown-now q t' S')
+  shown-then = subst (λ y. ClosedShown y 0 (settled_own (cells_of t'))) (D.same ∙ ap (λ y. run_from y ss) S.day_is) (shown-now q t' S')
 
   longer : settled_own (cells_of t') ≡ settled_own (cells_of t) ++ brought (cells_of t) (cells_of t')
   longer = subst (λ k. settled_own (cells_of t') ≡ settled_own k ++ brought k (cells_of t')) (sym (cells_are p t S)) (lengthens p.single S.steps ss S.ok accepts (cells_of t') shown-then)
@@ -92,14 +92,14 @@ module _ (p : PlainDay) (t : List ℕ) (S : Stands p t) (c : Call ℕ) (t' : Lis
     brought = brought (cells_of t) (cells_of t');
     before = shown-now p t S;
     now = subst (λ l. ClosedShown q.day 0 l) longer (shown-now q t' S');
-    is = e ∙ posted_same (entry_at (high t')) q.entries (brought (cells_of t) (cells_of t')) board (λ n i. S'.entries-are n (closed-low q t' S' _ (shown-now q t' S') n (subst (λ l. n ∈ l) (sym longer) (Memᴰ.append_right (settled_own (cells_of t)) i))));
-    by-bib = posted_by_bib (bib_of q) (update_of q) (brought (cells_of t) (cells_of t')) board l;
+    is = e ∙ posted_same (entry_at (high t')) q.entries (brought (cells_of t) (cells_of t')) board (λ n i. S'.entries_are n (closed_low q t' S' _ (shown-now q t' S') n (subst (λ l. n ∈ l) (sym longer) (Memᴰ.append_right (settled_own (cells_of t)) i))));
+    by_bib = posted_by_bib (bib_of q) (update_of q) (brought (cells_of t) (cells_of t')) board l;
   }
 
   rights : (board after : List ℕ) → after ≡ board_out t t' board → Right p board → Right q after
   rights board after e R =
       let B = brings board after (right_length p board R) e in
-      right_after p q board after B (λ n i. sym (D.kept n (closed-low p t S B.shown B.before n i))) R
+      right_after p q board after B (λ n i. sym (D.kept n (closed_low p t S B.shown B.before n i))) R
 
 -- a refused call is no step
 quiet_if : (b : Bool) (ss : List Step) → Quiet ss → Quiet (cond b ss [])

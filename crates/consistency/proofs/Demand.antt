@@ -1,4 +1,4 @@
--- Demand 3 of the table: the agreement, the line-up of the plain day, and boards that stay right. The starred edges at a table.
+-- Demand 3 of the table: the agreement, the line_up of the plain day, and boards that stay right. The starred edges at a table.
 use Prim.Native.Nat.{ℕ}
 use mathlib.Core.Bool.{Bool, true, false}
 use mathlib.Core.Path.{◌≡◌, refl, sym, ◌∙◌, ap, subst}
@@ -33,11 +33,11 @@ unfolding answers day_after
 demand_three t h single qs =
     let f = table_follows t h single in
     record {
-      fresh-code = f.0;
-      fresh-value = f.1;
+      fresh_code = f.0;
+      fresh_value = f.1;
       agreement = f.2 qs;
       sound = λ r i. never_from qs (fresh_day single) r (subst (Memᴰ r) (f.2 qs) i);
-      line-up = lined-up single (calls qs);
+      line_up = lined-up single (calls qs);
       boards = λ before rest q place board. keeps-board (day_after single (calls before)) (table_after (fresh_out t single board_bytes).lent before) (stands_after before (fresh_day single) (fresh_out t single board_bytes).lent (fresh-stands t h single)) board q;
     }
 

@@ -1,4 +1,4 @@
--- What a verify says of every table, and that our own line-up gets a yes (02, U13).
+-- What a verify says of every table, and that our own line_up gets a yes (02, U13).
 use Prim.Native.Nat.{ℕ, ◌≤◌}
 use mathlib.Core.Bool.{Bool, false}
 use mathlib.Core.Path.{◌≡◌, refl, sym, ◌∙◌, ap}
@@ -55,18 +55,18 @@ module _ (t : List ℕ) (h : length t ≡ table_bytes) (single : Bool) (qs : Lis
 
   -- 4,096 at most
   few : p.day.updates ≤ updates
-  few = let B = bytes-are p left S in let e = B.follow.same-updates in let r = (ranges (low left) B.ranged).taken in omega arith
+  few = let B = bytes-are p left S in let e = B.follow.same_updates in let r = (ranges (low left) B.ranged).taken in omega arith
 
   own-gets-yes : (own : List ℕ) → Explains p.day own → OwnGetsYes left (file_of (updates_in p.day own))
   own-gets-yes own E =
       let ns = updates_in p.day own in
-      let all = few_below p.day.updates ns E.updates-once (λ u. (E.updates-all u).0) in
+      let all = few_below p.day.updates ns E.updates_once (λ u. (E.updates_all u).0) in
       let f = few in
-      let reply = (verify-same p left S (file_of ns)).reply ∙ ap (answer_on (λ ls. sheet_with ls [])) (Plain.own-orders single (calls qs) own E) in
+      let reply = (verify-same p left S (file_of ns)).reply ∙ ap (answer_on (λ ls. sheet_with ls [])) (Plain.own_orders single (calls qs) own E) in
       record {
-        are-bytes = written_bytes ns (omega arith) (λ n i. let l = (E.updates-all n).0 i in omega arith);
-        is-yes = ap (λ r. record { code = r.code; value = r.value }) reply;
+        are_bytes = written_bytes ns (omega arith) (λ n i. let l = (E.updates_all n).0 i in omega arith);
+        is_yes = ap (λ r. record { code = r.code; value = r.value }) reply;
       }
 
-pub own-orders : OwnOrdersOnDays
-own-orders t h single qs own E = own-gets-yes t h single qs own E
+pub own_orders : OwnOrdersOnDays
+own_orders t h single qs own E = own-gets-yes t h single qs own E

@@ -150,7 +150,7 @@ differ a b e q = true≢false (sym e ∙ rw (eq-eqb a b q))
 pub fresh-refused : FreshRefused
 fresh-refused t single board h =
     let r = unmade t single board h in
-    record { number = r.number; value = ap (λ (o : Out). o.value) r.is; table = ap (λ (o : Out). o.lent) r.is; board-stays = still t single board h }
+    record { number = r.number; value = ap (λ (o : Out). o.value) r.is; table = ap (λ (o : Out). o.lent) r.is; board_stays = still t single board h }
 
 pub fresh-refused_exactly : FreshRefusedExactly
 fresh-refused_exactly t single board =
@@ -158,5 +158,5 @@ fresh-refused_exactly t single board =
     let b = nineteen t single board in
     record {
       one = (λ e. differ (length t) table_bytes (a.0 e).1, λ n. a.1 (Rows.none, rw (ne_eqb (length t) table_bytes n)));
-      wrong-board = (λ e. let p = b.0 e in (has-table t single board p.0, differ (length board) board_bytes p.1), λ (l, n). b.1 ((rw (eq-eqb (length t) table_bytes l)) also Rows.none, rw (ne_eqb (length board) board_bytes n)));
+      wrong_board = (λ e. let p = b.0 e in (has-table t single board p.0, differ (length board) board_bytes p.1), λ (l, n). b.1 ((rw (eq-eqb (length t) table_bytes l)) also Rows.none, rw (ne_eqb (length board) board_bytes n)));
     }

@@ -1,4 +1,4 @@
--- A taken sync is a join and a fork, whatever the buffer is; after every list of calls from a fresh table no sync has 10, and on single-main days 11 arises
+-- A taken sync is a join and a fork, whatever the buffer is; after every list of calls from a fresh table no sync has 10, and on single_main days 11 arises
 -- only with joinee 0 (02, U8).
 use Prim.Native.Nat.{ℕ}
 use mathlib.Core.Bool.{Bool, true, ◌||◌, and-false, true≢false}
@@ -16,7 +16,7 @@ use Rattle.desk.proofs.Checks.{code-exactly, goes_on, took}
 use Rattle.cells.specs.Checks.{off_line}
 use Rattle.plain.specs.Record.{PlainDay, fresh_day}
 use Rattle.plain.specs.Answers.{called, day_after}
-use Rattle.plain.proofs.Syncs.{never-ten, on_single_main}
+use Rattle.plain.proofs.Syncs.{never_ten, on_single_main}
 use Rattle.table.specs.Halves.{cells_of}
 use Rattle.table.specs.Answers.{refused}
 use Rattle.table.specs.Out.{Out, table_bytes}
@@ -83,7 +83,7 @@ module _ (t : List ℕ) (h : length t ≡ table_bytes) (single : Bool) (qs : Lis
   preview-code : (n m bib : ℕ) → (preview_out left n m bib).code ≡ (called p (Looks (Preview n m bib))).answer.code
   preview-code n m bib = ap (λ r. r.code) (preview-same p left S n m bib).reply
 
-  -- on a single-main day
+  -- on a single_main day
   with-choice : single ≡ true → (c : Call ℕ) → (called p c).answer.code ≡ 11 → (called (day_after true (calls qs)) c).answer.code ≡ 11
   with-choice e c z = subst (λ b. (called (day_after b (calls qs)) c).answer.code ≡ 11) e z
 
@@ -91,8 +91,8 @@ pub syncs_on_days : SyncsOnDays
 syncs_on_days t h single qs =
     let cs = calls qs in
     record {
-      never-ten = λ m room e. never-ten single cs m room (sym (sync-code t h single qs m room) ∙ e);
-      join-eleven = λ s n m room e. (on_single_main (cs ++ (Join n m room ∷ []))).join-eleven cs [] n m room refl (with-choice t h single qs s (Join n m room) (sym (join-code t h single qs n m room) ∙ e));
+      never_ten = λ m room e. never_ten single cs m room (sym (sync-code t h single qs m room) ∙ e);
+      join_eleven = λ s n m room e. (on_single_main (cs ++ (Join n m room ∷ []))).join_eleven cs [] n m room refl (with-choice t h single qs s (Join n m room) (sym (join-code t h single qs n m room) ∙ e));
       sync_eleven = λ s m room e. (on_single_main (cs ++ (Sync m room ∷ []))).sync_eleven cs [] m room refl (with-choice t h single qs s (Sync m room) (sym (sync-code t h single qs m room) ∙ e));
-      preview-eleven = λ s n m bib e. (on_single_main (cs ++ (Looks (Preview n m bib) ∷ []))).preview-eleven cs [] n m bib refl (with-choice t h single qs s (Looks (Preview n m bib)) (sym (preview-code t h single qs n m bib) ∙ e));
+      preview_eleven = λ s n m bib e. (on_single_main (cs ++ (Looks (Preview n m bib) ∷ []))).preview_eleven cs [] n m bib refl (with-choice t h single qs s (Looks (Preview n m bib)) (sym (preview-code t h single qs n m bib) ∙ e));
     }

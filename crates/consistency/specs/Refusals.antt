@@ -22,7 +22,7 @@ pub record IsFreshRefused (t : List ℕ) (single : Bool) (board : List ℕ) : Ty
   pub number : (fresh_out t single (length board)).code ∈ (1 ∷ 19 ∷ [])
   pub value : (fresh_out t single (length board)).value ≡ 0
   pub table : (fresh_out t single (length board)).lent ≡ t
-  pub board-stays : fresh_board t single board ≡ board
+  pub board_stays : fresh_board t single board ≡ board
 
 abbrev pub FreshRefused : Type 0
 FreshRefused = (t : List ℕ) (single : Bool) (board : List ℕ) → ((fresh_out t single (length board)).code ≡ 0 → ⊥) → IsFreshRefused t single board
@@ -30,7 +30,7 @@ FreshRefused = (t : List ℕ) (single : Bool) (board : List ℕ) → ((fresh_out
 -- 1 before 19: without a table of the right length it is 1, with one it is 19 exactly if the board's length is another than 5,000
 pub record FreshCodes (t : List ℕ) (single : Bool) (board : List ℕ) : Type 0 where
   pub one : ((fresh_out t single (length board)).code ≡ 1) ↔ (length t ≡ table_bytes → ⊥)
-  pub wrong-board : ((fresh_out t single (length board)).code ≡ 19) ↔ ((length t ≡ table_bytes) × (length board ≡ board_bytes → ⊥))
+  pub wrong_board : ((fresh_out t single (length board)).code ≡ 19) ↔ ((length t ≡ table_bytes) × (length board ≡ board_bytes → ⊥))
 
 abbrev pub FreshRefusedExactly : Type 0
 FreshRefusedExactly = (t : List ℕ) (single : Bool) (board : List ℕ) → FreshCodes t single board

@@ -1,5 +1,5 @@
 -- 02, U8, at a table: of every buffer, what a taken sync is; and of a table made fresh, after every list of calls, that 11 arises only with joinee 0 on
--- single-main days and that a sync never meets 10. What a sync makes visible is said of the day (`LineUp.single-main`).
+-- single_main days and that a sync never meets 10. What a sync makes visible is said of the day (`LineUp.single_main`).
 use Rattle.std.specs.Prelude.{ℕ, Bool, true, ◌≡◌, List, length}
 use Rattle.desk.specs.Calls.{Call}
 use Rattle.boards.specs.Board.{board_bytes}
@@ -17,10 +17,10 @@ NeverOffLine = (t : List ℕ) (m room : ℕ) → (sync_out t m room).code ≡ 15
 
 -- the table left by some calls
 pub record SyncsGoOn (t : List ℕ) (single : Bool) : Type 0 where
-  pub never-ten : (m room : ℕ) → (sync_out t m room).code ≡ 10 → ⊥
-  pub join-eleven : single ≡ true → (n m room : ℕ) → (join_out t n m room).code ≡ 11 → m ≡ 0
+  pub never_ten : (m room : ℕ) → (sync_out t m room).code ≡ 10 → ⊥
+  pub join_eleven : single ≡ true → (n m room : ℕ) → (join_out t n m room).code ≡ 11 → m ≡ 0
   pub sync_eleven : single ≡ true → (m room : ℕ) → (sync_out t m room).code ≡ 11 → m ≡ 0
-  pub preview-eleven : single ≡ true → (n m bib : ℕ) → (preview_out t n m bib).code ≡ 11 → m ≡ 0
+  pub preview_eleven : single ≡ true → (n m bib : ℕ) → (preview_out t n m bib).code ≡ 11 → m ≡ 0
 
 abbrev pub SyncsOnDays : Type 0
 SyncsOnDays = (t : List ℕ) → length t ≡ table_bytes → (single : Bool) (qs : List (Call (List ℕ))) → SyncsGoOn (table_after (fresh_out t single board_bytes).lent qs) single

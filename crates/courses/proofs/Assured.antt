@@ -53,8 +53,8 @@ module _ (ts : Tables) (D : Days ts) (i : ℕ) (l : i < courses) where
   unfolding is_full
   room-assured n k = assured-room (counts ts) i n l D.sum k
 
-  never-turned : (q : Call (List ℕ)) → counts ts i + enters (call_on length q) ≤ assured → course_served ts i (Plain q) ≡ served (ts i) q
-  never-turned q k = had-shared q ∙ sharing-passes full assured room-assured p (ts i) S q k
+  never_turned : (q : Call (List ℕ)) → counts ts i + enters (call_on length q) ≤ assured → course_served ts i (Plain q) ≡ served (ts i) q
+  never_turned q k = had-shared q ∙ sharing-passes full assured room-assured p (ts i) S q k
 
   -- counts that fit together with a larger one
   room-below : (m : ℕ) → logged (changed (counts ts) i m) ≤ card → (n : ℕ) → n ≤ m → full n ≡ false
@@ -122,7 +122,7 @@ once_all_made ts cs A =
       tables = λ i l. (C us D i l).tables i l;
       never_one = never_one us D;
       sum = D.sum;
-      never-turned = never-turned us D;
+      never_turned = never_turned us D;
       twenty = λ i l q h. (there us D i l q h, back us D i l q h);
       gives_back = gives_back us D;
     }

@@ -69,10 +69,10 @@ module _ (i : ℕ) where
   unfolding heard
   heard-first ts q cs = rw (eq-eqb i i refl)
 
-  first-is : (ts : Tables) (q : Call (List ℕ)) (cs : List CourseCall) (k : ℕ) → (gets ts (calling q)).reply.code ≡ k
+  first_is : (ts : Tables) (q : Call (List ℕ)) (cs : List CourseCall) (k : ℕ) → (gets ts (calling q)).reply.code ≡ k
       → first_code (heard i ts (calling q ∷ cs)) ≡ cond (eqb k 0) (first_code (heard i (written ts (calling q)) cs)) k
   unfolding first_code
-  first-is ts q cs k e = ap first_code (heard-first ts q cs) ∙ ap (λ k. cond (eqb k 0) (first_code (heard i (written ts (calling q)) cs)) k) e
+  first_is ts q cs k e = ap first_code (heard-first ts q cs) ∙ ap (λ k. cond (eqb k 0) (first_code (heard i (written ts (calling q)) cs)) k) e
 
   after_first : (ts : Tables) (q : Call (List ℕ)) (cs : List CourseCall) → tables_after ts (calling q ∷ cs) i ≡ tables_after (written ts (calling q)) cs i
   unfolding tables_after
@@ -88,13 +88,13 @@ module _ (i : ℕ) where
     unfolding first_code tables_after heard
     yield-sent ts e =
         let g : (gets ts (calling (Yield c board))).reply.code ≡ (yield_out (ts i) c board_bytes).code = ap (λ (u : Served). u.reply.code) (served_by_course ts i e (Yield c board)) ∙ rw b in
-        record { code = only_code (yield_out (ts i) c board_bytes).code ∙ sym (first-is ts (Yield c board) [] (yield_out (ts i) c board_bytes).code g); lent = λ z. sym (next_is ts e (Yield c board) ∙ rw b) }
+        record { code = only_code (yield_out (ts i) c board_bytes).code ∙ sym (first_is ts (Yield c board) [] (yield_out (ts i) c board_bytes).code g); lent = λ z. sym (next_is ts e (Yield c board) ∙ rw b) }
 
     -- a call and, if it is taken, those after it
     goes_on : (ts : Tables) (q : Call (List ℕ)) (cs : List CourseCall) (o : Out) (rest : List ℕ → Out) → gets ts (calling q) ≡ on_table o
         → Sent (rest o.lent) (written ts (calling q)) cs → Sent (after_taken o rest) ts (calling q ∷ cs)
     goes_on ts q cs o rest g R =
-        let f = first-is ts q cs o.code (ap (λ (u : Served). u.reply.code) g) in
+        let f = first_is ts q cs o.code (ap (λ (u : Served). u.reply.code) g) in
         cases (eqb o.code 0)
         (λ e. rw e (record { code = R.code ∙ sym (f ∙ rw e); lent = λ z. R.lent z ∙ sym (after_first ts q cs) }))
         (λ e. rw e (record { code = sym (f ∙ rw e); lent = λ z. absurd (eqb-false o.code 0 e z) }))

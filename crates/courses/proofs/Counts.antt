@@ -28,7 +28,7 @@ use Rattle.card.specs.Courses.{sharing}
 use Rattle.courses.proofs.Shared.{update-is}
 
 pub count-is : (p : PlainDay) (t : List ℕ) → Stands p t → count_in t ≡ p.day.updates
-count-is p t S = (bytes-are p t S).follow.same-updates
+count-is p t S = (bytes-are p t S).follow.same_updates
 
 abbrev if_taken : ℕ → ℕ → ℕ
 if_taken code n = cond (eqb code 0) n 0

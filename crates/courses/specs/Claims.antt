@@ -85,7 +85,7 @@ pub record GoesOn (ts : Tables) : Type 0 where
   pub never_one : (i : ℕ) → i < courses → (a : Ask) → (course_served ts i a).reply.code ≡ 1 → ⊥
   pub sum : logged (counts ts) ≤ card
   -- "a call that would leave its course with no more than its 1,024 is never turned away on account of the others": it has what its table alone gives
-  pub never-turned : (i : ℕ) → i < courses → (q : Call (List ℕ)) → counts ts i + enters (call_on length q) ≤ assured → course_served ts i (Plain q) ≡ served (ts i) q
+  pub never_turned : (i : ℕ) → i < courses → (q : Call (List ℕ)) → counts ts i + enters (call_on length q) ≤ assured → course_served ts i (Plain q) ≡ served (ts i) q
   -- "An update is refused if afterwards the sum .. would pass 8,192"; "For bundles it counts per update": a call that its table alone would take
   pub twenty : (i : ℕ) → i < courses → (q : Call (List ℕ)) → (served (ts i) q).reply.code ≡ 0
       → ((course_served ts i (Plain q)).reply.code ≡ 20) ↔ (card < logged (changed (counts ts) i (counts ts i + enters (call_on length q))))

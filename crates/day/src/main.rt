@@ -1,4 +1,5 @@
 // Runs the day file on standard input and prints the day.
+#![tactic(auto)]
 use dayfile::file::File;
 use libc::{STDIN_FILENO, STDOUT_FILENO};
 use report::output::Output;

@@ -134,18 +134,18 @@ pools = refl
 
 -- 002, Definition 6: what no construction makes. A second event, or a fork, at a vertex that is no terminal
 no_second_event : Constructed (event 0 0 none ∷ event 0 0 none ∷ root ∷ []) → ⊥
-no_second_event (entered c t client update) = t.no-s 1 (newest refl (Memᴰ.head refl))
+no_second_event (entered c t client update) = t.no_s 1 (newest refl (Memᴰ.head refl))
 
 no_late_fork : (n : ℕ) → Constructed (start n ∷ fork 0 ∷ event 0 0 none ∷ root ∷ []) → ⊥
-no_late_fork n (forked c t) = t.no-s 1 (newest refl (Memᴰ.head refl))
+no_late_fork n (forked c t) = t.no_s 1 (newest refl (Memᴰ.head refl))
 
 -- a joiner, or a joinee, that is no terminal
 no_late_joiner : Constructed (join 1 2 ∷ event 1 0 none ∷ start 1 ∷ fork 0 ∷ root ∷ []) → ⊥
-no_late_joiner (joined c t t' j) = t.no-s 3 (newest refl (Memᴰ.head refl))
+no_late_joiner (joined c t t' j) = t.no_s 3 (newest refl (Memᴰ.head refl))
 
 no_late_joinee : Constructed (join 1 2 ∷ event 2 0 none ∷ start 1 ∷ fork 0 ∷ root ∷ []) → ⊥
-no_late_joinee (joined c t t' j) = t'.no-s 3 (newest refl (Memᴰ.head refl))
+no_late_joinee (joined c t t' j) = t'.no_s 3 (newest refl (Memᴰ.head refl))
 
 -- and a child that joins its parent
 no_child_joins_parent : Constructed child_joins_parent → ⊥
-no_child_joins_parent (joined c t t' j) = j.start-unseen (leads_path before_join (start_vertex before_join 4) 5 second-half_fails)
+no_child_joins_parent (joined c t t' j) = j.start_unseen (leads_path before_join (start_vertex before_join 4) 5 second-half_fails)

@@ -1,5 +1,5 @@
--- What is claimed of a day and one line-up of its transactions: 01, "The plain day and its line-up", from "On it:" on, without calls and values.
--- It speaks of the day's own vertices and paths alone. 01's line-up is 002's arbitration order.
+-- What is claimed of a day and one line_up of its transactions: 01, "The plain day and its line_up", from "On it:" on, without calls and values.
+-- It speaks of the day's own vertices and paths alone. 01's line_up is 002's arbitration order.
 use Rattle.std.specs.Prelude.{ℕ, ◌<◌, ◌≤◌, ◌≡◌, ◌⊎◌, ◌↔◌, length}
 use Rattle.std.proofs.Math.Option.{Option, some}
 use mathlib.Core.List.{List, [], ◌∷◌, ◌++◌, Nodup}
@@ -11,8 +11,8 @@ use Rattle.diagram.specs.Day.{Day, IsOut}
 
 -- 01, "Words": "Event: a taken update or query", by its vertex
 pub data IsEvent (x : ℕ) : Diagram → Type 0 where
-  newest-is : {p c : ℕ} {u : Option ℕ} {d : Diagram} → x ≡ length d → IsEvent x (event p c u ∷ d)
-  older-is : {v : Vertex} {d : Diagram} → IsEvent x d → IsEvent x (v ∷ d)
+  newest_is : {p c : ℕ} {u : Option ℕ} {d : Diagram} → x ≡ length d → IsEvent x (event p c u ∷ d)
+  older_is : {v : Vertex} {d : Diagram} → IsEvent x d → IsEvent x (v ∷ d)
 
 abbrev pub events_of : Day → ℕ → List ℕ
 events_of y t = (y.transaction t).events
@@ -26,10 +26,10 @@ pub record SeesTransaction (y : Day) (t s : ℕ) : Type 0 where
   pub later : ℕ
   pub earlier : ℕ
   pub later_in : later ∈ events_of y t
-  pub earlier-in : earlier ∈ events_of y s
+  pub earlier_in : earlier ∈ events_of y s
   pub path : Sees y later earlier
 
--- `updates` are "the updates it sees, and no others, .. each once, in line-up order, and as entered within a transaction"
+-- `updates` are "the updates it sees, and no others, .. each once, in line_up order, and as entered within a transaction"
 pub record Shows (y : Day) (order : List ℕ) (x : ℕ) (updates : List ℕ) : Type 0 where
   pub seen : List ℕ
   pub exactly : Only (Sees y x) (flat (events_of y) order) seen
@@ -65,9 +65,9 @@ Extends y z =
     (r : ℕ) → IsOut y r → IsOut z r
     → (more : List ℕ) × (view z.diagram (z.terminal r) ≡ view y.diagram (y.terminal r) ++ more)
 
--- one line-up of the day's transactions, at its end
+-- one line_up of the day's transactions, at its end
 pub record Explains (y : Day) (order : List ℕ) : Type 0 where
-  -- "A line-up has every transaction once, open ones and those of queries alone too."
+  -- "A line_up has every transaction once, open ones and those of queries alone too."
   pub once : Nodup order
   pub complete : (t : ℕ) → (t ∈ order) ↔ (t < y.transactions)
   -- every event is in one transaction, once
@@ -75,10 +75,10 @@ pub record Explains (y : Day) (order : List ℕ) : Type 0 where
   pub one_each : Nodup (flat (events_of y) order)
   -- "the updates taken, numbered from 0": so the order has every update once
   pub numbered : Numbered y.diagram y.updates
-  pub updates-once : Nodup (numbers y.diagram (flat (events_of y) order))
-  pub updates-all : (n : ℕ) → (n ∈ numbers y.diagram (flat (events_of y) order)) ↔ (n < y.updates)
+  pub updates_once : Nodup (numbers y.diagram (flat (events_of y) order))
+  pub updates_all : (n : ℕ) → (n ∈ numbers y.diagram (flat (events_of y) order)) ↔ (n < y.updates)
   -- 00, demand 3: "each stands after all others that it sees"
-  pub after-seen : (s t : ℕ) → s < y.transactions → t < y.transactions → (s ≡ t → ⊥) → SeesTransaction y t s → (s ∷ t ∷ []) ⊑ order
+  pub after_seen : (s t : ℕ) → s < y.transactions → t < y.transactions → (s ≡ t → ⊥) → SeesTransaction y t s → (s ∷ t ∷ []) ⊑ order
   -- "The visible updates of a box are those its line end sees, in the listing's order, busy or not": of every box out they "stand in listed order"
   pub visible : (r : ℕ) → IsOut y r → Shows y order (y.terminal r) (view y.diagram (y.terminal r))
   pub in_order : (r : ℕ) → IsOut y r → view y.diagram (y.terminal r) ⊑ numbers y.diagram (flat (events_of y) order)

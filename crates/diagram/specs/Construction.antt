@@ -8,10 +8,10 @@ use Rattle.diagram.specs.Effects.{start_vertex, fork_vertex}
 -- end, and none from the joinee's own start vertex." Definition 6 has only the first half. The main revision has no
 -- fork vertex, and so is no joinee; the joiner sees its own start, and so is not its own joinee.
 pub record Joinable (d : Diagram) (joiner joinee : ℕ) : Type 0 where
-  pub started-by : ℕ
-  pub is-fork : fork_vertex d joinee ≡ some started-by
-  pub fork-seen : HasPath d started-by joiner
-  pub start-unseen : HasPath d (start_vertex d joinee) joiner → ⊥
+  pub started_by : ℕ
+  pub is_fork : fork_vertex d joinee ≡ some started_by
+  pub fork_seen : HasPath d started_by joiner
+  pub start_unseen : HasPath d (start_vertex d joinee) joiner → ⊥
 
 -- "a directed graph constructed by applying a .. sequence of the following construction steps .. to a single initial
 -- start vertex (called the root)"

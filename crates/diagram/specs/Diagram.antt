@@ -59,5 +59,5 @@ pub data HasPath (d : Diagram) (x : ℕ) : ℕ → Type 0 where
 -- "We call a vertex with no outgoing s- or j-edges a terminal" (01: a line end)
 pub record Terminal (d : Diagram) (x : ℕ) : Type 0 where
   pub vertex : x < length d
-  pub no-s : (y : ℕ) → Edge s_sources x y d → ⊥
-  pub no-j : (y : ℕ) → Edge j_sources x y d → ⊥
+  pub no_s : (y : ℕ) → Edge s_sources x y d → ⊥
+  pub no_j : (y : ℕ) → Edge j_sources x y d → ⊥

@@ -43,10 +43,10 @@ pub record ByMarks (ss : List Step) : Type 0 where
   pub still_later : (before rest : List Step) (r : ℕ) → ss ≡ before ++ rest → marked (run before) r ≡ true → marked (run ss) r ≡ true
       → shown_at (run ss) r ≡ shown_at (run before) r
   -- "Coming back means forking it": what comes of a mark stays apart. A revision's terminal sees the mark's start vertex exactly if the revision is from it
-  pub by-starts : (r x : ℕ) → StartedAsMark ss r → x < (run ss).revisions
+  pub by_starts : (r x : ℕ) → StartedAsMark ss r → x < (run ss).revisions
       → Sees (run ss) ((run ss).terminal x) ((run ss).start_of r) ↔ FromMark (run ss) r x
   -- so what comes of it can be joined only into one that is from it, and never into the main revision
   pub among : (r a b : ℕ) → StartedAsMark ss r → a < (run ss).revisions → b < (run ss).revisions → FromMark (run ss) r b → (b ≡ r → ⊥)
       → Joinable (run ss).diagram ((run ss).terminal a) ((run ss).terminal b) → FromMark (run ss) r a
-  pub never-main : (r b : ℕ) → StartedAsMark ss r → b < (run ss).revisions → FromMark (run ss) r b → (b ≡ r → ⊥)
+  pub never_main : (r b : ℕ) → StartedAsMark ss r → b < (run ss).revisions → FromMark (run ss) r b → (b ≡ r → ⊥)
       → Joinable (run ss).diagram ((run ss).terminal 0) ((run ss).terminal b) → ⊥

@@ -32,13 +32,13 @@ Used y n = (r : ℕ) × (r < y.revisions) × (number_of y r ≡ n)
 -- revision r is "the latest box that bore" n
 pub record Bears (y : Day) (r n : ℕ) : Type 0 where
   pub bore : (r < y.revisions) × (number_of y r ≡ n)
-  pub no-later : (s : ℕ) → r < s → s < y.revisions → number_of y s ≡ n → ⊥
+  pub no_later : (s : ℕ) → r < s → s < y.revisions → number_of y s ≡ n → ⊥
 
--- "A fork now takes a never-used number while there is one, else the number handed in longest ago." Of those never used it is the next, as
+-- "A fork now takes a never_used number while there is one, else the number handed in longest ago." Of those never used it is the next, as
 -- in 01, "Words": "each fork gives the next unused number".
 pub data Takes (ss : List Step) (n : ℕ) : Type 0 where
-  never-used : n < revision_limit → (Used (run ss) n → ⊥) → ((m : ℕ) → m < n → Used (run ss) m) → Takes ss n
-  longest-ago : ((m : ℕ) → m < revision_limit → Used (run ss) m) → (others : List ℕ) → waiting ss ≡ n ∷ others → Takes ss n
+  never_used : n < revision_limit → (Used (run ss) n → ⊥) → ((m : ℕ) → m < n → Used (run ss) m) → Takes ss n
+  longest_ago : ((m : ℕ) → m < revision_limit → Used (run ss) m) → (others : List ℕ) → waiting ss ≡ n ∷ others → Takes ss n
 
 pub record ByNumbers (ss : List Step) : Type 0 where
   -- the main revision bears 0, and each other one the number that its fork took

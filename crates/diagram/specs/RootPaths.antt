@@ -1,4 +1,4 @@
--- 002, Definitions 7 to 9, word by word: the root-path of a vertex, the effect of a vertex, and that `view` and `own` are the
+-- 002, Definitions 7 to 9, word by word: the root_path of a vertex, the effect of a vertex, and that `view` and `own` are the
 -- effects along such paths.
 use Rattle.std.specs.Prelude.{ℕ, ◌<◌, ◌≡◌, List, [], ◌∷◌, ◌++◌, length}
 use Rattle.lists.specs.Lists.{flat}
@@ -26,10 +26,10 @@ sf_sources v = s_sources v ++ f_sources v
 -- Definition 9: the effects along "the unique path from the root to v that does not contain j-edges"; and those of a joined revision, from
 -- its start along its own s-edges
 pub record Composed (d : Diagram) (x : ℕ) : Type 0 where
-  pub root-path : List ℕ
-  pub from-root : Trail d sf_sources 0 x root-path
-  pub only-root : (xs : List ℕ) → Trail d sf_sources 0 x xs → xs ≡ root-path
-  pub view-is : view d x ≡ flat (effect d) root-path
-  pub revision-path : List ℕ
-  pub from_start : Trail d s_sources (start_vertex d x) x revision-path
-  pub own_is : own d x ≡ flat (effect d) revision-path
+  pub root_path : List ℕ
+  pub from_root : Trail d sf_sources 0 x root_path
+  pub only_root : (xs : List ℕ) → Trail d sf_sources 0 x xs → xs ≡ root_path
+  pub view_is : view d x ≡ flat (effect d) root_path
+  pub revision_path : List ℕ
+  pub from_start : Trail d s_sources (start_vertex d x) x revision_path
+  pub own_is : own d x ≡ flat (effect d) revision_path

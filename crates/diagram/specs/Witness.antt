@@ -23,7 +23,7 @@ pub record YieldOf (ss : List Step) (t n : ℕ) : Type 0 where
   pub rest : List Step
   pub client : ℕ
   pub is : ss ≡ before ++ (Yield client ∷ rest)
-  pub was-open : (run before).open_by client ≡ some t
+  pub was_open : (run before).open_by client ≡ some t
   pub at : n ≡ next_vertex before
 
 abbrev pub NoEvent : ℕ → List Step → Type 0
@@ -40,10 +40,10 @@ pub record ByTransactions (ss : List Step) : Type 0 where
   pub successive : (before middle rest : List Step) (c r q : ℕ) (u w : Bool) → ss ≡ before ++ (Event c r u ∷ (middle ++ (Event c q w ∷ rest)))
       → NoEvent c middle → NoYield c middle → Edge s_sources (next_vertex before) (next_vertex (before ++ (Event c r u ∷ middle))) (run ss).diagram
   -- 3: "If x is the last event .. and not a yield, then it must be a terminal."
-  pub last-open : (before rest : List Step) (c r : ℕ) (u : Bool) → ss ≡ before ++ (Event c r u ∷ rest)
+  pub last_open : (before rest : List Step) (c r : ℕ) (u : Bool) → ss ≡ before ++ (Event c r u ∷ rest)
       → NoEvent c rest → NoYield c rest → Terminal (run ss).diagram (next_vertex before)
   -- 4: "If x, y are two operations preceding and succeeding some yield .. then there must exist a path from x to y."
-  pub in-sequence : (before middle rest : List Step) (c r q : ℕ) (u w : Bool) → ss ≡ before ++ (Event c r u ∷ (middle ++ (Event c q w ∷ rest)))
+  pub in_sequence : (before middle rest : List Step) (c r q : ℕ) (u w : Bool) → ss ≡ before ++ (Event c r u ∷ (middle ++ (Event c q w ∷ rest)))
       → Memᴰ (Yield c) middle → HasPath (run ss).diagram (next_vertex before) (next_vertex (before ++ (Event c r u ∷ middle)))
 
 pub record Witness (ss : List Step) : Type 0 where

@@ -25,6 +25,7 @@ flat_same f g [] h = refl
 flat_same f g (t ∷ l) h = rw (h t (Memᴰ.head refl), flat_same f g l (λ s i. h s (Memᴰ.tail i)))
 
 pub flat_in : (f : ℕ → List ℕ) (t e : ℕ) (l : List ℕ) → t ∈ l → e ∈ f t → e ∈ flat f l
+flat_in f t e [] x'' i = elim x'' [ ]
 flat_in f t e (s ∷ l) (Memᴰ.head q) i = Memᴰ.append_left (flat f l) (rw q at i)
 flat_in f t e (s ∷ l) (Memᴰ.tail j) i = Memᴰ.append_right (f s) (flat_in f t e l j i)
 
@@ -84,6 +85,7 @@ same_block f (u ∷ l) d s t e i j p q = pick (Memᴰ.cases_cons i) (Memᴰ.case
     pick (inr a) (inr b) k = k a b p q
 
 pub flat_back_in : (hold : ℕ → List ℕ) (x t : ℕ) (l : List ℕ) → x ∈ l → t ∈ hold x → t ∈ flat_back hold l
+flat_back_in hold x t [] x3 i = elim x3 [ ]
 flat_back_in hold x t (z ∷ l) (Memᴰ.head q) i = Memᴰ.append_right (flat_back hold l) (rw q at i)
 flat_back_in hold x t (z ∷ l) (Memᴰ.tail j) i = Memᴰ.append_left (hold z) (flat_back_in hold x t l j i)
 
@@ -113,12 +115,14 @@ flat_back-one hold (u ∷ l) d x z t i j p q = pick (Memᴰ.cases_cons i) (Mem�
     pick (inr a) (inr b) k = k a b p q
 
 pub flat_back_nodup : (hold : ℕ → List ℕ) (x : ℕ) (l : List ℕ) → x ∈ l → Nodup (flat_back hold l) → Nodup (hold x)
+flat_back_nodup hold x [] x3 d = elim x3 [ ]
 flat_back_nodup hold x (z ∷ l) (Memᴰ.head q) d = rw q (Nodup.of_append_right (flat_back hold l) d)
 flat_back_nodup hold x (z ∷ l) (Memᴰ.tail j) d = flat_back_nodup hold x l j (Nodup.of_append_left (hold z) d)
 
 -- the blocks behind r, and then r's, stand in the whole row in that order
 pub flat_back-behind : (hold : ℕ → List ℕ) (r : ℕ) (l : List ℕ) → r ∈ l → (flat_back hold (behind r l) ++ hold r) ⊑ flat_back hold l
 unfolding behind
+flat_back-behind hold r [] i = elim i [ ]
 flat_back-behind hold r (x ∷ l) i =
     cases (eqb x r)
     (λ e. rw (e, eqb-true x r e) (Sublistᴰ.refl (flat_back hold l ++ hold r)))

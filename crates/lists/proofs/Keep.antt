@@ -22,6 +22,7 @@ member_in u [] e = absurd (false≢true e)
 member_in u (x ∷ l) e = either (or_cases (eqb u x) (member u l) e) (λ q. Memᴰ.head (eqb-true u x q)) (λ q. Memᴰ.tail (member_in u l q))
 
 pub in_member : (u : ℕ) (l : List ℕ) → u ∈ l → member u l ≡ true
+in_member u [] x' = elim x' [ ]
 in_member u (x ∷ l) (Memᴰ.head q) = or_left (eqb u x) (member u l) (eq-eqb u x q)
 in_member u (x ∷ l) (Memᴰ.tail i) = or_right (eqb u x) (member u l) (in_member u l i)
 

@@ -24,6 +24,7 @@ pub record Place (b : ℕ) (l : List ℕ) : Type 0 where
   pub eq : l ≡ above ++ b ∷ below
 
 pub place : (b : ℕ) (l : List ℕ) → b ∈ l → Place b l
+place b [] x' = elim x' [ ]
 place b (x ∷ l) (Memᴰ.head e) = record { above = []; below = l; eq = rw e }
 place b (x ∷ l) (Memᴰ.tail m) = let p = place b l m in record { above = x ∷ p.above; below = p.below; eq = ap (λ t. x ∷ t) p.eq }
 
@@ -70,6 +71,7 @@ remove_at b (x ∷ r) l h = rw (ne_eqb x b (λ e. h (Memᴰ.head (sym e))), remo
 -- c put in front of p, and b taken out: who is there
 pub insert_new : (p c : ℕ) (l : List ℕ) → p ∈ l → c ∈ insert_before p c l
 unfolding insert_before
+insert_new p c [] i = elim i [ ]
 insert_new p c (x ∷ l) i = pick (split (eqb x p)) (insert_new p c l)
   where
     pick : (eqb x p ≡ true) ⊎ (eqb x p ≡ false) → (p ∈ l → c ∈ insert_before p c l) → c ∈ cond (eqb x p) (c ∷ x ∷ l) (x ∷ insert_before p c l)
@@ -78,6 +80,7 @@ insert_new p c (x ∷ l) i = pick (split (eqb x p)) (insert_new p c l)
 
 pub insert_old : (p c x : ℕ) (l : List ℕ) → x ∈ l → x ∈ insert_before p c l
 unfolding insert_before
+insert_old p c x [] i = elim i [ ]
 insert_old p c x (z ∷ l) i = pick (split (eqb z p)) (insert_old p c x l)
   where
     pick : (eqb z p ≡ true) ⊎ (eqb z p ≡ false) → (x ∈ l → x ∈ insert_before p c l) → x ∈ cond (eqb z p) (c ∷ z ∷ l) (z ∷ insert_before p c l)
@@ -108,6 +111,7 @@ remove_back b x (z ∷ l) i = pick (split (eqb z b)) (remove_back b x l)
 
 pub remove-keep : (b x : ℕ) (l : List ℕ) → (x ≡ b → ⊥) → x ∈ l → x ∈ remove b l
 unfolding remove
+remove-keep b x [] n i = elim i [ ]
 remove-keep b x (z ∷ l) n i = pick (split (eqb z b)) (remove-keep b x l n)
   where
     pick : (eqb z b ≡ true) ⊎ (eqb z b ≡ false) → (x ∈ l → x ∈ remove b l) → x ∈ cond (eqb z b) l (z ∷ remove b l)
@@ -134,6 +138,7 @@ insert_sub p c (x ∷ l) = pick (split (eqb x p)) (insert_sub p c l)
 
 pub insert_self : (p c : ℕ) (l : List ℕ) → p ∈ l → (c ∷ p ∷ []) ⊑ insert_before p c l
 unfolding insert_before
+insert_self p c [] i = elim i [ ]
 insert_self p c (x ∷ l) i = pick (split (eqb x p)) (insert_self p c l)
   where
     pick : (eqb x p ≡ true) ⊎ (eqb x p ≡ false) → (p ∈ l → (c ∷ p ∷ []) ⊑ insert_before p c l) → (c ∷ p ∷ []) ⊑ cond (eqb x p) (c ∷ x ∷ l) (x ∷ insert_before p c l)

@@ -11,6 +11,7 @@ use Rattle.lists.specs.Arranged.{behind, flat_back, insert_before, remove}
 use Rattle.lists.proofs.Cases.{cases}
 
 pub mapped_in : (f : ℕ → ℕ) (l : List ℕ) (x : ℕ) → x ∈ l → f x ∈ mapped f l
+mapped_in f [] x x3 = elim x3 [ ]
 mapped_in f (z ∷ l) x (Memᴰ.head e) = Memᴰ.head (ap f e)
 mapped_in f (z ∷ l) x (Memᴰ.tail i) = Memᴰ.tail (mapped_in f l x i)
 

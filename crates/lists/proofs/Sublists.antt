@@ -71,6 +71,7 @@ skip_one {w} r b l s h =
     rw p.whole (Sublistᴰ.append p.fst (skip_head b l p.snd (λ m. h (rw p.whole (Memᴰ.append_right p.one m)))))
 
 pub ∈-⊑ : (b : ℕ) (l : List ℕ) → b ∈ l → (b ∷ []) ⊑ l
+∈-⊑ b [] x' = elim x' [ ]
 ∈-⊑ b (x ∷ l) (Memᴰ.head e) = Sublistᴰ.cons-cons e (Sublistᴰ.nil-sublist l)
 ∈-⊑ b (x ∷ l) (Memᴰ.tail m) = Sublistᴰ.cons (∈-⊑ b l m)
 

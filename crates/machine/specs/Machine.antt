@@ -132,14 +132,14 @@ revision_of w (some t) = some (w t).revision
 
 -- the machine has the day's answers
 pub record Follows (y : Day) (k : Machine) : Type 0 where
-  pub same-revisions : k.revisions ≡ y.revisions
-  pub same-joined : (r : ℕ) → k.joined r ≡ y.joined r
-  pub same-joinable : (a b : ℕ) → IsOut y a → IsOut y b → k.joinable a b ≡ not (not_joinable y a b)
-  pub same-caught_up : (c r : ℕ) → IsOut y r → k.caught_up c r ≡ not (stale y c r)
-  pub same-open_on : (c : ℕ) → k.open_on c ≡ revision_of y.transaction (y.open_by c)
-  pub same-updates : k.updates ≡ y.updates
-  pub same-own : (r : ℕ) → IsOut y r → k.own r ≡ own y.diagram (y.terminal r)
+  pub same_revisions : k.revisions ≡ y.revisions
+  pub same_joined : (r : ℕ) → k.joined r ≡ y.joined r
+  pub same_joinable : (a b : ℕ) → IsOut y a → IsOut y b → k.joinable a b ≡ not (not_joinable y a b)
+  pub same_caught_up : (c r : ℕ) → IsOut y r → k.caught_up c r ≡ not (stale y c r)
+  pub same_open_on : (c : ℕ) → k.open_on c ≡ revision_of y.transaction (y.open_by c)
+  pub same_updates : k.updates ≡ y.updates
+  pub same_own : (r : ℕ) → IsOut y r → k.own r ≡ own y.diagram (y.terminal r)
   pub same_view : (r : ℕ) → IsOut y r → k.inherited r ++ k.own r ≡ view y.diagram (y.terminal r)
-  pub same-shown : (r : ℕ) → IsOut y r → shown k r ≡ view y.diagram (y.terminal r)
+  pub same_shown : (r : ℕ) → IsOut y r → shown k r ≡ view y.diagram (y.terminal r)
   pub out : (r : ℕ) → r ∈ k.layout → IsOut y r
   pub laid : (r : ℕ) → IsOut y r → r ∈ k.layout

@@ -29,11 +29,11 @@ outs_at k i h = get_or-take k.out k.layout i 0 h
 module _ (d : List ℕ) (h : length d ≡ lower_bytes) (g : in_range d ≡ true) where
   pub from_place : (i x : ℕ) → i < (cells d).out → x ≡ byte (cells d).layout i → drop i (outs (cells d)) ≡ x ∷ drop (i + 1) (outs (cells d))
   from_place i x l e =
-      let n = outs-length d h (ranges d g).most-out in
+      let n = outs-length d h (ranges d g).most_out in
       drop-cons (outs (cells d)) i 0 (omega arith) ∙ rw (outs_at (cells d) i l, e, add-one)
 
   pub past-places : (i : ℕ) → (cells d).out ≤ i → drop i (outs (cells d)) ≡ []
-  past-places i l = let n = outs-length d h (ranges d g).most-out in drop_of_length-le (outs (cells d)) {i = i} (omega arith)
+  past-places i l = let n = outs-length d h (ranges d g).most_out in drop_of_length-le (outs (cells d)) {i = i} (omega arith)
 
 module _ (r : ℕ) (l : List ℕ) where
   pub sought_more : (j : ℕ) → j < length l → (get_or l j 0 ≡ r → ⊥) → behind r l ≡ behind r (drop j l) → behind r l ≡ behind r (drop (j + 1) l)

@@ -55,5 +55,5 @@ module _ (single : Bool) where
   unfolding called
   further before rest member = let R = ran_on before rest in bill-grows _ _ _ _ member (let b = R.boxes in omega arith) R.more
 
-  pub bills-grow : (cs before rest : List (Call ℕ)) → cs ≡ before ++ rest → (member : Bool) → bill_after single before member ≤ bill_after single cs member
-  bills-grow cs before rest place member = subst (λ cs. bill_after single before member ≤ bill_after single cs member) (sym place) (further before rest member)
+  pub bills_grow : (cs before rest : List (Call ℕ)) → cs ≡ before ++ rest → (member : Bool) → bill_after single before member ≤ bill_after single cs member
+  bills_grow cs before rest place member = subst (λ cs. bill_after single before member ≤ bill_after single cs member) (sym place) (further before rest member)

@@ -73,10 +73,10 @@ unfolding called answers_from answers after leads tabulate is_given meant is_nam
 log-full = refl
 
 -- 10 once 64 boxes are started, after 3 and 7; and not before
-none_left : said (answers_from (counted 0 63) (Fork 0 ∷ Fork 64 ∷ Query 0 0 7 ∷ Fork 0 ∷ yield 0 ∷ Fork 0 ∷ []))
+none_left_lem : said (answers_from (counted 0 63) (Fork 0 ∷ Fork 64 ∷ Query 0 0 7 ∷ Fork 0 ∷ yield 0 ∷ Fork 0 ∷ []))
     ≡ ok 63 ∷ refusal 3 ∷ neither ∷ refusal 7 ∷ ok 0 ∷ refusal 10 ∷ []
 unfolding called answers_from answers after leads tabulate is_given meant is_named mark_named next_number four_letters unknown_client marked bad_name open_elsewhere busy_by_other busy any_below stale log_full none_left not_joinable revision_limit client_limit update_limit kind_check effect earliest penalized state_of value_in applied sent entries_in entries_from is_wrong number
-none_left = refl
+none_left_lem = refl
 
 -- the joinee's update 1 is listed behind the joiner's update 2, each with its number and as it was entered
 abbrev apart : List (Call ℕ)

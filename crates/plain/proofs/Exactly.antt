@@ -123,13 +123,13 @@ update-given p c n k bib v (e1 also e2 also e3 also P) = e3
 update-entry : (p : PlainDay) (c n k bib v : ℕ) → Passes p (Update c n k bib v) → (bib < 1000) × IsKind k
 update-entry p c n k bib v (e1 also e2 also e3 also e4 also e16 also e5 also P) = let b = known-kind bib k e5 in (good_bib bib b.0, good_kind k _ b.1)
 
-bad_kind : (k : ℕ) → IsKind k → bad_kind k ≡ false
-bad_kind k h = ap is_unknown (kind_good k h).1
+bad_kind_lem : (k : ℕ) → IsKind k → bad_kind k ≡ false
+bad_kind_lem k h = ap is_unknown (kind_good k h).1
 
 update_row : (p : PlainDay) (c n k bib v : ℕ) → not (is_given p.day n) ≡ false → (bib < 1000) × IsKind k → accepted p.day (Event c (meant p.day n) true) ≡ true → Passes p (Update c n k bib v)
 update_row p c n k bib v g i a =
     let t = event-tests p.day c (meant p.day n) true a in
-    refl also t.0 also g also t.1 also t.2 also neither (bib_good bib i.0) (bad_kind k i.1) also t.3 also t.4 also t.5 also t.6 also Rows.none
+    refl also t.0 also g also t.1 also t.2 also neither (bib_good bib i.0) (bad_kind_lem k i.1) also t.3 also t.4 also t.5 also t.6 also Rows.none
 
 -- the parts of a bundle, where all are taken, are entries; and back, where the steps are accepted
 good_entries : (es : List Entry) (p : PlainDay) (c n : ℕ) → AllTaken p (parts c n es) → AreEntries es
@@ -180,7 +180,7 @@ module _ (single : Bool) (before : List (Call ℕ)) where
   is-out : (n : ℕ) → not (is_given y n) ≡ false → meant y n < y.revisions
   is-out n e = meant-low y n (meant y n) (means p n e)
 
-  -- 15: on a single-main day, box 0
+  -- 15: on a single_main day, box 0
   pub on_line : (n : ℕ) → (p.single && not (eqb n 0)) ≡ false → OnLine single n
   on_line n e t = eqb-true n 0 (not-false _ (rw (same_choice single before, t) at e))
 

@@ -21,7 +21,7 @@ use Rattle.diagram.specs.Steps as Steps
 use Rattle.diagram.specs.Steps.{Event, Step, after, run_from}
 use Rattle.diagram.proofs.Days.Moves.{yield-updates}
 use Rattle.diagram.proofs.Days.Marking.{Marks, marks-fresh}
-use Rattle.diagram.proofs.Days.Naming.{Named, count_for, earlier-in, not-meant, sum-latest}
+use Rattle.diagram.proofs.Days.Naming.{Named, count_for, earlier_in, not-meant, sum-latest}
 use Rattle.diagram.proofs.Order.Counted.{own-adds_up}
 use Rattle.plain.specs.Record.{PlainDay, fresh_day}
 use Rattle.plain.specs.Answers.{answers, answers_from, called, day_after, day_from, own_at, refused}
@@ -123,7 +123,7 @@ no-fill p N n l = fill_is p n ∙ ap (count_for (own_if_out p.day)) (not-meant p
 -- summed over the numbers given out, that is the own updates summed over the revisions
 over-numbers : (y : Day) → Named y → sum_below y.numbering.given (λ n. count_for (own_if_out y) (found y n)) ≡ sum_below y.revisions (own_if_out y)
 unfolding found
-over-numbers y N = sum-latest y.numbering.of (own_if_out y) y.numbering.given y.revisions N.low (λ s r k l e. rw (earlier-in y N s r k l e))
+over-numbers y N = sum-latest y.numbering.of (own_if_out y) y.numbering.given y.revisions N.low (λ s r k l e. rw (earlier_in y N s r k l e))
 
 adds_up : (single : Bool) (cs : List (Call ℕ)) → OwnAddsUp (day_after single cs).day
 adds_up single cs = rw (same_day single cs) (own-adds_up (steps_after single cs) (all_accepted single cs))

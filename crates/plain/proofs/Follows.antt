@@ -18,14 +18,14 @@ use Rattle.plain.specs.Values.{Forked, Gained}
 use Rattle.plain.proofs.Bundles.{head_of}
 use Rattle.plain.proofs.Ends.{Passes, was_taken}
 use Rattle.plain.proofs.LineUp.{lined-up}
-use Rattle.plain.proofs.Steps.{day_both, day-is, next_is}
+use Rattle.plain.proofs.Steps.{day_both, day_is, next_is}
 
 -- 02, U4: the day is the one of the calls with a bundle's parts in its place; and a bundle has a first entry
 pub unbundled : (single : Bool) (cs before rest : List (Call ℕ)) (c n : ℕ) (batch : Batch) (room : ℕ) → Taken single cs before (Bundle c n batch room) rest
     → day_after single cs ≡ day_after single (before ++ (parts c n (entries_of batch) ++ rest))
 unfolding day_from day_after
 unbundled single cs before rest c n batch room T =
-    day-is single cs before (Bundle c n batch room) rest T
+    day_is single cs before (Bundle c n batch room) rest T
     ∙ ap (λ p. day_from p rest) ((lined-up single cs).tells before rest (Bundle c n batch room) T).day
     ∙ sym (day_both before (parts c n (entries_of batch) ++ rest) (fresh_day single) ∙ day_both (parts c n (entries_of batch)) rest (day_after single before))
 
@@ -39,7 +39,7 @@ has_first p c n batch room e = head_of batch (not-wrong p c n batch room (was_ta
 pub unsynced : (single : Bool) (cs before rest : List (Call ℕ)) (m room : ℕ) → Taken single cs before (Sync m room) rest → day_after single cs ≡ day_after single (before ++ (Join 0 m room ∷ Fork 0 ∷ rest))
 unfolding day_from day_after
 unsynced single cs before rest m room T =
-    day-is single cs before (Sync m room) rest T ∙ ap (λ o. day_from o.next rest) ((lined-up single cs).tells before rest (Sync m room) T).is
+    day_is single cs before (Sync m room) rest T ∙ ap (λ o. day_from o.next rest) ((lined-up single cs).tells before rest (Sync m room) T).is
     ∙ sym (day_both before (Join 0 m room ∷ Fork 0 ∷ rest) (fresh_day single))
 
 module _ (single : Bool) (before : List (Call ℕ)) where

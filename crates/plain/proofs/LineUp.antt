@@ -1,4 +1,4 @@
--- The theorem: every list of calls has one line-up.
+-- The theorem: every list of calls has one line_up.
 use Prim.Native.Nat.{◌<◌, ℕ}
 use mathlib.Core.Bool.{Bool, false}
 use mathlib.Core.Path.{◌∙◌, ◌≡◌, ap, refl, subst, sym}
@@ -37,11 +37,11 @@ use Rattle.plain.proofs.Ends.{Passes, means, was_taken}
 use Rattle.plain.proofs.Exactly.{exactly}
 use Rattle.plain.proofs.Values.{fill-value, fork-none, fork-takes, fork-value, join-value, mark-takes}
 use Rattle.plain.proofs.Previews.{foresees}
-use Rattle.plain.proofs.Orders.{own-orders, verified}
-use Rattle.plain.proofs.Bills.{bills-grow, told}
-use Rattle.plain.proofs.Syncs.{never-ten, on_single_main, sync-is}
+use Rattle.plain.proofs.Orders.{own_orders, verified}
+use Rattle.plain.proofs.Bills.{bills_grow, told}
+use Rattle.plain.proofs.Syncs.{never_ten, on_single_main, sync-is}
 use Rattle.plain.proofs.Marks.{drop-value, mark-value, on_marks}
-use Rattle.plain.proofs.Steps.{after-steps, all_accepted, day-is, did, marks-after, marks-next, named, next_is, ran, same_day, taken-steps}
+use Rattle.plain.proofs.Steps.{after-steps, all_accepted, day_is, did, marks-after, marks-next, named, next_is, ran, same_day, taken-steps}
 use Rattle.plain.specs.Taken.{Taken, end_of, steps_after, steps_from, steps_of}
 use Rattle.plain.specs.Answers.{called, day_after, day_from, ending, sent, stepped}
 use Rattle.plain.specs.Bundles.{AllTaken, Bundled, part, parts}
@@ -95,7 +95,7 @@ module _ (single : Bool) (cs : List (Call ℕ)) where
 
     -- the entries that were there are there at the end
     entries-stay : (n : ℕ) → n < p.day.updates → p.entries n ≡ (day_after single cs).entries n
-    entries-stay n h = sym (ap (λ z. z.entries n) (day-is single cs before c rest T) ∙ (ran (c ∷ rest) p (marks-after single before)).kept n h)
+    entries-stay n h = sym (ap (λ z. z.entries n) (day_is single cs before c rest T) ∙ (ran (c ∷ rest) p (marks-after single before)).kept n h)
 
   queries : (before rest : List (Call ℕ)) (c n bib : ℕ) → Taken single cs before (Query c n bib) rest → AnsweredBy (day_after single cs) A.order (length (end_of single before).diagram) bib (called (day_after single before) (Query c n bib)).answer
   unfolding after
@@ -186,7 +186,7 @@ module _ (single : Bool) (cs : List (Call ℕ)) where
       → number (end_of single cs).diagram (length (end_of single before).diagram) ≡ some (called (day_after single before) (Update c r k bib v)).answer.value
   unfolding day_from after
   number_at before rest c r k bib v T =
-      ap (λ z. number z.day.diagram x) (day-is single cs before (Update c r k bib v) rest T)
+      ap (λ z. number z.day.diagram x) (day_is single cs before (Update c r k bib v) rest T)
       ∙ ap (λ o. number (day_from o.next rest).day.diagram x) is
       ∙ ap (λ y. number y.diagram x) (ran rest next marks).same
       ∙ tabulate_stays number_step none (older_from (steps_from next rest) next.day (ran rest next marks).accepts) x (omega arith)
@@ -212,7 +212,7 @@ module _ (single : Bool) (cs : List (Call ℕ)) where
       → (day_after single cs).entries (called (day_after single before) (Update c r k bib v)).answer.value ≡ record { kind = kind_of k; client = c; bib = bib; v = v }
   unfolding day_from after
   noted-is before rest c r k bib v T =
-      ap (day_after single cs).entries (ap (λ o. o.answer.value) is) ∙ ap (λ z. z.entries n) (day-is single cs before (Update c r k bib v) rest T)
+      ap (day_after single cs).entries (ap (λ o. o.answer.value) is) ∙ ap (λ z. z.entries n) (day_is single cs before (Update c r k bib v) rest T)
       ∙ ap (λ o. (day_from o.next rest).entries n) is ∙ (ran rest next marks).kept n (omega arith) ∙ changed_same q.entries n _
     where
       q : PlainDay
@@ -267,15 +267,15 @@ module _ (single : Bool) (cs : List (Call ℕ)) where
     rules = by_rules (steps_after single cs) (all_accepted single cs);
     exactly = λ before rest c place. exactly single before c;
     pool = λ before rest place. by_pool (steps_after single before) (all_accepted single before);
-    numbers-used = by_numbers (steps_after single cs) (all_accepted single cs);
+    numbers_used = by_numbers (steps_after single cs) (all_accepted single cs);
     none_left = λ before rest n place. fork-none single before n (named single before);
     order = A.order;
     explains = subst (λ y. Explains y A.order) (sym e) A.explains;
     tells = tells;
     grows = λ before rest c place. grows single before c;
-    never-ten = λ before rest m room place. never-ten single before m room;
-    single-main = λ e. on_single_main cs;
+    never_ten = λ before rest m room place. never_ten single before m room;
+    single_main = λ e. on_single_main cs;
     marks = on_marks single cs;
-    own-orders = own-orders single cs;
-    bills-grow = bills-grow single cs;
+    own_orders = own_orders single cs;
+    bills_grow = bills_grow single cs;
   }

@@ -89,10 +89,10 @@ module _ (single : Bool) (before : List (Call ℕ)) where
       let a = subst (λ a. accepted y (Steps.Join a b) ≡ true) (main-means single before).1 (join-passes p 0 m P).accepts in
       let C : CanJoin (run ss) 0 b = subst (λ y. CanJoin y 0 b) (same_day single before) (can-join y 0 b a) in
       let free = subst (λ y. not_joinable y 0 b ≡ false) (same_day single before) (join-tests y 0 b a).6 in
-      let joins = (joinable_iff ss (all_accepted single before) 0 b C.out-a C.out-b).0 free in
+      let joins = (joinable_iff ss (all_accepted single before) 0 b C.out_a C.out_b).0 free in
       let mark : (b ≡ r) → marked (run ss) b ≡ true =
-      λ e. subst (λ b. (run ss).joined b ≡ false → marked (run ss) b ≡ true) (sym e) (aside_run ss (all_accepted single before) r K).is-mark C.out-b.1 in
-      (by_marks ss (all_accepted single before)).never-main r b K C.out-b.0 (subst (λ y. FromMark y r b) (same_day single before) seen) (λ e. true≢false (sym (mark e) ∙ C.unmarked-b)) joins
+      λ e. subst (λ b. (run ss).joined b ≡ false → marked (run ss) b ≡ true) (sym e) (aside_run ss (all_accepted single before) r K).is_mark C.out_b.1 in
+      (by_marks ss (all_accepted single before)).never_main r b K C.out_b.0 (subst (λ y. FromMark y r b) (same_day single before) seen) (λ e. true≢false (sym (mark e) ∙ C.unmarked_b)) joins
 
 -- nor by a sync: it begins with such a join
 pub never_synced : (single : Bool) (before : List (Call ℕ)) (m room r : ℕ) → (called (day_after single before) (Sync m room)).answer.code ≡ 0
@@ -135,7 +135,7 @@ module _ (single : Bool) (cs before middle rest : List (Call ℕ)) (n m : ℕ) (
   }
 
   marked-last : (end_of single all).joined r ≡ false → marked (run (steps_after single all)) r ≡ true
-  marked-last o = (aside_run (steps_after single all) (all_accepted single all) r started).is-mark (subst (λ y. y.joined r ≡ false) (same_day single all) o)
+  marked-last o = (aside_run (steps_after single all) (all_accepted single all) r started).is_mark (subst (λ y. y.joined r ≡ false) (same_day single all) o)
 
   listed-still : (end_of single all).joined r ≡ false → shown_at (end_of single all) r ≡ shown_at (end_of single first) r
   listed-still o =
@@ -156,5 +156,5 @@ pub on_marks : (single : Bool) (cs : List (Call ℕ)) → OnMarks single cs
 on_marks single cs = record {
   runs = by_marks (steps_after single cs) (all_accepted single cs);
   comes_back = λ before middle rest n m name T. comes_back single cs before middle rest n m name T;
-  never-joined = λ before rest m room r T. apart single before m r (boxes-pass (day_after single before) 0 m room (was_taken (day_after single before) (Join 0 m room) T.code).0);
+  never_joined = λ before rest m room r T. apart single before m r (boxes-pass (day_after single before) 0 m room (was_taken (day_after single before) (Join 0 m room) T.code).0);
 }

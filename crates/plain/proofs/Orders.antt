@@ -1,4 +1,4 @@
--- What a taken verify says, and that a line-up which explains the day gets a yes (02, U13).
+-- What a taken verify says, and that a line_up which explains the day gets a yes (02, U13).
 use Prim.Native.Nat.{ℕ, ◌<◌}
 use mathlib.Core.Bool.{Bool, true, cond, not}
 use mathlib.Core.Path.{◌≡◌, refl, sym, ◌∙◌, ap}
@@ -43,10 +43,10 @@ module _ (single : Bool) where
         else_none = λ h. is ∙ else_none b (λ v. h (is ∙ v));
       }
 
-  pub own-orders : (cs : List (Call ℕ)) (own : List ℕ) → Explains (end_of single cs) own → GetsYes single cs own
-  own-orders cs own E =
+  pub own_orders : (cs : List (Call ℕ)) (own : List ℕ) → Explains (end_of single cs) own → GetsYes single cs own
+  own_orders cs own E =
       let y = end_of single cs in
       let ns = updates_in y own in
-      let f : Fits y.updates (IsOut y) (shown_at y) ns = record { every = λ u. (E.updates-all u).1; once = E.updates-once; no_other = λ u. (E.updates-all u).0; in_order = E.in_order } in
+      let f : Fits y.updates (IsOut y) (shown_at y) ns = record { every = λ u. (E.updates_all u).1; once = E.updates_once; no_other = λ u. (E.updates_all u).0; in_order = E.in_order } in
       let fit : fits_day y (numbers_in (file_of ns)) ≡ true = ap (fits_day y) (written_back ns) ∙ (fits-day y ns).1 f in
       ap (λ o. o.answer) (passed_is (day_after single cs) (Looks (Verify (file_of ns))) (refl also written_good ns also Rows.none)) ∙ ap (λ b. plainly 0 (cond b 1 0) []) fit

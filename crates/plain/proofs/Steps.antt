@@ -243,9 +243,9 @@ module _ (single : Bool) (cs before : List (Call ℕ)) (c : Call ℕ) (rest : Li
   abbrev p : PlainDay
   p = day_after single before
 
-  pub day-is : day_after single cs ≡ day_from p (c ∷ rest)
+  pub day_is : day_after single cs ≡ day_from p (c ∷ rest)
   unfolding day_after
-  day-is = ap (day_from (fresh_day single)) T.place ∙ day_both before (c ∷ rest) (fresh_day single)
+  day_is = ap (day_from (fresh_day single)) T.place ∙ day_both before (c ∷ rest) (fresh_day single)
 
   pub after-steps : steps_after single cs ≡ steps_after single before ++ (steps_of p c ++ steps_from (called p c).next rest)
   unfolding steps_from day_after

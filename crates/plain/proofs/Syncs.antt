@@ -1,4 +1,4 @@
--- What a taken sync is, that it never gives 10, and what holds of single-main days (02, U8).
+-- What a taken sync is, that it never gives 10, and what holds of single_main days (02, U8).
 use Prim.Native.Nat.{ℕ, ◌<◌, ◌≤◌}
 use mathlib.Core.Bool.{Bool, true, false, not, ◌||◌, true≢false}
 use mathlib.Core.Path.{◌≡◌, refl, sym, ◌∙◌, ap, subst}
@@ -48,9 +48,9 @@ module _ (single : Bool) (before : List (Call ℕ)) (m room : ℕ) where
       record { joins = ap code_of join; is = w.1 ∙ sync-ends single before m (boxes-pass p 0 m room w.0) ∙ ap (λ o. called o.next (Fork 0)) (sym join) }
 
   -- its row has no 10, and where the row passes it is taken
-  pub never-ten : (called p (Sync m room)).answer.code ≡ 10 → ⊥
+  pub never_ten : (called p (Sync m room)).answer.code ≡ 10 → ⊥
   unfolding called
-  never-ten = by (settled (refused p) (ending p (Sync m room)) (checks (asked p) (Sync m room)))
+  never_ten = by (settled (refused p) (ending p (Sync m room)) (checks (asked p) (Sync m room)))
     where
       by : {o : Outcome} → Settled (checks (asked p) (Sync m room)) (refused p) (ending p (Sync m room)) o → o.answer.code ≡ 10 → ⊥
       by (stops k i) e = true≢false (sym (in_member 10 (numbers_of (checks (asked p) (Sync m room))) (subst (λ n. n ∈ numbers_of (checks (asked p) (Sync m room))) e i)))
@@ -59,7 +59,7 @@ module _ (single : Bool) (before : List (Call ℕ)) (m room : ℕ) where
           let z = ap code_of (sync-ends single before m boxes ∙ passed_is (joined p 0 m).next (Fork 0) (sync-forks single before m boxes)) in
           omega arith
 
--- the steps of a single-main day come from the main revision and go back to it
+-- the steps of a single_main day come from the main revision and go back to it
 events_line : (c r : ℕ) (es : List Entry) → SingleMain (bundle_steps c r es)
 events_line c r [] = (tt, tt)
 events_line c r (e ∷ es) = (tt, events_line c r es)
@@ -133,15 +133,15 @@ module _ (before : List (Call ℕ)) (n m : ℕ) where
   preview-main : Passed (1 if false ∷ first_checks (asked p2) n m) × (not_joinable z (meant z n) (meant z m) ≡ true) → m ≡ 0
   preview-main (e1 also P, u) = only-main (P, u)
 
-  join-eleven : (room : ℕ) → (called p2 (Join n m room)).answer.code ≡ 11 → m ≡ 0
+  join_eleven : (room : ℕ) → (called p2 (Join n m room)).answer.code ≡ 11 → m ≡ 0
   unfolding called
-  join-eleven room e =
+  join_eleven room e =
       lent-main room
       ((code-exactly code_of (refused p2) (λ k. refl) (ending p2 (Join n m room)) (11 if not_joinable z (meant z n) (meant z m)) (λ q. omega arith) (lent_checks (asked p2) n m room) [] refl refl).0 e)
 
-  preview-eleven : (bib : ℕ) → (called p2 (Looks (Preview n m bib))).answer.code ≡ 11 → m ≡ 0
+  preview_eleven : (bib : ℕ) → (called p2 (Looks (Preview n m bib))).answer.code ≡ 11 → m ≡ 0
   unfolding called
-  preview-eleven bib e =
+  preview_eleven bib e =
       preview-main
       ((code-exactly code_of (refused p2) (λ k. refl) (ending p2 (Looks (Preview n m bib))) (11 if not_joinable z (meant z n) (meant z m)) (λ q. omega arith) (1 if false ∷ first_checks (asked p2) n m) (5 if bad_bib bib ∷ []) refl refl).0 e)
 
@@ -184,8 +184,8 @@ module _ (cs before rest : List (Call ℕ)) (m room : ℕ) (T : Taken true cs be
 
 pub on_single_main : (cs : List (Call ℕ)) → OnSingleMain cs
 on_single_main cs = record {
-  join-eleven = λ before rest n m room place. join-eleven before n m room;
+  join_eleven = λ before rest n m room place. join_eleven before n m room;
   sync_eleven = λ before rest m room place. sync_eleven before m room;
-  preview-eleven = λ before rest n m bib place. preview-eleven before n m bib;
+  preview_eleven = λ before rest n m bib place. preview_eleven before n m bib;
   seen = seen cs;
 }

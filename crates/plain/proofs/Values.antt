@@ -29,7 +29,7 @@ use Rattle.diagram.proofs.Days.Naming.{Named, meant-low, meant-new, meant-number
 use Rattle.diagram.proofs.Order.Growth.{Fine, busy_idle}
 use Rattle.diagram.proofs.Order.Reuse.{takes}
 use Rattle.diagram.proofs.Order.Runs.{fine_run}
-use Rattle.diagram.proofs.Order.Since.{fork_shows, join_gains, own-updates}
+use Rattle.diagram.proofs.Order.Since.{fork_shows, join_gains, own_updates}
 use Rattle.plain.specs.Record.{PlainDay}
 use Rattle.plain.specs.Answers.{Outcome, asked, called, day_after, ending, forked, own_at, refused}
 use Rattle.plain.specs.Allowed.{Meaning, OnLine}
@@ -109,7 +109,7 @@ module _ (single : Bool) (before : List (Call ℕ)) where
 
   -- the own updates of a revision that is out, by paths
   owns : (r : ℕ) → IsOut y r → OwnUpdates y r (own_at y r)
-  owns r o = subst (λ y. OwnUpdates y r (own_at y r)) (sym (same_day single before)) (own-updates (steps_after single before) (all_accepted single before) r (rw (same_day single before) at o))
+  owns r o = subst (λ y. OwnUpdates y r (own_at y r)) (sym (same_day single before)) (own_updates (steps_after single before) (all_accepted single before) r (rw (same_day single before) at o))
 
   gains : (a b : ℕ) → accepted y (Steps.Join a b) ≡ true → SeenSince y.diagram (y.terminal a) (after y (Steps.Join a b)).diagram ((after y (Steps.Join a b)).terminal a) (own_at y b)
   gains a b e =
@@ -120,7 +120,7 @@ module _ (single : Bool) (before : List (Call ℕ)) where
   join-value n m room e =
       let w = was_taken p (Join n m room) e in
       let a = (join-passes p n m (boxes-pass p n m room w.0)).accepts in
-      subst (Gained y (meant y n) (meant y m)) (sym w.1) (record { updates = _; gained = gains (meant y n) (meant y m) a; brought = owns (meant y m) (can-join y (meant y n) (meant y m) a).out-b; is = refl })
+      subst (Gained y (meant y n) (meant y m)) (sym w.1) (record { updates = _; gained = gains (meant y n) (meant y m) a; brought = owns (meant y m) (can-join y (meant y n) (meant y m) a).out_b; is = refl })
 
   fill-out : (n : ℕ) → Passes p (Looks (Fill n)) → IsOut y (meant y n)
   fill-out n (e1 also e3 also e4 also Rows.none) = (meant-low y n (meant y n) (means p n e3), e4)
@@ -128,4 +128,4 @@ module _ (single : Bool) (before : List (Call ℕ)) where
   pub fill-value : (n : ℕ) → (called p (Looks (Fill n))).answer.code ≡ 0 → Filled y (meant y n) (called p (Looks (Fill n))).answer
   fill-value n e =
       let w = was_taken p (Looks (Fill n)) e in
-      subst (λ (o : Outcome). Filled y (meant y n) o.answer) (sym w.1) (record { updates = _; own-updates = owns (meant y n) (fill-out n w.0); is = refl })
+      subst (λ (o : Outcome). Filled y (meant y n) o.answer) (sym w.1) (record { updates = _; own_updates = owns (meant y n) (fill-out n w.0); is = refl })

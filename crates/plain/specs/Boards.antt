@@ -39,4 +39,4 @@ pub record Brings (p q : PlainDay) (board after : List ℕ) : Type 0 where
   pub now : ClosedShown q.day 0 (shown ++ brought)
   -- "a board is altered only at bibs that they bring to box 0, where the updates brought are applied in listed order to the entry found .. and the entry is written anew"
   pub is : after ≡ posted_all (bib_of q) (update_of q) brought board
-  pub by-bib : Posted (bib_of q) (update_of q) brought board
+  pub by_bib : Posted (bib_of q) (update_of q) brought board

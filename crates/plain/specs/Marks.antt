@@ -38,5 +38,5 @@ pub record OnMarks (single : Bool) (cs : List (Call ℕ)) : Type 0 where
       → shown_at (called (day_after single (before ++ (Mark n name ∷ middle))) (Fork m)).next.day (end_of single (before ++ (Mark n name ∷ middle))).revisions
       ≡ shown_at (end_of single before) (meant (end_of single before) n)
   -- a mark is not joined "in either role", so box 0 never takes over what came of one, nor by a sync, which begins with such a join
-  pub never-joined : (before rest : List (Call ℕ)) (m room r : ℕ) → Taken single cs before (Join 0 m room) rest
+  pub never_joined : (before rest : List (Call ℕ)) (m room r : ℕ) → Taken single cs before (Join 0 m room) rest
       → StartedAsMark (steps_after single before) r → FromMark (end_of single before) r (meant (end_of single before) m) → ⊥

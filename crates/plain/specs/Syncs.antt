@@ -1,4 +1,4 @@
--- 02, U8: what a taken sync is, and what is claimed of single-main days.
+-- 02, U8: what a taken sync is, and what is claimed of single_main days.
 use Rattle.std.specs.Prelude.{ℕ, ◌<◌, ◌≤◌, Bool, true, ◌≡◌, List, ◌∷◌, ◌++◌}
 use Rattle.diagram.specs.Day.{meant}
 use Rattle.diagram.specs.Steps.{Step, Event, next_vertex}
@@ -17,9 +17,9 @@ pub record Synced (p : PlainDay) (m room : ℕ) (o : Outcome) : Type 0 where
 
 pub record OnSingleMain (cs : List (Call ℕ)) : Type 0 where
   -- "On these days show that 11 arises only with joinee 0": of a join, a sync and a preview
-  pub join-eleven : (before rest : List (Call ℕ)) (n m room : ℕ) → cs ≡ before ++ (Join n m room ∷ rest) → (called (day_after true before) (Join n m room)).answer.code ≡ 11 → m ≡ 0
+  pub join_eleven : (before rest : List (Call ℕ)) (n m room : ℕ) → cs ≡ before ++ (Join n m room ∷ rest) → (called (day_after true before) (Join n m room)).answer.code ≡ 11 → m ≡ 0
   pub sync_eleven : (before rest : List (Call ℕ)) (m room : ℕ) → cs ≡ before ++ (Sync m room ∷ rest) → (called (day_after true before) (Sync m room)).answer.code ≡ 11 → m ≡ 0
-  pub preview-eleven : (before rest : List (Call ℕ)) (n m bib : ℕ) → cs ≡ before ++ (Looks (Preview n m bib) ∷ rest)
+  pub preview_eleven : (before rest : List (Call ℕ)) (n m bib : ℕ) → cs ≡ before ++ (Looks (Preview n m bib) ∷ rest)
       → (called (day_after true before) (Looks (Preview n m bib))).answer.code ≡ 11 → m ≡ 0
   -- "anything yielded on a box before its taken sync is visible to every box that starts with that sync or after it": the event of a step before the
   -- sync, on the box that it names. A sync is taken only if that box is not busy, so that each such event was yielded.

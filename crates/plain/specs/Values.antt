@@ -26,5 +26,5 @@ pub record Gained (y : Day) (a b : ℕ) (o : Outcome) : Type 0 where
 -- there are updates in the diagram (`numbered` of `Explains`)
 pub record Filled (y : Day) (r : ℕ) (answer : Answer (List Line)) : Type 0 where
   pub updates : List ℕ
-  pub own-updates : OwnUpdates y r updates
+  pub own_updates : OwnUpdates y r updates
   pub is : answer ≡ level (length updates) y.updates []

@@ -19,7 +19,7 @@ use Rattle.consistency.proofs.Table.Calls.{Same, same_answer}
 
 module _ (p : PlainDay) (t : List ℕ) (S : Stands p t) where
   same-bill : (member : Bool) → bill (cells_of t).started (cells_of t).updates member ≡ bill p.started p.day.updates member
-  same-bill member = ap₂ (λ a u. bill a u member) (started-is p t S) (bytes-are p t S).follow.same-updates ∙ bill-counted p.started p.day.updates member
+  same-bill member = ap₂ (λ a u. bill a u member) (started-is p t S) (bytes-are p t S).follow.same_updates ∙ bill-counted p.started p.day.updates member
 
   pub bill-same : (member : Bool) → Same [] (record { reply = plain_reply (bill_out t member); table = t; board = [] }) (called p (Looks (Bill member)))
   unfolding called bill_out

@@ -40,7 +40,7 @@ sent_same (e ∷ es) p t S c n =
 bundled_same : (p : PlainDay) (t : List ℕ) → Stands p t → (u : Out) (o : Outcome) → Left u o → Left (bundled t u) (Plain.bundled p o)
 bundled_same p t S u o h =
     rw (same_code u o h)
-    (cases (eqb o.answer.code 0) (λ q. rw q (record { reply = same_answer 0 0 refl (bytes-are p t S).follow.same-updates refl refl; stands = h.stands })) (λ q. rw q (record { reply = refl; stands = S })))
+    (cases (eqb o.answer.code 0) (λ q. rw q (record { reply = same_answer 0 0 refl (bytes-are p t S).follow.same_updates refl refl; stands = h.stands })) (λ q. rw q (record { reply = refl; stands = S })))
 
 batch_same : (p : PlainDay) (t : List ℕ) (S : Stands p t) (c n : ℕ) (batch : Batch) (room : ℕ) → Left (batch_out t c n batch room) (called p (Bundle c n batch room))
 unfolding called

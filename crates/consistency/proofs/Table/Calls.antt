@@ -52,7 +52,7 @@ use Rattle.following.specs.Reached.{by_number, step_bytes}
 use Rattle.consistency.specs.Table.{sheet_with}
 use Rattle.consistency.proofs.Table.Stands.{Stands, bytes-are, high-size, numbers-are, stands-next}
 use Rattle.consistency.proofs.Table.Rows.{agree, number}
-use Rattle.consistency.proofs.Table.Values.{same-order, same-sheet, same-standing}
+use Rattle.consistency.proofs.Table.Values.{same_order, same-sheet, same-standing}
 
 -- a call's end at the table and on the day: the same answer, on the sheet that it was lent, and a table that stands for the day
 pub record Same (sheet : List ℕ) (s : Served) (o : Outcome) : Type 0 where
@@ -79,7 +79,7 @@ module _ (p : PlainDay) (t : List ℕ) (S : Stands p t) where
 
   -- a step that notes no entry
   stepped-on : (s : Step) → accepted y s ≡ true → (after y s).updates ≡ y.updates → (b : List ℕ) → b ≡ step_bytes (low t) (by_number y s) → Stands (stepped p s (starts_box s)) (b ++ high t)
-  stepped-on s e q b x = subst (λ k. Stands (stepped p s (starts_box s)) (k ++ high t)) (sym x) (stands-next p t S s e (stepped p s (starts_box s)) refl refl refl (high t) (high-size p t S) (λ n h. S.entries-are n (subst (λ k. n < k) q h)))
+  stepped-on s e q b x = subst (λ k. Stands (stepped p s (starts_box s)) (k ++ high t)) (sym x) (stands-next p t S s e (stepped p s (starts_box s)) refl refl refl (high t) (high-size p t S) (λ n h. S.entries_are n (subst (λ k. n < k) q h)))
 
   by-step : (s : Step) → accepted y s ≡ true → (after y s).updates ≡ y.updates → (value w : ℕ) → w ≡ value → (b : List ℕ) → b ≡ step_bytes (low t) (by_number y s) → OnTable (Table.taken (b ++ high t) w) (Plain.taken (stepped p s (starts_box s)) value)
   by-step s e q value w z b x = record { reply = same_answer 0 0 refl z refl refl; stands = stepped-on s e q b x }
@@ -96,7 +96,7 @@ module _ (p : PlainDay) (t : List ℕ) (S : Stands p t) where
   }
     where
       is : (cells_of t).updates ≡ y.updates
-      is = (bytes-are p t S).follow.same-updates
+      is = (bytes-are p t S).follow.same_updates
 
       low-bib : bib < Upper.bib_range
       low-bib = omega (arith, ltb-true bib 1000 (not-false _ e5))
@@ -104,7 +104,7 @@ module _ (p : PlainDay) (t : List ℕ) (S : Stands p t) where
       kept : (n : ℕ) → n < suc y.updates → entry_at (wrote (high t) (cells_of t).updates (entry kind c bib v)) n ≡ changed p.entries y.updates (record { kind = kind; client = c; bib = bib; v = v }) n
       kept n h =
           entry-wrote (high t) (cells_of t).updates (entry kind c bib v) n (high-size p t S) (room e9) low-bib
-          ∙ rw is (cases (eqb n y.updates) (λ q. rw q) (λ q. rw q (S.entries-are n (let z = eqb-false n y.updates q in omega arith))))
+          ∙ rw is (cases (eqb n y.updates) (λ q. rw q) (λ q. rw q (S.entries_are n (let z = eqb-false n y.updates q in omega arith))))
 
   -- the ends of the calls that no check stops
   update-end : (c n k bib v : ℕ) → Passes p (Update c n k bib v)
@@ -138,10 +138,10 @@ module _ (p : PlainDay) (t : List ℕ) (S : Stands p t) where
 
   -- the number that the cells find is that of the mark which the name means
   borne : (name : Name) → is_named y name ≡ true → bearer (cells_of t) name ≡ number_of y (mark_named y name)
-  borne name e = let n = bearer (cells_of t) name in sym (meant-number y n (mark_named y name) ((found-means y n (mark_named y name)).1 ((numbers-are p t S).same-bearer name e)))
+  borne name e = let n = bearer (cells_of t) name in sym (meant-number y n (mark_named y name) ((found-means y n (mark_named y name)).1 ((numbers-are p t S).same_bearer name e)))
 
   pub marks : Marks y
-  marks = subst Marks (sym S.day-is) (marks-run S.steps S.ok)
+  marks = subst Marks (sym S.day_is) (marks-run S.steps S.ok)
 
   drop-end : (name : Name) → Passes p (Drop name) → OnTable (Table.taken (drop_bytes (low t) (bearer (cells_of t) name) ++ high t) 0) (ending p (Drop name))
   unfolding step_bytes after
@@ -155,7 +155,7 @@ module _ (p : PlainDay) (t : List ℕ) (S : Stands p t) where
       let g = or-false (not (is_given y n)) (not (is_given y m)) e3 in
       let o = or-false (y.joined (meant y n)) (y.joined (meant y m)) e4 in
       let numbers = ap (λ z. join_bytes (low t) z m) (sym (numbered n g.0)) ∙ ap (join_bytes (low t) (number_of y (meant y n))) (sym (numbered m g.1)) in
-      by-step (Steps.Join (meant y n) (meant y m)) J.accepts refl _ _ ((number p t S m g.1).out o.1).same-gain _ numbers
+      by-step (Steps.Join (meant y n) (meant y m)) J.accepts refl _ _ ((number p t S m g.1).out o.1).same_gain _ numbers
 
   -- each call: the rows agree, and so do the ends
   pub update_same : (c n k bib v : ℕ) → OnTable (update_out t c n k bib v) (called p (Update c n k bib v))
@@ -197,11 +197,11 @@ module _ (p : PlainDay) (t : List ℕ) (S : Stands p t) where
   list_same n s = same_end (OnSheet s) (Table.refused s) (Plain.refused p) (λ k. record { reply = refl; stands = S }) _ _ (agree p t S (Looks (Show n (length s)))) by
     where
       by : Passes p (Looks (Show n (length s))) → OnSheet s (Table.taken (sheet (entry_at (high t)) (order (cells_of t) n) s) (length (order (cells_of t) n))) (ending p (Looks (Show n (length s))))
-      by (e1 also e3 also e4 also P) = record { reply = same_answer 0 0 refl (ap length (same-order p t S n e3 e4)) refl (same-sheet p t S n e3 e4 s); stands = S }
+      by (e1 also e3 also e4 also P) = record { reply = same_answer 0 0 refl (ap length (same_order p t S n e3 e4)) refl (same-sheet p t S n e3 e4 s); stands = S }
 
   pub fill-same : (n : ℕ) → Same [] (record { reply = level_reply (fill_out t n); table = t; board = [] }) (called p (Looks (Fill n)))
   unfolding called fill_out
   fill-same n = same_end (λ f o. Same [] (record { reply = level_reply f; table = t; board = [] }) o) no_fill (Plain.refused p) (λ k. record { reply = refl; stands = S }) (told (cells_of t) n) _ (agree p t S (Looks (Fill n))) by
     where
       by : Passes p (Looks (Fill n)) → Same [] (record { reply = level_reply (told (cells_of t) n); table = t; board = [] }) (ending p (Looks (Fill n)))
-      by (e1 also e3 also e4 also Checks.none) = record { reply = rw (((number p t S n e3).out e4).same-gain, (bytes-are p t S).follow.same-updates); stands = S }
+      by (e1 also e3 also e4 also Checks.none) = record { reply = rw (((number p t S n e3).out e4).same_gain, (bytes-are p t S).follow.same_updates); stands = S }

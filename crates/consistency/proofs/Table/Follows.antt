@@ -62,11 +62,11 @@ fresh-stands t h single =
     (record {
       steps = [];
       ok = tt;
-      day-is = refl;
-      low-is = low_of (fresh_bytes single) (replicate Upper.entry_bytes 0) fresh-size;
-      boxes-are = refl;
+      day_is = refl;
+      low_is = low_of (fresh_bytes single) (replicate Upper.entry_bytes 0) fresh-size;
+      boxes_are = refl;
       size = filled (fresh_bytes single) Lower.lower_bytes Upper.entry_bytes table_bytes fresh-size refl;
-      entries-are = λ n k. absurd (omega arith);
+      entries_are = λ n k. absurd (omega arith);
     })
   where
     fresh-size : length (fresh_bytes single) ≡ Lower.lower_bytes

@@ -41,25 +41,25 @@ module _ (p : PlainDay) (t : List ℕ) (S : Stands p t) where
   meaning : (n : ℕ) → Borne n → IsOut y (meant y n) × (order (cells_of t) n ≡ shown_at y (meant y n))
   meaning n (l, o) =
       let both = and-true (given_out (cells_of t) n) _ o in
-      let given : is_given y n ≡ true = sym ((numbers-are p t S).same-given n) ∙ both.0 in
+      let given : is_given y n ≡ true = sym ((numbers-are p t S).same_given n) ∙ both.0 in
       let is = (numbers-are p t S).number n (meant y n) (given, refl) in
-      let out : y.joined (meant y n) ≡ false = sym is.same-joined ∙ not-true _ both.1 in
-      ((meant-low y n (meant y n) (means p n (ap not given)), out), (is.out out).same-order)
+      let out : y.joined (meant y n) ≡ false = sym is.same_joined ∙ not-true _ both.1 in
+      ((meant-low y n (meant y n) (means p n (ap not given)), out), (is.out out).same_order)
 
   -- and the number of a revision that is out is one of a box out
   bearing : (r : ℕ) → IsOut y r → Borne (number_of y r) × (order (cells_of t) (number_of y r) ≡ shown_at y r)
   bearing r o =
-      let m : Means y (number_of y r) r = subst (λ y. IsOut y r → Means y (number_of y r) r) (sym S.day-is) ((by_numbers S.steps S.ok).out r) o in
+      let m : Means y (number_of y r) r = subst (λ y. IsOut y r → Means y (number_of y r) r) (sym S.day_is) ((by_numbers S.steps S.ok).out r) o in
       let is = (numbers-are p t S).number (number_of y r) r m in
-      let given : given_out (cells_of t) (number_of y r) ≡ true = (numbers-are p t S).same-given (number_of y r) ∙ m.0 in
-      ((ltb-true _ revisions (and-true (ltb (number_of y r) revisions) _ given).0, rw (given, is.same-joined ∙ o.1)), (is.out o.1).same-order)
+      let given : given_out (cells_of t) (number_of y r) ≡ true = (numbers-are p t S).same_given (number_of y r) ∙ m.0 in
+      ((ltb-true _ revisions (and-true (ltb (number_of y r) revisions) _ given).0, rw (given, is.same_joined ∙ o.1)), (is.out o.1).same_order)
 
   module _ (ns : List ℕ) where
     abbrev on-table : (fits_table (cells_of t) ns ≡ true) ↔ Fits (cells_of t).updates Borne (order (cells_of t)) ns
     on-table = fits-exactly (cells_of t).updates revisions (is_out (cells_of t)) (order (cells_of t)) ns
 
     taken : (cells_of t).updates ≡ y.updates
-    taken = (bytes-are p t S).follow.same-updates
+    taken = (bytes-are p t S).follow.same_updates
 
     pub same-fits : fits_table (cells_of t) ns ≡ fits_day y ns
     same-fits = same_truth (fits_table (cells_of t) ns) (fits_day y ns) (λ e. (fits-day y ns).1 (down (on-table.0 e))) (λ e. on-table.1 (up ((fits-day y ns).0 e)))

@@ -47,18 +47,18 @@ module _ (p : PlainDay) (t : List ℕ) (S : Stands p t) (n m : ℕ) (P : BoxesPa
       by : BoxesPass p n m → not (is_given p.day n) ≡ false
       by (e3 also R) = (or-false (not (is_given p.day n)) (not (is_given p.day m)) e3).0
 
-  same-bearer : meant q.day n ≡ a
+  same_bearer : meant q.day n ≡ a
   unfolding after is_given meant
-  same-bearer = refl
+  same_bearer = refl
 
   out : q.day.joined (meant q.day n) ≡ false
   unfolding after
-  out = ap q.day.joined same-bearer ∙ changed-other p.day.joined (meant p.day m) true a (λ z. can.not-self (sym z)) ∙ can.out-a.1
+  out = ap q.day.joined same_bearer ∙ changed-other p.day.joined (meant p.day m) true a (λ z. can.not_self (sym z)) ∙ can.out_a.1
 
   -- the join vertex, at which the joiner then ends, is read on the copy
   pub copy-reads : (bib : ℕ) → standing_at copy n bib ≡ path_result q (length p.day.diagram) bib
   unfolding after
-  copy-reads bib = same-reading q copy as-joined.stands n given out bib ∙ ap (λ z. path_result q z bib) (ap q.day.terminal same-bearer ∙ changed_same p.day.terminal a (length p.day.diagram))
+  copy-reads bib = same-reading q copy as-joined.stands n given out bib ∙ ap (λ z. path_result q z bib) (ap q.day.terminal same_bearer ∙ changed_same p.day.terminal a (length p.day.diagram))
 
 module _ (p : PlainDay) (t : List ℕ) (S : Stands p t) where
   preview-end : (n m bib : ℕ) → Passes p (Looks (Preview n m bib)) → Same [] (record { reply = prospect_reply (foreseen (standing_at (join_end t n m).lent n bib) (join_end t n m).value); table = t; board = [] }) (ending p (Looks (Preview n m bib)))

@@ -30,11 +30,11 @@ use Rattle.following.proofs.Follow.{bytes_follow, choice_is_kept, started_is_kep
 pub record Stands (p : PlainDay) (t : List ℕ) : Type 0 where
   pub steps : List Step
   pub ok : Accepted steps
-  pub day-is : p.day ≡ run steps
-  pub low-is : low t ≡ bytes_after p.single steps
-  pub boxes-are : p.started ≡ sum_over starts_box steps + 1
+  pub day_is : p.day ≡ run steps
+  pub low_is : low t ≡ bytes_after p.single steps
+  pub boxes_are : p.started ≡ sum_over starts_box steps + 1
   pub size : length t ≡ table_bytes
-  pub entries-are : (n : ℕ) → n < p.day.updates → entry_at (high t) n ≡ p.entries n
+  pub entries_are : (n : ℕ) → n < p.day.updates → entry_at (high t) n ≡ p.entries n
 
 bytes_both : (ss : List Step) (s : Step) (y : Day) (d : List ℕ) → bytes_from y d (ss ++ (s ∷ [])) ≡ step_bytes (bytes_from y d ss) (by_number (run_from y ss) s)
 unfolding bytes_from run_from
@@ -63,18 +63,18 @@ counted_steps (s ∷ ss) n = ap (λ k. started_after k ss) (one-counted s n) ∙
 
 module _ (p : PlainDay) (t : List ℕ) (S : Stands p t) where
   pub bytes-are : BytesFollow p.day (low t)
-  bytes-are = rw (S.day-is, S.low-is) (bytes_follow p.single S.steps S.ok)
+  bytes-are = rw (S.day_is, S.low_is) (bytes_follow p.single S.steps S.ok)
 
   pub numbers-are : NumbersFollow p.day (cells_of t)
   numbers-are = numbers-follow p.day (cells_of t) bytes-are.follow
 
   -- the choice given to fresh is in its cell
   pub choice-is : (cells_of t).single ≡ p.single
-  choice-is = rw S.low-is (choice_is_kept p.single S.steps S.ok)
+  choice-is = rw S.low_is (choice_is_kept p.single S.steps S.ok)
 
   -- 02, U14: so is the count of boxes started, until it stops
   pub started-is : (cells_of t).started ≡ counted p.started
-  started-is = rw S.low-is (started_is_kept p.single S.steps S.ok ∙ counted_steps S.steps 1 ∙ same_count _ _ (sym S.boxes-are))
+  started-is = rw S.low_is (started_is_kept p.single S.steps S.ok ∙ counted_steps S.steps 1 ∙ same_count _ _ (sym S.boxes_are))
 
   pub is-table : is_table t ≡ true
   unfolding is_table
@@ -90,18 +90,18 @@ module _ (p : PlainDay) (t : List ℕ) (S : Stands p t) where
   stands-next s e q d c b h l f = let w = by_number p.day s in record {
     steps = S.steps ++ (s ∷ []);
     ok = ok';
-    day-is = d ∙ ap (λ z. after z s) S.day-is ∙ sym (run_step S.steps s);
-    low-is = low_of (step_bytes (low t) w) h size' ∙ is ∙ ap (λ b. bytes_after b (S.steps ++ (s ∷ []))) (sym c);
-    boxes-are = (let a = S.boxes-are in let z = sum_both starts_box S.steps (s ∷ []) in omega arith);
+    day_is = d ∙ ap (λ z. after z s) S.day_is ∙ sym (run_step S.steps s);
+    low_is = low_of (step_bytes (low t) w) h size' ∙ is ∙ ap (λ b. bytes_after b (S.steps ++ (s ∷ []))) (sym c);
+    boxes_are = (let a = S.boxes_are in let z = sum_both starts_box S.steps (s ∷ []) in omega arith);
     size = length-append (step_bytes (low t) w) h ∙ omega (arith, size', l);
-    entries-are = λ n k. ap (λ z. entry_at z n) (high_of (step_bytes (low t) w) h size') ∙ f n k;
+    entries_are = λ n k. ap (λ z. entry_at z n) (high_of (step_bytes (low t) w) h size') ∙ f n k;
   }
     where
       ok' : Accepted (S.steps ++ (s ∷ []))
-      ok' = accepted-more S.steps s S.ok (ap (λ z. accepted z s) (sym S.day-is) ∙ e)
+      ok' = accepted-more S.steps s S.ok (ap (λ z. accepted z s) (sym S.day_is) ∙ e)
 
       is : step_bytes (low t) (by_number p.day s) ≡ bytes_after p.single (S.steps ++ (s ∷ []))
-      is = ap (λ z. step_bytes z (by_number p.day s)) S.low-is ∙ ap (λ z. step_bytes (bytes_after p.single S.steps) (by_number z s)) S.day-is ∙ sym (bytes_step p.single S.steps s)
+      is = ap (λ z. step_bytes z (by_number p.day s)) S.low_is ∙ ap (λ z. step_bytes (bytes_after p.single S.steps) (by_number z s)) S.day_is ∙ sym (bytes_step p.single S.steps s)
 
       size' : length (step_bytes (low t) (by_number p.day s)) ≡ Lower.lower_bytes
       size' = ap length is ∙ (bytes_follow p.single (S.steps ++ (s ∷ [])) ok').size

@@ -48,19 +48,19 @@ module _ (p : PlainDay) (t : List ℕ) (S : Stands p t) (n : ℕ) (g : not (is_g
   abbrev r : ℕ
   r = meant p.day n
 
-  pub same-order : order (cells_of t) n ≡ view p.day.diagram (p.day.terminal r)
-  same-order = (((numbers-are p t S).number n r (meaning p n g)).out o).same-order
+  pub same_order : order (cells_of t) n ≡ view p.day.diagram (p.day.terminal r)
+  same_order = (((numbers-are p t S).number n r (meaning p n g)).out o).same_order
 
   -- every number shown is that of an update taken
   pub shown-low : (k : ℕ) → k ∈ view p.day.diagram (p.day.terminal r) → k < p.day.updates
-  shown-low = shown_of S.steps S.ok p.day S.day-is r
+  shown-low = shown_of S.steps S.ok p.day S.day_is r
 
   entries_same : (k : ℕ) → k ∈ view p.day.diagram (p.day.terminal r) → entry_at (high t) k ≡ p.entries k
-  entries_same k i = S.entries-are k (shown-low k i)
+  entries_same k i = S.entries_are k (shown-low k i)
 
   pub same-reading : (bib : ℕ) → Table.standing_at t n bib ≡ path_result p (p.day.terminal r) bib
   unfolding Table.standing_at
-  same-reading bib = standing_same (entry_at (high t)) p.entries bib _ _ same-order entries_same
+  same-reading bib = standing_same (entry_at (high t)) p.entries bib _ _ same_order entries_same
 
   pub same-standing : (c bib : ℕ) → Table.standing_at t n bib ≡ path_result (stepped p (Event c r false) 0) (length p.day.diagram) bib
   same-standing c bib = same-reading bib ∙ sym (reads_terminal p c r bib)
@@ -69,12 +69,12 @@ module _ (p : PlainDay) (t : List ℕ) (S : Stands p t) (n : ℕ) (g : not (is_g
   lines_same =
       ap in_bytes (sym (lines_of_same _ p.entries (view p.day.diagram (p.day.terminal r)) entries_same))
       ∙ in_bytes_is (entry_at (high t)) (view p.day.diagram (p.day.terminal r))
-      ∙ ap (lines (entry_at (high t))) (sym same-order)
+      ∙ ap (lines (entry_at (high t))) (sym same_order)
 
   pub same-sheet : (s : List ℕ) → sheet (entry_at (high t)) (order (cells_of t) n) s ≡ sheet_with (lines_of p.entries (view p.day.diagram (p.day.terminal r))) s
   unfolding sheet
   same-sheet s =
       let few : length (order (cells_of t) n) ≡ length (lines_of p.entries (view p.day.diagram (p.day.terminal r))) =
-      ap length same-order ∙ sym (lines_of-length p.entries (view p.day.diagram (p.day.terminal r))) in
+      ap length same_order ∙ sym (lines_of-length p.entries (view p.day.diagram (p.day.terminal r))) in
       ap (λ z. z ++ drop (12 * length (order (cells_of t) n)) s) (sym lines_same)
       ∙ ap (λ k. in_bytes (lines_of p.entries (view p.day.diagram (p.day.terminal r))) ++ drop (12 * k) s) few

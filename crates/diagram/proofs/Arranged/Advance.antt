@@ -41,7 +41,7 @@ may d terminal starts a b = cond (leads d (starts b) (terminal a)) false (reach 
 pub record May (d : Diagram) (terminal starts : ℕ → ℕ) (a b : ℕ) : Type 0 where
   pub outside : leads d (starts b) (terminal a) ≡ false
   pub at : ℕ
-  pub start-of : fork_vertex d (terminal b) ≡ some at
+  pub start_of : fork_vertex d (terminal b) ≡ some at
   pub leads : leads d at (terminal a) ≡ true
 
 pub may_true : (d : Diagram) (terminal starts : ℕ → ℕ) (a b : ℕ) → may d terminal starts a b ≡ true → May d terminal starts a b
@@ -52,10 +52,10 @@ may_true d terminal starts a b e =
   where
     got : leads d (starts b) (terminal a) ≡ false → (o : Option ℕ) → fork_vertex d (terminal b) ≡ o → reach d o (terminal a) ≡ true → May d terminal starts a b
     got h none p q = absurd (false≢true q)
-    got h (some f) p q = record { outside = h; at = f; start-of = p; leads = q }
+    got h (some f) p q = record { outside = h; at = f; start_of = p; leads = q }
 
 pub true_may : (d : Diagram) (terminal starts : ℕ → ℕ) (a b : ℕ) → May d terminal starts a b → may d terminal starts a b ≡ true
-true_may d terminal starts a b h = rw (h.outside, h.start-of) h.leads
+true_may d terminal starts a b h = rw (h.outside, h.start_of) h.leads
 
 -- the invariant speaks only of revisions that are out, and of fewer joins as of more
 pub inv_same : (layout : List ℕ) (s t : Contents) (J K : ℕ → ℕ → Bool) → Inv layout s J → ((x : ℕ) → x ∈ layout → t x ≡ s x) → ((x y : ℕ) → x ∈ layout → y ∈ layout → K x y ≡ true → J x y ≡ true) → Inv layout t K
@@ -99,7 +99,7 @@ module _ (d : Diagram) (v : Vertex) (terminal : ℕ → ℕ) (bound : (x : ℕ) 
 -- what holds of a diagram as it is made: the revisions out, with their terminals and start vertices, are in a layout
 pub record Linked (d : Diagram) (layout : List ℕ) (terminal starts : ℕ → ℕ) : Type 0 where
   pub ordered : Ordered d
-  pub joins-ok : Joined d
+  pub joins_ok : Joined d
   pub bound : (x : ℕ) → terminal x < length d
   pub small : (x n : ℕ) → n ∈ own_events d x → n < length d
   pub inv : Inv layout (contents d terminal) (may d terminal starts)
@@ -123,7 +123,7 @@ module _ (d : Diagram) (layout : List ℕ) (terminal starts : ℕ → ℕ) (L : 
   may-next x y h = pick (split (eqb x b))
     where
       began : fork_vertex d (terminal y) ≡ some h.at
-      began = sym (from_on y) ∙ h.start-of
+      began = sym (from_on y) ∙ h.start_of
 
       pick : (eqb x b ≡ true) ⊎ (eqb x b ≡ false) → May d terminal starts x y ⊎ Through d terminal starts v b x y
       pick (inl e) =
@@ -132,7 +132,7 @@ module _ (d : Diagram) (layout : List ℕ) (terminal starts : ℕ → ℕ) (L : 
           inr (q, unseen-before d v terminal L.bound b (starts y) (rw q at h.outside), (g.0, g.1, (h.at, began, g.2)))
       pick (inr e) =
           let q = eqb-false x b e in
-          inl (record { outside = sym (sees-other d v terminal L.bound b (starts y) x q) ∙ h.outside; at = h.at; start-of = began; leads = sym (sees-other d v terminal L.bound b h.at x q) ∙ h.leads })
+          inl (record { outside = sym (sees-other d v terminal L.bound b (starts y) x q) ∙ h.outside; at = h.at; start_of = began; leads = sym (sees-other d v terminal L.bound b h.at x q) ∙ h.leads })
 
   module _ (layout' : List ℕ) (s' : Contents) (J' : ℕ → ℕ → Bool) (older : (p : ℕ) → Memᴰ p (sources v) → p < length d) (ok : JoinOk d v) (b-out : b ∈ layout')
       (b-content : s' b ≡ record { inherited = inherited_step d (inherited_events d) v; own = own_event_step d (own_events d) v }) (other : (x : ℕ) → x ∈ layout' → (x ≡ b → ⊥) → s' x ≡ contents d terminal x)
@@ -163,7 +163,7 @@ module _ (d : Diagram) (layout : List ℕ) (terminal starts : ℕ → ℕ) (L : 
     pub advance : Linked (v ∷ d) layout' next starts
     advance = record {
       ordered = one_more older L.ordered;
-      joins-ok = (ok, L.joins-ok);
+      joins_ok = (ok, L.joins_ok);
       bound = on-bound d v terminal L.bound b;
       small = small';
       inv = inv_same layout' s' (contents (v ∷ d) next) J' (may (v ∷ d) next starts) inv' same-content (λ x y i k e. J-ok x y i k (may_true (v ∷ d) next starts x y e));
@@ -186,7 +186,7 @@ module _ (d : Diagram) (layout : List ℕ) (terminal starts : ℕ → ℕ) (L : 
       pick (inr m) =
           let t = m.2 in
           let e : t.0 ≡ terminal x = one-edge t.0 t.1 ∙ ap terminal (sym m.0) in
-          true_may d terminal starts x y (record { outside = rw e at (m.1 t.0 t.1); at = t.2.0; start-of = t.2.1; leads = rw e at t.2.2 })
+          true_may d terminal starts x y (record { outside = rw e at (m.1 t.0 t.1); at = t.2.0; start_of = t.2.1; leads = rw e at t.2.2 })
 
 -- the fork vertex
 pub linked_fork : (d : Diagram) (layout : List ℕ) (terminal starts : ℕ → ℕ) → Linked d layout terminal starts → (b : ℕ) → b ∈ layout → Linked (fork (terminal b) ∷ d) layout (changed terminal b (length d)) starts

@@ -20,7 +20,7 @@ use Rattle.diagram.proofs.Arranged.Advance.{Through, Linked, May, advance, conte
 use Rattle.diagram.proofs.Arranged.Advance.{on-bound, on-other, on-self, one-may, one-older, sees-before, sees_on, sees-other}
 use Rattle.diagram.proofs.Arranged.Advance.{true_may, unseen-before}
 use Rattle.diagram.proofs.Graph.Events.{inherited_from, inherited_step, own_event_step, own_events, view-split, view_event_step, view_events}
-use Rattle.diagram.proofs.Graph.Paths.{Ordered, both_older, leads_path, no-vertex, one_more, path_start}
+use Rattle.diagram.proofs.Graph.Paths.{Ordered, both_older, leads_path, no_vertex, one_more, path_start}
 use Rattle.diagram.proofs.Graph.Tables.{fork_step, tabulate-older}
 use Rattle.diagram.specs.Diagram.{Diagram, Vertex, event, fork, join, root, start}
 use Rattle.diagram.specs.Leads.{leads}
@@ -97,7 +97,7 @@ module _ (d : Diagram) (layout : List ℕ) (terminal starts : ℕ → ℕ) (L : 
           t = q.2.2
 
           via : (z : ℕ) → q.2.0 ≡ terminal z → may d terminal starts z y ≡ true
-          via z e = true_may d terminal starts z y (record { outside = rw e at (q.1 q.2.0 q.2.1); at = t.0; start-of = t.1; leads = subst (λ w. leads d t.0 w ≡ true) e t.2 })
+          via z e = true_may d terminal starts z y (record { outside = rw e at (q.1 q.2.0 q.2.1); at = t.0; start_of = t.1; leads = subst (λ w. leads d t.0 w ≡ true) e t.2 })
 
           side : (q.2.0 ≡ terminal a) ⊎ Memᴰ q.2.0 (terminal b ∷ []) → (may d terminal starts a y || may d terminal starts b y) ≡ true
           side (inl e) = or_left (may d terminal starts a y) (may d terminal starts b y) (via a e)
@@ -106,7 +106,7 @@ module _ (d : Diagram) (layout : List ℕ) (terminal starts : ℕ → ℕ) (L : 
   pub linked-join : Linked (join (terminal a) (terminal b) ∷ d) (remove b layout) (changed terminal a (length d)) starts
   linked-join =
       advance d layout terminal starts L a jv refl (remove b layout) (grow js a (js b).own) (join_pool (may d terminal starts) a b)
-      (both_older (length d) (terminal a) (terminal b) (L.bound a) (L.bound b)) (m.at, m.start-of, leads_path d m.at (terminal a) m.leads)
+      (both_older (length d) (terminal a) (terminal b) (L.bound a) (L.bound b)) (m.at, m.start_of, leads_path d m.at (terminal a) m.leads)
       (rw rest (Memᴰ.append_right P.above (Memᴰ.append_right P.between (Memᴰ.head refl)))) (changed_same js a _) (λ x i h. changed-other js a _ x h)
       (rw rest (join-inv P.above b P.between a P.below js (may d terminal starts) whole ordered-pair.1)) join-may held few
     where
@@ -177,13 +177,13 @@ module _ (d : Diagram) (layout : List ℕ) (terminal starts : ℕ → ℕ) (L : 
       to-c : y ≡ c → (x ≡ c → ⊥) → (eqb x b ≡ true) ⊎ (eqb x b ≡ false) → fork_pool (may d terminal starts) b c x y ≡ true
       to-c q n (inl e) = rw (q, eq-eqb c c refl) e
       to-c q n (inr e) =
-          let r : f ≡ h.at = cc (on-self d sv terminal L.bound c fork_step none, h.start-of, q) in
+          let r : f ≡ h.at = cc (on-self d sv terminal L.bound c fork_step none, h.start_of, q) in
           let s : leads d f (terminal x) ≡ true = rw r (sym (seen-old n h.at) ∙ h.leads) in
           absurd (false≢true (sym (lone x (out-in x i n) (eqb-false x b e)) ∙ s))
 
       -- where y is an older revision
       from_old : (y ≡ c → ⊥) → fork_vertex d (terminal y) ≡ some h.at
-      from_old n = sym (on-other d sv terminal L.bound c fork_step none y n) ∙ h.start-of
+      from_old n = sym (on-other d sv terminal L.bound c fork_step none y n) ∙ h.start_of
 
       unseen : (y ≡ c → ⊥) → leads (sv ∷ d) (starts y) (t2 x) ≡ false
       unseen n = ap (λ w. leads (sv ∷ d) w (t2 x)) (sym (changed-other starts c (length d) y n)) ∙ h.outside
@@ -193,7 +193,7 @@ module _ (d : Diagram) (layout : List ℕ) (terminal starts : ℕ → ℕ) (L : 
           let g = sees-before d sv terminal L.bound c h.at (inherited_from L.ordered (terminal y) (L.bound y) h.at (from_old n)).0 (rw q at h.leads) in
           let e : g.0 ≡ terminal b = Memᴰ.eq_of_singleton g.1 ∙ sym at_f in
           let u : leads d (starts y) f ≡ false = unseen-before d sv terminal L.bound c (starts y) (rw q at (unseen n)) f (Memᴰ.head refl) in
-          rw (q, ne_eqb y c n, eq-eqb c c refl) (true_may d terminal starts b y (record { outside = rw at_f u; at = h.at; start-of = from_old n; leads = subst (λ w. leads d h.at w ≡ true) e g.2 }))
+          rw (q, ne_eqb y c n, eq-eqb c c refl) (true_may d terminal starts b y (record { outside = rw at_f u; at = h.at; start_of = from_old n; leads = subst (λ w. leads d h.at w ≡ true) e g.2 }))
 
       at_y : (eqb y c ≡ true) ⊎ (eqb y c ≡ false) → (eqb x c ≡ true) ⊎ (eqb x c ≡ false) → fork_pool (may d terminal starts) b c x y ≡ true
       at_y (inl p) (inl q) =
@@ -205,7 +205,7 @@ module _ (d : Diagram) (layout : List ℕ) (terminal starts : ℕ → ℕ) (L : 
       at_y (inr p) (inr q) =
           let n = eqb-false x c q in
           let o = eqb-false y c p in
-          rw (p, q) (true_may d terminal starts x y (record { outside = sym (seen-old n (starts y)) ∙ unseen o; at = h.at; start-of = from_old o; leads = sym (seen-old n h.at) ∙ h.leads }))
+          rw (p, q) (true_may d terminal starts x y (record { outside = sym (seen-old n (starts y)) ∙ unseen o; at = h.at; start_of = from_old o; leads = sym (seen-old n h.at) ∙ h.leads }))
 
   start-inv : Inv (insert_before b c layout) (contents (sv ∷ d) t2) (may (sv ∷ d) t2 starts2)
   start-inv =
@@ -237,7 +237,7 @@ module _ (d : Diagram) (layout : List ℕ) (terminal starts : ℕ → ℕ) (L : 
   pub linked-start : Linked (start f ∷ d) (insert_before b c layout) (changed terminal c (length d)) (changed starts c (length d))
   linked-start = record {
     ordered = one_more {v = sv} start-older L.ordered;
-    joins-ok = (tt, L.joins-ok);
+    joins_ok = (tt, L.joins_ok);
     bound = on-bound d sv terminal L.bound c;
     small = start_small;
     inv = start-inv;
@@ -249,7 +249,7 @@ pub linked_drop : (d : Diagram) (layout : List ℕ) (terminal starts : ℕ → �
     → (b : ℕ) {m : ℕ} → (b ∷ m ∷ []) ⊑ layout → own_events d (terminal b) ≡ [] → Linked d (remove b layout) terminal starts
 linked_drop d layout terminal starts L b {m} pair empty = record {
   ordered = L.ordered;
-  joins-ok = L.joins-ok;
+  joins_ok = L.joins_ok;
   bound = L.bound;
   small = L.small;
   inv = rw rest (drop-inv P.above b left s J whole empty m m-in);
@@ -280,8 +280,8 @@ linked_drop d layout terminal starts L b {m} pair empty = record {
 pub linked_root : Linked (root ∷ []) (0 ∷ []) (λ x. 0) (λ x. 0)
 unfolding tabulate
 linked_root = record {
-  ordered = one_more {v = root} (λ p i. absurd (Memᴰ.not-nil i)) no-vertex;
-  joins-ok = (tt, tt);
+  ordered = one_more {v = root} (λ p i. absurd (Memᴰ.not-nil i)) no_vertex;
+  joins_ok = (tt, tt);
   bound = λ x. omega arith;
   small = λ x n i. absurd (Memᴰ.not-nil (rw (nothing-own x) at i));
   inv = record {

@@ -93,12 +93,12 @@ module _ (y : Day) (layout : List ℕ) (hold : ℕ → List ℕ) (S : Sound y la
   old-sees e x h q = leads_old v d e x h ∙ q
 
   filed' : Filed y' layout hold'
-  filed' = record { blocks-ok = blocks'; all = all'; low = low'; first = first' }
+  filed' = record { blocks_ok = blocks'; all = all'; low = low'; first = first' }
     where
       other : (x : ℕ) → x ∈ layout → (x ≡ r → ⊥) → own_events (v ∷ d) (at' x) ≡ flat (events_of y') (hold' x)
       other x i n =
           rw (changed-other y.terminal r x0 x n, changed-other hold r (X.init ++ (t0 ∷ [])) x n, tabulate-older own_event_step [] v d (y.terminal x) ((link y layout hold S).bound x))
-          (S.filed.blocks-ok x i ∙ flat_same (events_of y) (events_of y') (hold x) (λ t j. sym (e-old t (λ q. X.not-other x i n (Memᴰ.cast (sym q) j)))))
+          (S.filed.blocks_ok x i ∙ flat_same (events_of y) (events_of y') (hold x) (λ t j. sym (e-old t (λ q. X.not-other x i n (Memᴰ.cast (sym q) j)))))
 
       this : own_events (v ∷ d) x0 ≡ flat (events_of y') (X.init ++ (t0 ∷ []))
       this =
@@ -145,11 +145,11 @@ module _ (y : Day) (layout : List ℕ) (hold : ℕ → List ℕ) (S : Sound y la
         known = rw f X.known;
         client = rw (f, w-new) (sym e);
         unshut = rw (f, w-new);
-        client-ok = rw e E.client-ok;
+        client_ok = rw e E.client_ok;
         out = rw (f, w-new) E.out;
-        last-is = rw (f, w-new, e, changed_same y.last_event c (some x0), changed_same y.terminal r x0);
-        last-in = rw (f, w-new, e-new, changed_same y.terminal r x0) (Memᴰ.append_right (events_before y o) (Memᴰ.head refl));
-        at-end = (X.init, rw (f, w-new, changed_same hold r (X.init ++ (t0 ∷ []))));
+        last_is = rw (f, w-new, e, changed_same y.last_event c (some x0), changed_same y.terminal r x0);
+        last_in = rw (f, w-new, e-new, changed_same y.terminal r x0) (Memᴰ.append_right (events_before y o) (Memᴰ.head refl));
+        at_end = (X.init, rw (f, w-new, changed_same hold r (X.init ++ (t0 ∷ []))));
         latest = λ z l h g. either (side z h) (λ k. omega arith) (λ k. X.latest z (rw f at l) k.1 (subst (λ w. w.client ≡ c) (w-old z k.0) (g ∙ e)));
       }
 
@@ -158,11 +158,11 @@ module _ (y : Day) (layout : List ℕ) (hold : ℕ → List ℕ) (S : Sound y la
         known = omega (arith, R.known, X.more);
         client = rw w R.client;
         unshut = rw w R.unshut;
-        client-ok = R.client-ok;
+        client_ok = R.client_ok;
         out = rw w R.out;
-        last-is = rw (w, changed-other y.last_event c (some x0) a n, changed-other y.terminal r x0 on far) R.last-is;
-        last-in = rw (w, e-old s (X.lone a s p n), changed-other y.terminal r x0 on far) R.last-in;
-        at-end = (R.at-end.0, rw (w, changed-other hold r (X.init ++ (t0 ∷ [])) on far) R.at-end.1);
+        last_is = rw (w, changed-other y.last_event c (some x0) a n, changed-other y.terminal r x0 on far) R.last_is;
+        last_in = rw (w, e-old s (X.lone a s p n), changed-other y.terminal r x0 on far) R.last_in;
+        at_end = (R.at_end.0, rw (w, changed-other hold r (X.init ++ (t0 ∷ [])) on far) R.at_end.1);
         latest = λ z l h g. either (side z h) (λ k. n (sym g ∙ ap (λ i. (y'.transaction i).client) k ∙ ap (λ i. i.client) w-new)) (λ k. R.latest z l k.1 (subst (λ i. i.client ≡ a) (w-old z k.0) g));
       }
         where
@@ -176,7 +176,7 @@ module _ (y : Day) (layout : List ℕ) (hold : ℕ → List ℕ) (S : Sound y la
           w = w-old s (X.lone a s p n)
 
           far : on ≡ r → ⊥
-          far e = false≢true (sym (rw p at (E.idle a R.client-ok n)) ∙ eq-eqb on r e)
+          far e = false≢true (sym (rw p at (E.idle a R.client_ok n)) ∙ eq-eqb on r e)
 
       pick : (eqb a c ≡ true) ⊎ (eqb a c ≡ false) → Runs y' hold' a s
       pick (inl e) = let p : some t0 ≡ some s = rw e at q in let f : s ≡ t0 = cc in same (eqb-true a c e) f
@@ -193,10 +193,10 @@ module _ (y : Day) (layout : List ℕ) (hold : ℕ → List ℕ) (S : Sound y la
           rw w (changed-other y.open_by c (some t0) (y.transaction t).client (λ e. p.0 (X.mine t (subst (λ z. y.open_by z ≡ some t) e f))) ∙ f)
 
   sessions' : Sessions y'
-  sessions' = record { last-low = last-low'; last-sees = last'; later = later' }
+  sessions' = record { last_low = last-low'; last_sees = last'; later = later' }
     where
       last-low' : (a l : ℕ) → changed y.last_event c (some x0) a ≡ some l → l < suc (length d)
-      last-low' a l q = cases (eqb a c) (λ e. let p : some x0 ≡ some l = rw e at q in let z : x0 ≡ l = cc in omega arith) (λ e. omega (arith, S.sessions.last-low a l (rw e at q)))
+      last-low' a l q = cases (eqb a c) (λ e. let p : some x0 ≡ some l = rw e at q in let z : x0 ≡ l = cc in omega arith) (λ e. omega (arith, S.sessions.last_low a l (rw e at q)))
 
       last-c : (a e : ℕ) → a ≡ c → leads (v ∷ d) e x0 ≡ true → (l : ℕ) × (changed y.last_event c (some x0) a ≡ some l) × (leads (v ∷ d) e l ≡ true)
       last-c a e q h = (x0, rw q (changed_same y.last_event c (some x0)), h)
@@ -205,7 +205,7 @@ module _ (y : Day) (layout : List ℕ) (hold : ℕ → List ℕ) (S : Sound y la
       last-old t e h i =
           cases (eqb (y.transaction t).client c)
           (λ q. let g = eqb-true (y.transaction t).client c q in last-c (y.transaction t).client e g (up e (mine-sees y layout hold S c r E t e h g i)))
-          (λ q. let l = S.sessions.last-sees t e h i in (l.0, rw q l.1, old-sees e l.0 (leads-low y layout hold S e l.0 l.2) l.2))
+          (λ q. let l = S.sessions.last_sees t e h i in (l.0, rw q l.1, old-sees e l.0 (leads-low y layout hold S e l.0 l.2) l.2))
 
       last' : (t e : ℕ) → t < y'.transactions → e ∈ events_of y' t → (l : ℕ) × (y'.last_event (y'.transaction t).client ≡ some l) × (leads (v ∷ d) e l ≡ true)
       last' t e h i = pick (side t h)
@@ -234,7 +234,7 @@ module _ (y : Day) (layout : List ℕ) (hold : ℕ → List ℕ) (S : Sound y la
               old-sees e f (event-low y layout hold S t f g.1 jf) (S.sessions.later s t e f l g.1 (sym (ap (λ w. w.client) (w-old s a.0)) ∙ q ∙ ap (λ w. w.client) (w-old t g.0)) (rw (e-old s a.0) at i) jf)
 
   whole' : Whole y'
-  whole' = record { outside = outside'; at-terminal = terminal'; own-revision = own'; closed-low = closed' }
+  whole' = record { outside = outside'; at_terminal = terminal'; own_revision = own'; closed_low = closed' }
     where
       raise : (t x z : ℕ) → (t ≡ t0 → ⊥) → SeenWhole d (y.transaction t) x → x ≤ z → ((e : ℕ) → leads d e x ≡ true → leads (v ∷ d) e z ≡ true) → SeenWhole (v ∷ d) (y'.transaction t) z
       raise t x z n s h f = record { at = s.at; is = rw (w-old t n) s.is; before = omega (arith, s.before); whole = λ e i. f e (s.whole e (rw (e-old t n) at i)) }
@@ -242,14 +242,14 @@ module _ (y : Day) (layout : List ℕ) (hold : ℕ → List ℕ) (S : Sound y la
       -- of another transaction whose event is the terminal of r, the yield came
       came-shut : (t : ℕ) → (t ≡ t0 → ⊥) → t < y.transactions → y.terminal r ∈ events_of y t → (q : Option ℕ) → (y.transaction t).closed ≡ q → SeenWhole (v ∷ d) (y'.transaction t) x0
       came-shut t n h i none q =
-          let on = S.whole.own-revision r t E.out h i q in
+          let on = S.whole.own_revision r t E.out h i q in
           let f = S.unshut t h q in
           let by = (y.transaction t).client in
           absurd
           (cases (eqb by c)
           (λ e. n (X.mine t (subst (λ z. y.open_by z ≡ some t) (eqb-true by c e) f)))
-          (λ e. false≢true (sym (rw f at (E.idle by (S.runs by t f).client-ok (eqb-false by c e))) ∙ eq-eqb (y.transaction t).revision r on)))
-      came-shut t n h i (some z) q = record { at = z; is = rw (w-old t n) q; before = S.whole.closed-low t z h q; whole = λ e j. up e (S.whole.at-terminal r t E.out h i e (rw (e-old t n) at j)) }
+          (λ e. false≢true (sym (rw f at (E.idle by (S.runs by t f).client_ok (eqb-false by c e))) ∙ eq-eqb (y.transaction t).revision r on)))
+      came-shut t n h i (some z) q = record { at = z; is = rw (w-old t n) q; before = S.whole.closed_low t z h q; whole = λ e j. up e (S.whole.at_terminal r t E.out h i e (rw (e-old t n) at j)) }
 
       at_new : (t e : ℕ) → (t ≡ t0 → ⊥) → t < y.transactions → e ∈ events_of y t → leads (v ∷ d) e x0 ≡ true → SeenWhole (v ∷ d) (y'.transaction t) x0
       at_new t e n h i q =
@@ -290,20 +290,20 @@ module _ (y : Day) (layout : List ℕ) (hold : ℕ → List ℕ) (S : Sound y la
       terminal' s t os h i e j =
           either (ends s t os h i)
           (λ p. rw p.1 (either (new-cases e (subst (λ z. e ∈ events_of y' z) p.0 j)) (λ k. up e (X.before-sees e k)) (λ k. rw k (leads_newest v d))))
-          (λ p. rw p.2 (old-sees e (y.terminal s) (S.real.linked.bound s) (S.whole.at-terminal s t os p.1 p.3 e (rw (e-old t p.0) at j))))
+          (λ p. rw p.2 (old-sees e (y.terminal s) (S.real.linked.bound s) (S.whole.at_terminal s t os p.1 p.3 e (rw (e-old t p.0) at j))))
 
       own' : (s t : ℕ) → IsOut y' s → t < y'.transactions → y'.terminal s ∈ events_of y' t → (y'.transaction t).closed ≡ none → (y'.transaction t).revision ≡ s
       own' s t os h i q =
           either (ends s t os h i)
           (λ p. rw (p.0, w-new) (sym (eqb-true s r p.1)))
-          (λ p. ap (λ w. w.revision) (w-old t p.0) ∙ S.whole.own-revision s t os p.1 p.3 (sym (ap (λ w. w.closed) (w-old t p.0)) ∙ q))
+          (λ p. ap (λ w. w.revision) (w-old t p.0) ∙ S.whole.own_revision s t os p.1 p.3 (sym (ap (λ w. w.closed) (w-old t p.0)) ∙ q))
 
       closed' : (t n : ℕ) → t < y'.transactions → (y'.transaction t).closed ≡ some n → n ≤ length (v ∷ d)
       closed' t n h q = pick (side t h)
         where
           pick : (t ≡ t0) ⊎ ((t ≡ t0 → ⊥) × (t < y.transactions)) → n ≤ suc (length d)
           pick (inl a) = absurd (some≢none (y'.transaction t).closed q (ap (λ z. (y'.transaction z).closed) a ∙ ap (λ w. w.closed) w-new))
-          pick (inr a) = omega (arith, S.whole.closed-low t n a.1 (sym (ap (λ w. w.closed) (w-old t a.0)) ∙ q))
+          pick (inr a) = omega (arith, S.whole.closed_low t n a.1 (sym (ap (λ w. w.closed) (w-old t a.0)) ∙ q))
 
   -- the event is on no mark
   marks' : Unwritten y' hold'

@@ -33,8 +33,8 @@ module _ (y : Day) (layout : List ℕ) (hold : ℕ → List ℕ) (S : Sound y la
   -- an event of c leads to where c goes on
   pub mine-sees : (t e : ℕ) → t < y.transactions → (y.transaction t).client ≡ c → e ∈ events_of y t → leads d e (y.terminal r) ≡ true
   mine-sees t e h q i =
-      let l = S.sessions.last-sees t e h i in
-      leads_trans (link y layout hold S).ordered e l.0 (y.terminal r) l.2 (E.caught-up l.0 (rw q at l.1))
+      let l = S.sessions.last_sees t e h i in
+      leads_trans (link y layout hold S).ordered e l.0 (y.terminal r) l.2 (E.caught_up l.0 (rw q at l.1))
 
   -- where the event goes: into the open transaction, or into a new one
   pub record Entry (o : Option ℕ) : Type 0 where
@@ -57,7 +57,7 @@ module _ (y : Day) (layout : List ℕ) (hold : ℕ → List ℕ) (S : Sound y la
     pub latest : (s : ℕ) → enters_into y o < s → s < y.transactions → (y.transaction s).client ≡ c → ⊥
 
   own-r : own_events d (y.terminal r) ≡ flat (events_of y) (hold r)
-  own-r = S.filed.blocks-ok r r-in
+  own-r = S.filed.blocks_ok r r-in
 
   pub facts : (o : Option ℕ) → y.open_by c ≡ o → Entry o
   facts none q = record {
@@ -80,12 +80,12 @@ module _ (y : Day) (layout : List ℕ) (hold : ℕ → List ℕ) (S : Sound y la
     latest = λ s l k e. omega arith;
   }
   facts (some t) q = record {
-    init = R.at-end.0;
-    block = own-r ∙ ap (flat (events_of y)) ends ∙ flat-++ (events_of y) R.at-end.0 (t ∷ []) ∙ ap (λ z. flat (events_of y) R.at-end.0 ++ z) (append-nil (events_of y t));
-    not-init = λ i. nodup_apart R.at-end.0 (t ∷ []) (rw ends at (flat_back_nodup hold r layout r-in (order-once y layout hold S))) t i (Memᴰ.head refl);
-    not-other = λ x j n i. n (flat_back-one hold layout (order-once y layout hold S) x r t j r-in i (rw ends (Memᴰ.append_right R.at-end.0 (Memᴰ.head refl))));
+    init = R.at_end.0;
+    block = own-r ∙ ap (flat (events_of y)) ends ∙ flat-++ (events_of y) R.at_end.0 (t ∷ []) ∙ ap (λ z. flat (events_of y) R.at_end.0 ++ z) (append-nil (events_of y t));
+    not-init = λ i. nodup_apart R.at_end.0 (t ∷ []) (rw ends at (flat_back_nodup hold r layout r-in (order-once y layout hold S))) t i (Memᴰ.head refl);
+    not-other = λ x j n i. n (flat_back-one hold layout (order-once y layout hold S) x r t j r-in i (rw ends (Memᴰ.append_right R.at_end.0 (Memᴰ.head refl))));
     init-in = λ s i. rw ends (Memᴰ.append_left (t ∷ []) i);
-    held = λ s i. either (Memᴰ.append_cases R.at-end.0 (rw ends at i)) (λ j. inl j) (λ j. inr (Memᴰ.eq_of_singleton j));
+    held = λ s i. either (Memᴰ.append_cases R.at_end.0 (rw ends at i)) (λ j. inl j) (λ j. inr (Memᴰ.eq_of_singleton j));
     known = R.known;
     more = omega arith;
     fewer = λ s h n. h;
@@ -95,12 +95,12 @@ module _ (y : Day) (layout : List ℕ) (hold : ℕ → List ℕ) (S : Sound y la
     before-later = λ s e f l k i j. S.sessions.later s t e f l R.known (k ∙ sym R.client) i j;
     before-low = λ e i. event-low y layout hold S t e R.known i;
     quiet = λ x e h n i k. some≢none (y.transaction t).closed (S.whole.outside t x e R.known h n i k).is R.unshut;
-    terminals = λ s o n i. n (sym (S.whole.own-revision s t o R.known i R.unshut) ∙ E.same_revision t q);
+    terminals = λ s o n i. n (sym (S.whole.own_revision s t o R.known i R.unshut) ∙ E.same_revision t q);
     latest = λ s l k e. R.latest s l k e;
   }
     where
       R : Runs y hold c t
       R = S.runs c t q
 
-      ends : hold r ≡ R.at-end.0 ++ (t ∷ [])
-      ends = subst (λ z. hold z ≡ R.at-end.0 ++ (t ∷ [])) (E.same_revision t q) R.at-end.1
+      ends : hold r ≡ R.at_end.0 ++ (t ∷ [])
+      ends = subst (λ z. hold z ≡ R.at_end.0 ++ (t ∷ [])) (E.same_revision t q) R.at_end.1

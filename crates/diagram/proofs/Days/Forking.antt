@@ -59,8 +59,8 @@ module _ (y : Day) (layout : List ℕ) (hold : ℕ → List ℕ) (S : Sound y la
   own_old : (s : ℕ) → s ∈ layout → own_events (sv ∷ fv ∷ d) (changed y.terminal r (length d) s) ≡ flat (events_of y) (hold s)
   own_old s i =
       cases (eqb s r)
-      (λ e. rw (e, tabulate-older own_event_step [] sv (fv ∷ d) (length d) (omega arith), tabulate-newest own_event_step [] fv d, ← (eqb-true s r e)) (S.filed.blocks-ok s i))
-      (λ e. rw (e, tabulate-older own_event_step [] sv (fv ∷ d) (y.terminal s) (omega (arith, low s)), tabulate-older own_event_step [] fv d (y.terminal s) (low s)) (S.filed.blocks-ok s i))
+      (λ e. rw (e, tabulate-older own_event_step [] sv (fv ∷ d) (length d) (omega arith), tabulate-newest own_event_step [] fv d, ← (eqb-true s r e)) (S.filed.blocks_ok s i))
+      (λ e. rw (e, tabulate-older own_event_step [] sv (fv ∷ d) (y.terminal s) (omega (arith, low s)), tabulate-older own_event_step [] fv d (y.terminal s) (low s)) (S.filed.blocks_ok s i))
 
   older : (s : ℕ) → s ∈ layout → s ≡ n → ⊥
   older s i e = omega (arith, (S.real.back s i).0)
@@ -70,7 +70,7 @@ module _ (y : Day) (layout : List ℕ) (hold : ℕ → List ℕ) (S : Sound y la
 
   filed' : Filed y' (insert_before r n layout) hold'
   filed' = record {
-    blocks-ok = λ s i. cases (eqb s n) (λ e. rw e (tabulate-newest own_event_step [] sv (fv ∷ d))) (λ e. rw e (own_old s (stays s i e)));
+    blocks_ok = λ s i. cases (eqb s n) (λ e. rw e (tabulate-newest own_event_step [] sv (fv ∷ d))) (λ e. rw e (own_old s (stays s i e)));
     all = λ t h. let p = S.filed.all t h in (p.0, insert_old r n p.0 layout p.1, rw (changed-other hold n [] p.0 (older p.0 p.1)) p.2);
     low = λ s t i j. cases (eqb s n) (λ e. absurd (Memᴰ.not-nil (rw e at j))) (λ e. S.filed.low s t (stays s i e) (rw e at j));
     first = S.filed.first;

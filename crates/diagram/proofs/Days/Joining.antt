@@ -48,14 +48,14 @@ module _ (y : Day) (layout : List ℕ) (hold : ℕ → List ℕ) (S : Sound y la
   low s = S.real.linked.bound s
 
   a_in : a ∈ layout
-  a_in = S.real.out a H.out-a
+  a_in = S.real.out a H.out_a
 
   b-in : b ∈ layout
-  b-in = S.real.out b H.out-b
+  b-in = S.real.out b H.out_b
 
   filed' : Filed (join_into y a b) (remove b layout) hold'
   filed' = record {
-    blocks-ok = λ s i. cases (eqb s a) (λ e. rw e own-a) (λ e. rw (e, tabulate-older own_event_step [] jv d (y.terminal s) (low s)) (S.filed.blocks-ok s (remove_back b s layout i)));
+    blocks_ok = λ s i. cases (eqb s a) (λ e. rw e own-a) (λ e. rw (e, tabulate-older own_event_step [] jv d (y.terminal s) (low s)) (S.filed.blocks_ok s (remove_back b s layout i)));
     all = λ t h. let p = S.filed.all t h in all' t p.0 p.1 p.2 (split (eqb p.0 b)) (split (eqb p.0 a));
     low = λ s t i j. cases (eqb s a) (λ e. either (Memᴰ.append_cases (hold a) (rw e at j)) (λ k. S.filed.low a t a_in k) (λ k. S.filed.low b t b-in k)) (λ e. S.filed.low s t (remove_back b s layout i) (rw e at j));
     first = S.filed.first;
@@ -63,11 +63,11 @@ module _ (y : Day) (layout : List ℕ) (hold : ℕ → List ℕ) (S : Sound y la
     where
       own-a : own_events (jv ∷ d) (length d) ≡ flat (events_of y) both
       own-a =
-          tabulate-newest own_event_step [] jv d ∙ ap (λ z. z ++ own_events d (y.terminal b)) (S.filed.blocks-ok a a_in)
-          ∙ ap (λ z. flat (events_of y) (hold a) ++ z) (S.filed.blocks-ok b b-in) ∙ sym (flat-++ (events_of y) (hold a) (hold b))
+          tabulate-newest own_event_step [] jv d ∙ ap (λ z. z ++ own_events d (y.terminal b)) (S.filed.blocks_ok a a_in)
+          ∙ ap (λ z. flat (events_of y) (hold a) ++ z) (S.filed.blocks_ok b b-in) ∙ sym (flat-++ (events_of y) (hold a) (hold b))
 
       stays : a ∈ remove b layout
-      stays = remove-keep b a layout (λ e. H.not-self (sym e)) a_in
+      stays = remove-keep b a layout (λ e. H.not_self (sym e)) a_in
 
       all' : (t s : ℕ) → s ∈ layout → t ∈ hold s → (eqb s b ≡ true) ⊎ (eqb s b ≡ false) → (eqb s a ≡ true) ⊎ (eqb s a ≡ false) → (x : ℕ) × (x ∈ remove b layout) × (t ∈ hold' x)
       all' t s i j (inl e) g = (a, stays, rw (changed_same hold a both) (Memᴰ.append_right (hold a) (rw (eqb-true s b e) at j)))
@@ -92,15 +92,15 @@ module _ (y : Day) (layout : List ℕ) (hold : ℕ → List ℕ) (S : Sound y la
       past : (p t : ℕ) → Memᴰ p (y.terminal a ∷ y.terminal b ∷ []) → t < y.transactions → p ∈ events_of y t → Past d (y.transaction t) p
       past p t i h j =
           either (Memᴰ.cases_cons i)
-          (λ e. rw e (idle-past y layout hold S a t H.out-a H.idle-a h (rw e at j)))
-          (λ k. let e = Memᴰ.eq_of_singleton k in rw e (idle-past y layout hold S b t H.out-b H.idle-b h (rw e at j)))
+          (λ e. rw e (idle-past y layout hold S a t H.out_a H.idle_a h (rw e at j)))
+          (λ k. let e = Memᴰ.eq_of_singleton k in rw e (idle-past y layout hold S b t H.out_b H.idle_b h (rw e at j)))
 
   kept : (c s : ℕ) → y.open_by c ≡ some s
       → IsOut (join_into y a b) (y.transaction s).revision × ((join_into y a b).terminal (y.transaction s).revision ≡ y.terminal (y.transaction s).revision) × (hold' (y.transaction s).revision ≡ hold (y.transaction s).revision)
   kept c s p =
       let o = (S.runs c s p).out in
-      let far = idle-far y layout hold S a c s H.idle-a p in
-      ((o.0, changed-other y.joined b true _ (idle-far y layout hold S b c s H.idle-b p) ∙ o.1), changed-other y.terminal a (length d) _ far, changed-other hold a both _ far)
+      let far = idle-far y layout hold S a c s H.idle_a p in
+      ((o.0, changed-other y.joined b true _ (idle-far y layout hold S b c s H.idle_b p) ∙ o.1), changed-other y.terminal a (length d) _ far, changed-other hold a both _ far)
 
   pub sound-join : Sound (join_into y a b) (remove b layout) (changed hold a (hold a ++ hold b))
   unfolding marked
@@ -111,5 +111,5 @@ module _ (y : Day) (layout : List ℕ) (hold : ℕ → List ℕ) (S : Sound y la
     unshut = S.unshut;
     whole = moved-whole y layout hold S (jv ∷ d) _ _ _ _ _ _ _ (omega arith) up was outside;
     sessions = moved-sessions y layout hold S (jv ∷ d) _ _ _ _ _ _ _ (omega arith) up was;
-    marks = record { empty = λ s e. changed-other hold a both s (mark_apart y a s H.unmarked-a e) ∙ S.marks.empty s e; main = S.marks.main };
+    marks = record { empty = λ s e. changed-other hold a both s (mark_apart y a s H.unmarked_a e) ∙ S.marks.empty s e; main = S.marks.main };
   }

@@ -21,9 +21,9 @@ use Rattle.diagram.specs.Marks.{NameMeans}
 use Rattle.diagram.proofs.Days.Accepting.{accept-drop}
 use Rattle.diagram.proofs.Days.Moves.{CanFork, Moves, drops_of, enters, forks_at, joins_into, mark_apart, yields}
 
-is_name : (o : Option Name) (n : Name) → is_name o n ≡ true → o ≡ some n
-is_name none n e = absurd (false≢true e)
-is_name (some m) n e = ap some (same-name m n e)
+is_name_lem : (o : Option Name) (n : Name) → is_name o n ≡ true → o ≡ some n
+is_name_lem none n e = absurd (false≢true e)
+is_name_lem (some m) n e = ap some (same-name m n e)
 
 pub none≢name : {n : Name} → none ≡ some n → ⊥
 none≢name e = false≢true (ap is_some e)
@@ -50,7 +50,7 @@ module _ (y : Day) where
   -- a name in use is that of the mark that it means
   pub named-is : (n : Name) → is_named y n ≡ true → y.mark (mark_named y n) ≡ some n
   unfolding is_named mark_named
-  named-is n e = is_name _ n (last_passes y.revisions (λ r. is_name (y.mark r) n) e).1
+  named-is n e = is_name_lem _ n (last_passes y.revisions (λ r. is_name (y.mark r) n) e).1
 
 module _ (y : Day) (M : Marks y) where
   pub in_use : (n : Name) (r : ℕ) → y.mark r ≡ some n → is_named y n ≡ true
@@ -75,7 +75,7 @@ module _ (y : Day) (M : Marks y) where
     pub fit : (n : Name) → name ≡ some n → (four_letters n ≡ true) × (is_named y n ≡ false)
     unfolding bad_name
     fit n e =
-        let b : (not (four_letters n) || is_named y n) ≡ false = rw e at C.name-ok in
+        let b : (not (four_letters n) || is_named y n) ≡ false = rw e at C.name_ok in
         let p = or-false (not (four_letters n)) _ b in
         (not-false _ p.0, p.1)
 
@@ -112,7 +112,7 @@ module _ (y : Day) (M : Marks y) where
       by (some t) = record { out = M.out; letters = M.letters; apart = M.apart }
   marks-moves z (forks_at r name C) = marks-fork r name C
   marks-moves z (joins_into a b H) = record {
-    out = λ s e. let o = M.out s e in (o.0, changed-other y.joined b true s (mark_apart y b s H.unmarked-b e) ∙ o.1);
+    out = λ s e. let o = M.out s e in (o.0, changed-other y.joined b true s (mark_apart y b s H.unmarked_b e) ∙ o.1);
     letters = M.letters;
     apart = M.apart;
   }

@@ -66,34 +66,34 @@ abbrev pub Idle : Day → (ℕ → Type 0) → ℕ → Type 0
 Idle y P r = (c : ℕ) → c < client_limit → P c → is_on y (y.open_by c) r ≡ false
 
 pub record CanEnter (y : Day) (c r : ℕ) : Type 0 where
-  pub client-ok : c < client_limit
+  pub client_ok : c < client_limit
   pub out : IsOut y r
   pub unmarked : marked y r ≡ false
   pub same_revision : (t : ℕ) → y.open_by c ≡ some t → (y.transaction t).revision ≡ r
   pub idle : Idle y (λ o. o ≡ c → ⊥) r
-  pub caught-up : (l : ℕ) → y.last_event c ≡ some l → leads y.diagram l (y.terminal r) ≡ true
+  pub caught_up : (l : ℕ) → y.last_event c ≡ some l → leads y.diagram l (y.terminal r) ≡ true
 
 pub record CanFork (y : Day) (r : ℕ) (name : Option Name) : Type 0 where
   pub out : IsOut y r
   pub idle : Idle y (λ o. Unit {0}) r
   pub room : out_count y < revision_limit
-  pub name-ok : misnamed y name ≡ false
+  pub name_ok : misnamed y name ≡ false
 
 pub record CanJoin (y : Day) (a b : ℕ) : Type 0 where
-  pub out-a : IsOut y a
-  pub out-b : IsOut y b
-  pub unmarked-a : marked y a ≡ false
-  pub unmarked-b : marked y b ≡ false
-  pub idle-a : Idle y (λ o. Unit {0}) a
-  pub idle-b : Idle y (λ o. Unit {0}) b
-  pub not-main : b ≡ 0 → ⊥
-  pub not-self : b ≡ a → ⊥
-  pub fork-seen : leads y.diagram (y.fork_of b) (y.terminal a) ≡ true
-  pub start-unseen : leads y.diagram (y.start_of b) (y.terminal a) ≡ false
+  pub out_a : IsOut y a
+  pub out_b : IsOut y b
+  pub unmarked_a : marked y a ≡ false
+  pub unmarked_b : marked y b ≡ false
+  pub idle_a : Idle y (λ o. Unit {0}) a
+  pub idle_b : Idle y (λ o. Unit {0}) b
+  pub not_main : b ≡ 0 → ⊥
+  pub not_self : b ≡ a → ⊥
+  pub fork_seen : leads y.diagram (y.fork_of b) (y.terminal a) ≡ true
+  pub start_unseen : leads y.diagram (y.start_of b) (y.terminal a) ≡ false
 
 pub record CanDrop (y : Day) (r : ℕ) : Type 0 where
   pub out : IsOut y r
-  pub is-mark : marked y r ≡ true
+  pub is_mark : marked y r ≡ true
 
 pub data Moves (y : Day) : Day → Type 0 where
   enters : (c r : ℕ) (u : Bool) → CanEnter y c r → Moves y (enter y c r u)
@@ -127,9 +127,9 @@ module _ (y : Day) where
   unfolding busy
   idle-all r e o h n = ruled_out (is_on y (y.open_by o) r) (λ q. false≢true (sym e ∙ any_at client_limit _ o h (simp q)))
 
-  caught-up : (c r : ℕ) → stale y c r ≡ false → (l : ℕ) → y.last_event c ≡ some l → leads y.diagram l (y.terminal r) ≡ true
+  caught_up : (c r : ℕ) → stale y c r ≡ false → (l : ℕ) → y.last_event c ≡ some l → leads y.diagram l (y.terminal r) ≡ true
   unfolding stale
-  caught-up c r e l q = cases (leads y.diagram l (y.terminal r)) (λ k. k) (λ k. absurd (true≢false (simp (q, k) at e)))
+  caught_up c r e l q = cases (leads y.diagram l (y.terminal r)) (λ k. k) (λ k. absurd (true≢false (simp (q, k) at e)))
 
   -- the four parts of code 11
   pub joinable : (a b : ℕ) → not_joinable y a b ≡ false
@@ -146,12 +146,12 @@ module _ (y : Day) where
   can-enter c r u e =
       let t = event-tests y c r u e in
       record {
-        client-ok = known c t.0;
+        client_ok = known c t.0;
         out = (given r (event-given y c r u e), t.1);
         unmarked = t.2;
         same_revision = same_revision c r t.3;
         idle = idle-for c r t.4;
-        caught-up = caught-up c r t.5;
+        caught_up = caught_up c r t.5;
       }
 
   pub can-yield : (c : ℕ) → accepted y (Yield c) ≡ true → c < client_limit
@@ -165,7 +165,7 @@ module _ (y : Day) where
         out = (given r (fork-given y r name e), t.0);
         idle = idle-all r t.1;
         room = (let l = ltb-true _ revision_limit (not-false _ t.2) in omega arith);
-        name-ok = t.3;
+        name_ok = t.3;
       }
 
   pub can-join : (a b : ℕ) → accepted y (Join a b) ≡ true → CanJoin y a b
@@ -174,20 +174,20 @@ module _ (y : Day) where
       let t = join-tests y a b e in
       let q = joinable a b t.6 in
       record {
-        out-a = (given a g.0, t.0);
-        out-b = (given b g.1, t.1);
-        unmarked-a = t.2;
-        unmarked-b = t.3;
-        idle-a = idle-all a t.4;
-        idle-b = idle-all b t.5;
-        not-main = eqb-false b 0 q.0;
-        not-self = eqb-false b a q.1;
-        fork-seen = q.2;
-        start-unseen = q.3;
+        out_a = (given a g.0, t.0);
+        out_b = (given b g.1, t.1);
+        unmarked_a = t.2;
+        unmarked_b = t.3;
+        idle_a = idle-all a t.4;
+        idle_b = idle-all b t.5;
+        not_main = eqb-false b 0 q.0;
+        not_self = eqb-false b a q.1;
+        fork_seen = q.2;
+        start_unseen = q.3;
       }
 
   pub can-drop : (r : ℕ) → accepted y (Drop r) ≡ true → CanDrop y r
-  can-drop r e = let t = drop-tests y r e in record { out = (given r t.0, t.1); is-mark = t.2 }
+  can-drop r e = let t = drop-tests y r e in record { out = (given r t.0, t.1); is_mark = t.2 }
 
   pub step-moves : (s : Step) → accepted y s ≡ true → Moves y (after y s)
   unfolding after

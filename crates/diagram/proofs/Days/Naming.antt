@@ -73,11 +73,11 @@ pub record Named (y : Day) : Type 0 where
   pub low : (r : ℕ) → r < y.revisions → number_of y r < y.numbering.given
   pub means : (r : ℕ) → IsOut y r → found y (number_of y r) ≡ some r
   -- the numbers handed in: given out, each once, of no revision out
-  pub freed-low : (n : ℕ) → n ∈ y.numbering.freed → n < y.numbering.given
-  pub freed-once : Nodup y.numbering.freed
-  pub freed-in : (n r : ℕ) → n ∈ y.numbering.freed → IsOut y r → number_of y r ≡ n → ⊥
+  pub freed_low : (n : ℕ) → n ∈ y.numbering.freed → n < y.numbering.given
+  pub freed_once : Nodup y.numbering.freed
+  pub freed_in : (n r : ℕ) → n ∈ y.numbering.freed → IsOut y r → number_of y r ≡ n → ⊥
   -- and every number whose meant is not out is among them
-  pub freed-all : (n r : ℕ) → found y n ≡ some r → y.joined r ≡ true → n ∈ y.numbering.freed
+  pub freed_all : (n r : ℕ) → found y n ≡ some r → y.joined r ≡ true → n ∈ y.numbering.freed
   pub counted : out_count y + length y.numbering.freed ≡ y.numbering.given
 
 -- what a number means
@@ -98,9 +98,9 @@ module _ (y : Day) where
   numbers_apart N r s o p e = let a = N.means r o in let b : found y (number_of y r) ≡ some s = rw e (N.means s p) in cc
 
   -- an earlier meant of a revision's number is not out
-  pub earlier-in : Named y → (s r : ℕ) → s < r → r < y.revisions → number_of y s ≡ number_of y r → y.joined s ≡ true
+  pub earlier_in : Named y → (s r : ℕ) → s < r → r < y.revisions → number_of y s ≡ number_of y r → y.joined s ≡ true
   unfolding found
-  earlier-in N s r k l e =
+  earlier_in N s r k l e =
       cases (y.joined s) (λ q. q) (λ q.
       absurd (let a = latest_last y.numbering.of (number_of y s) y.revisions r s (N.means s (omega arith, q)) l (sym e) in omega arith))
 
@@ -123,10 +123,10 @@ named-fresh = record {
   used = λ n l. let z : n ≡ 0 = omega arith in (0, rw z);
   low = λ r l. omega arith;
   means = λ r o. let l = o.0 in let z : r ≡ 0 = omega arith in rw z;
-  freed-low = λ n i. absurd (Memᴰ.not-nil i);
-  freed-once = Nodup-nil;
-  freed-in = λ n r i. absurd (Memᴰ.not-nil i);
-  freed-all = λ n r e j. absurd (false≢true j);
+  freed_low = λ n i. absurd (Memᴰ.not-nil i);
+  freed_once = Nodup-nil;
+  freed_in = λ n r i. absurd (Memᴰ.not-nil i);
+  freed_all = λ n r e j. absurd (false≢true j);
   counted = refl;
 }
 
@@ -154,8 +154,8 @@ module _ (y : Day) (N : Named y) where
   f r = cond (y.joined r) 0 1
 
   module _ (r : ℕ) (name : Option Name) (C : CanFork y r name) where
-    never-used : ltb y.numbering.given revision_limit ≡ true → Gives y (next y.numbering) (started y.numbering R)
-    never-used e =
+    never_used : ltb y.numbering.given revision_limit ≡ true → Gives y (next y.numbering) (started y.numbering R)
+    never_used e =
         let l = ltb-true y.numbering.given revision_limit e in
         rw e
         (record {
@@ -164,21 +164,21 @@ module _ (y : Day) (N : Named y) where
           more = omega arith;
           few = l;
           old = λ m k d. omega arith;
-          still = λ m i. (i, λ q. let k = N.freed-low m i in omega arith);
+          still = λ m i. (i, λ q. let k = N.freed_low m i in omega arith);
           kept = λ m i d. i;
-          once = N.freed-once;
+          once = N.freed_once;
           counted = let k = N.counted in omega arith;
         })
 
-    longest-ago : (l : List ℕ) → y.numbering.freed ≡ l → ltb y.numbering.given revision_limit ≡ false → Gives y (next y.numbering) (started y.numbering R)
-    longest-ago [] q e = let k = N.counted in let g = ltb-false y.numbering.given revision_limit e in let z : length y.numbering.freed ≡ 0 = rw q in let o = C.room in absurd (omega arith)
-    longest-ago (x ∷ l) q e =
-        let once : Nodup (x ∷ l) = rw q at N.freed-once in
+    longest_ago : (l : List ℕ) → y.numbering.freed ≡ l → ltb y.numbering.given revision_limit ≡ false → Gives y (next y.numbering) (started y.numbering R)
+    longest_ago [] q e = let k = N.counted in let g = ltb-false y.numbering.given revision_limit e in let z : length y.numbering.freed ≡ 0 = rw q in let o = C.room in absurd (omega arith)
+    longest_ago (x ∷ l) q e =
+        let once : Nodup (x ∷ l) = rw q at N.freed_once in
         let in-x : x ∈ y.numbering.freed = rw q (Memᴰ.head refl) in
         rw (e, q)
         (record {
-          apart = λ s o p. N.freed-in x s in-x o p;
-          low = N.freed-low x in-x;
+          apart = λ s o p. N.freed_in x s in-x o p;
+          low = N.freed_low x in-x;
           more = omega arith;
           few = N.few;
           old = λ m k d. k;
@@ -189,7 +189,7 @@ module _ (y : Day) (N : Named y) where
         })
 
     gives : Gives y (next y.numbering) (started y.numbering R)
-    gives = cases (ltb y.numbering.given revision_limit) never-used (longest-ago y.numbering.freed refl)
+    gives = cases (ltb y.numbering.given revision_limit) never_used (longest_ago y.numbering.freed refl)
 
     -- no revision out bears the number that a fork gives
     pub next-apart : (s : ℕ) → IsOut y s → number_of y s ≡ next y.numbering → ⊥
@@ -237,15 +237,15 @@ module _ (y : Day) (N : Named y) where
       means = λ s o. cases (eqb s R)
           (λ e. rw (eqb-true s R e, number_new) meant-new)
           (λ e. let was = forked_out y r name s o e in rw (number-old s was.0) (meant-old (number_of y s) (gives.apart s was) ∙ N.means s was));
-      freed-low = λ n i. let k = N.freed-low n (gives.still n i).0 in let m = gives.more in omega arith;
-      freed-once = gives.once;
-      freed-in = λ n s i o q. cases (eqb s R)
+      freed_low = λ n i. let k = N.freed_low n (gives.still n i).0 in let m = gives.more in omega arith;
+      freed_once = gives.once;
+      freed_in = λ n s i o q. cases (eqb s R)
           (λ e. (gives.still n i).1 (sym q ∙ ap (number_of (fork_at y r name)) (eqb-true s R e) ∙ number_new))
-          (λ e. let was = forked_out y r name s o e in N.freed-in n s (gives.still n i).0 was (sym (number-old s was.0) ∙ q));
-      freed-all = λ n s e j. cases (eqb n (next y.numbering))
+          (λ e. let was = forked_out y r name s o e in N.freed_in n s (gives.still n i).0 was (sym (number-old s was.0) ∙ q));
+      freed_all = λ n s e j. cases (eqb n (next y.numbering))
           (λ q. absurd (false≢true (sym (new-out n s (eqb-true n (next y.numbering) q) e) ∙ j)))
           (λ q. let d = eqb-false n (next y.numbering) q in let m : found y n ≡ some s = sym (meant-old n d) ∙ e in
-          gives.kept n (N.freed-all n s m (sym (changed-other y.joined R false s (λ z. let l = meant-low y n s m in omega arith)) ∙ j)) d);
+          gives.kept n (N.freed_all n s m (sym (changed-other y.joined R false s (λ z. let l = meant-low y n s m in omega arith)) ∙ j)) d);
       counted = rw fork-count gives.counted;
     }
 
@@ -272,32 +272,32 @@ module _ (y : Day) (N : Named y) where
       used = N.used;
       low = N.low;
       means = λ s p. N.means s (still s p).0;
-      freed-low = λ n i. either (Memᴰ.append_cases y.numbering.freed i) (N.freed-low n) (λ j. rw (Memᴰ.eq_of_singleton j) (N.low b o.0));
-      freed-once = nodup_more y.numbering.freed (number_of y b) N.freed-once (λ i. N.freed-in (number_of y b) b i o refl);
-      freed-in = λ n s i p q.
+      freed_low = λ n i. either (Memᴰ.append_cases y.numbering.freed i) (N.freed_low n) (λ j. rw (Memᴰ.eq_of_singleton j) (N.low b o.0));
+      freed_once = nodup_more y.numbering.freed (number_of y b) N.freed_once (λ i. N.freed_in (number_of y b) b i o refl);
+      freed_in = λ n s i p q.
           let was = still s p in
-          either (Memᴰ.append_cases y.numbering.freed i) (λ j. N.freed-in n s j was.0 q)
+          either (Memᴰ.append_cases y.numbering.freed i) (λ j. N.freed_in n s j was.0 q)
           (λ j. was.1 (numbers_apart y N s b was.0 o (q ∙ Memᴰ.eq_of_singleton j)));
-      freed-all = λ n s e j. cases (eqb s b)
+      freed_all = λ n s e j. cases (eqb s b)
           (λ q. Memᴰ.append_right y.numbering.freed (Memᴰ.head (sym (meant-number y n s e) ∙ ap (number_of y) (eqb-true s b q))))
-          (λ q. Memᴰ.append_left (number_of y b ∷ []) (N.freed-all n s e (rw q at j)));
+          (λ q. Memᴰ.append_left (number_of y b ∷ []) (N.freed_all n s e (rw q at j)));
       counted = let k = N.counted in let j = count-in in rw (length-append y.numbering.freed (number_of y b ∷ [])) (omega arith);
     }
 
   pub join-count : (a b : ℕ) → CanJoin y a b → suc (out_count (join_into y a b)) ≡ out_count y
-  join-count a b H = count-in b H.out-b (join_into y a b).diagram (join_into y a b).terminal y.mark
+  join-count a b H = count-in b H.out_b (join_into y a b).diagram (join_into y a b).terminal y.mark
 
   pub drop-count : (r : ℕ) → CanDrop y r → suc (out_count (drop_at y r)) ≡ out_count y
   drop-count r D = count-in r D.out y.diagram y.terminal (drop_at y r).mark
 
   pub named-moves : (z : Day) → Moves y z → Named z
   unfolding found
-  named-moves z (enters c r u E) = record { few = N.few; used = N.used; low = N.low; means = N.means; freed-low = N.freed-low; freed-once = N.freed-once; freed-in = N.freed-in; freed-all = N.freed-all; counted = N.counted }
+  named-moves z (enters c r u E) = record { few = N.few; used = N.used; low = N.low; means = N.means; freed_low = N.freed_low; freed_once = N.freed_once; freed_in = N.freed_in; freed_all = N.freed_all; counted = N.counted }
   named-moves z (yields c l) = by (y.open_by c)
     where
       by : (q : Option ℕ) → Named (yield y c q)
       by none = N
-      by (some t) = record { few = N.few; used = N.used; low = N.low; means = N.means; freed-low = N.freed-low; freed-once = N.freed-once; freed-in = N.freed-in; freed-all = N.freed-all; counted = N.counted }
+      by (some t) = record { few = N.few; used = N.used; low = N.low; means = N.means; freed_low = N.freed_low; freed_once = N.freed_once; freed_in = N.freed_in; freed_all = N.freed_all; counted = N.counted }
   named-moves z (forks_at r name C) = named-fork r name C
-  named-moves z (joins_into a b H) = named_in b H.out-b _ _ _
+  named-moves z (joins_into a b H) = named_in b H.out_b _ _ _
   named-moves z (drops_of r D) = named_in r D.out _ _ _

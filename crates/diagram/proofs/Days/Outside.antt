@@ -59,12 +59,12 @@ module _ (y : Day) (layout : List ℕ) (hold : ℕ → List ℕ) (S : Sound y la
       by : (q : Option ℕ) → (y.transaction t).closed ≡ q → Past y.diagram (y.transaction t) (y.terminal r)
       by none q =
           let f = S.unshut t h q in
-          absurd (false≢true (sym (rw f at (idle (y.transaction t).client (S.runs _ t f).client-ok tt)) ∙ eq-eqb (y.transaction t).revision r (S.whole.own-revision r t o h i q)))
-      by (some z) q = (z, q, S.whole.closed-low t z h q, S.whole.at-terminal r t o h i)
+          absurd (false≢true (sym (rw f at (idle (y.transaction t).client (S.runs _ t f).client_ok tt)) ∙ eq-eqb (y.transaction t).revision r (S.whole.own_revision r t o h i q)))
+      by (some z) q = (z, q, S.whole.closed_low t z h q, S.whole.at_terminal r t o h i)
 
   -- an open transaction is on no such revision
   pub idle-far : (r a s : ℕ) → Idle y (λ o. Unit {0}) r → y.open_by a ≡ some s → (y.transaction s).revision ≡ r → ⊥
-  idle-far r a s idle p e = false≢true (sym (rw p at (idle a (S.runs a s p).client-ok tt)) ∙ eq-eqb (y.transaction s).revision r e)
+  idle-far r a s idle p e = false≢true (sym (rw p at (idle a (S.runs a s p).client_ok tt)) ∙ eq-eqb (y.transaction s).revision r e)
 
 -- of the older vertices each still leads where it led; and where a revision's terminal is an event, it was so before
 module _ (y : Day) (layout : List ℕ) (hold : ℕ → List ℕ) (S : Sound y layout hold) (d : Diagram) (n : ℕ) (starts forks terminals : ℕ → ℕ)
@@ -77,15 +77,15 @@ module _ (y : Day) (layout : List ℕ) (hold : ℕ → List ℕ) (S : Sound y la
   pub moved-whole : Outside d y.transactions y.transaction → Whole y'
   moved-whole outside = record {
     outside = outside;
-    at-terminal = λ s t o h i e j. let w = was s t o h i in rw w.1 (up e (y.terminal s) (S.real.linked.bound s) (S.whole.at-terminal s t w.0 h (rw w.1 at i) e j));
-    own-revision = λ s t o h i e. let w = was s t o h i in S.whole.own-revision s t w.0 h (rw w.1 at i) e;
-    closed-low = λ t n h e. omega (arith, S.whole.closed-low t n h e);
+    at_terminal = λ s t o h i e j. let w = was s t o h i in rw w.1 (up e (y.terminal s) (S.real.linked.bound s) (S.whole.at_terminal s t w.0 h (rw w.1 at i) e j));
+    own_revision = λ s t o h i e. let w = was s t o h i in S.whole.own_revision s t w.0 h (rw w.1 at i) e;
+    closed_low = λ t n h e. omega (arith, S.whole.closed_low t n h e);
   }
 
   pub moved-sessions : Sessions y'
   moved-sessions = record {
-    last-low = λ c l e. omega (arith, S.sessions.last-low c l e);
-    last-sees = λ t e h i. let l = S.sessions.last-sees t e h i in (l.0, l.1, up e l.0 (leads-low y layout hold S e l.0 l.2) l.2);
+    last_low = λ c l e. omega (arith, S.sessions.last_low c l e);
+    last_sees = λ t e h i. let l = S.sessions.last_sees t e h i in (l.0, l.1, up e l.0 (leads-low y layout hold S e l.0 l.2) l.2);
     later = λ s t e f l h q i j. up e f (event-low y layout hold S t f h j) (S.sessions.later s t e f l h q i j);
   }
 
@@ -100,10 +100,10 @@ module _ (y : Day) (layout : List ℕ) (hold : ℕ → List ℕ) (S : Sound y la
         known = R.known;
         client = R.client;
         unshut = R.unshut;
-        client-ok = R.client-ok;
+        client_ok = R.client_ok;
         out = k.0;
-        last-is = rw k.1 R.last-is;
-        last-in = rw k.1 R.last-in;
-        at-end = (R.at-end.0, k.2 ∙ R.at-end.1);
+        last_is = rw k.1 R.last_is;
+        last_in = rw k.1 R.last_in;
+        at_end = (R.at_end.0, k.2 ∙ R.at_end.1);
         latest = R.latest;
       }

@@ -34,8 +34,8 @@ pub record Real (y : Day) (layout : List ℕ) : Type 0 where
   pub leftmost : (r : ℕ) → r ∈ layout → (r ≡ 0 → ⊥) → (r ∷ 0 ∷ []) ⊑ layout
   pub forks : (r : ℕ) → r < y.revisions → (r ≡ 0 → ⊥) → fork_vertex y.diagram (y.terminal r) ≡ some (y.fork_of r)
   pub main : fork_vertex y.diagram (y.terminal 0) ≡ none
-  pub starts-low : (r : ℕ) → y.start_of r < length y.diagram
-  pub forks-low : (r : ℕ) → y.fork_of r < length y.diagram
+  pub starts_low : (r : ℕ) → y.start_of r < length y.diagram
+  pub forks_low : (r : ℕ) → y.fork_of r < length y.diagram
 
 pub real_fresh : Real fresh (0 ∷ [])
 unfolding tabulate
@@ -46,8 +46,8 @@ real_fresh = record {
   leftmost = λ r i n. absurd (n (Memᴰ.eq_of_singleton i));
   forks = λ r h n. let b : r < 1 = h in absurd (n (omega arith));
   main = refl;
-  starts-low = λ r. omega arith;
-  forks-low = λ r. omega arith;
+  starts_low = λ r. omega arith;
+  forks_low = λ r. omega arith;
 }
 
 module _ (y : Day) (layout : List ℕ) (R : Real y layout) where
@@ -75,8 +75,8 @@ module _ (y : Day) (layout : List ℕ) (R : Real y layout) where
     leftmost = R.leftmost;
     forks = forks-on (event (y.terminal r) c (new_update y u)) r refl;
     main = fork-stays (event (y.terminal r) c (new_update y u)) r refl 0 ∙ R.main;
-    starts-low = λ s. omega (arith, R.starts-low s);
-    forks-low = λ s. omega (arith, R.forks-low s);
+    starts_low = λ s. omega (arith, R.starts_low s);
+    forks_low = λ s. omega (arith, R.forks_low s);
   }
 
   pub real-close : (c t : ℕ) → Real (yield y c (some t)) layout
@@ -87,8 +87,8 @@ module _ (y : Day) (layout : List ℕ) (R : Real y layout) where
     leftmost = R.leftmost;
     forks = R.forks;
     main = R.main;
-    starts-low = R.starts-low;
-    forks-low = R.forks-low;
+    starts_low = R.starts_low;
+    forks_low = R.forks_low;
   }
 
   pub real-fork : (r : ℕ) (name : Option Name) → CanFork y r name → Real (fork_at y r name) (insert_before r y.revisions layout)
@@ -101,8 +101,8 @@ module _ (y : Day) (layout : List ℕ) (R : Real y layout) where
     leftmost = λ s i z. either (insert_back r n s layout i) (λ e. rw e left-new) (λ j. Sublistᴰ.trans (R.leftmost s j z) (insert_sub r n layout));
     forks = λ s h z. cases (eqb s n) (λ e. rw e (tabulate-newest fork_step none sv (fv ∷ d))) (λ e. rw e (start-on s ∙ forks-on fv r refl s (not_last s n h e) z));
     main = cases (eqb 0 n) (λ e. let k = eqb-true 0 n e in absurd (omega (arith, N.out.0))) (λ e. rw e (start-on 0 ∙ fork-stays fv r refl 0 ∙ R.main));
-    starts-low = λ s. cases (eqb s n) (λ e. rw e (omega arith)) (λ e. rw e (omega (arith, R.starts-low s)));
-    forks-low = λ s. cases (eqb s n) (λ e. rw e (omega arith)) (λ e. rw e (omega (arith, R.forks-low s)));
+    starts_low = λ s. cases (eqb s n) (λ e. rw e (omega arith)) (λ e. rw e (omega (arith, R.starts_low s)));
+    forks_low = λ s. cases (eqb s n) (λ e. rw e (omega arith)) (λ e. rw e (omega (arith, R.forks_low s)));
   }
     where
       n : ℕ
@@ -154,18 +154,18 @@ module _ (y : Day) (layout : List ℕ) (R : Real y layout) where
 
   pub real-join : (a b : ℕ) → CanJoin y a b → Real (join_into y a b) (remove b layout)
   real-join a b H = record {
-    linked = linked-join d layout y.terminal y.start_of R.linked a b (R.out a H.out-a) (R.out b H.out-b) may;
-    out = λ s o. leave-out b H.not-main s (joined_out y a b s o);
-    back = leave-back b H.not-main;
-    leftmost = leave-left b H.not-main;
+    linked = linked-join d layout y.terminal y.start_of R.linked a b (R.out a H.out_a) (R.out b H.out_b) may;
+    out = λ s o. leave-out b H.not_main s (joined_out y a b s o);
+    back = leave-back b H.not_main;
+    leftmost = leave-left b H.not_main;
     forks = forks-on (join (y.terminal a) (y.terminal b)) a refl;
     main = fork-stays (join (y.terminal a) (y.terminal b)) a refl 0 ∙ R.main;
-    starts-low = λ s. omega (arith, R.starts-low s);
-    forks-low = λ s. omega (arith, R.forks-low s);
+    starts_low = λ s. omega (arith, R.starts_low s);
+    forks_low = λ s. omega (arith, R.forks_low s);
   }
     where
       may : May d y.terminal y.start_of a b
-      may = record { outside = H.start-unseen; at = y.fork_of b; start-of = R.forks b H.out-b.0 H.not-main; leads = H.fork-seen }
+      may = record { outside = H.start_unseen; at = y.fork_of b; start_of = R.forks b H.out_b.0 H.not_main; leads = H.fork_seen }
 
   pub real-drop : (r : ℕ) → CanDrop y r → (r ≡ 0 → ⊥) → own_events d (y.terminal r) ≡ [] → Real (drop_at y r) (remove r layout)
   real-drop r D n empty = record {
@@ -175,6 +175,6 @@ module _ (y : Day) (layout : List ℕ) (R : Real y layout) where
     leftmost = leave-left r n;
     forks = R.forks;
     main = R.main;
-    starts-low = R.starts-low;
-    forks-low = R.forks-low;
+    starts_low = R.starts_low;
+    forks_low = R.forks_low;
   }

@@ -25,7 +25,7 @@ use Rattle.lists.specs.Arranged.{flat_back}
 
 -- each revision that is out holds its transactions whole, one after another
 pub record Filed (y : Day) (layout : List ℕ) (hold : ℕ → List ℕ) : Type 0 where
-  pub blocks-ok : (x : ℕ) → x ∈ layout → own_events y.diagram (y.terminal x) ≡ flat (events_of y) (hold x)
+  pub blocks_ok : (x : ℕ) → x ∈ layout → own_events y.diagram (y.terminal x) ≡ flat (events_of y) (hold x)
   pub all : (t : ℕ) → t < y.transactions → (x : ℕ) × (x ∈ layout) × (t ∈ hold x)
   pub low : (x t : ℕ) → x ∈ layout → t ∈ hold x → t < y.transactions
   pub first : (t : ℕ) → t < y.transactions → (e : ℕ) × (e ∈ events_of y t)
@@ -35,11 +35,11 @@ pub record Runs (y : Day) (hold : ℕ → List ℕ) (c t : ℕ) : Type 0 where
   pub known : t < y.transactions
   pub client : (y.transaction t).client ≡ c
   pub unshut : (y.transaction t).closed ≡ none
-  pub client-ok : c < client_limit
+  pub client_ok : c < client_limit
   pub out : IsOut y (y.transaction t).revision
-  pub last-is : y.last_event c ≡ some (y.terminal (y.transaction t).revision)
-  pub last-in : y.terminal (y.transaction t).revision ∈ events_of y t
-  pub at-end : (init : List ℕ) × (hold (y.transaction t).revision ≡ init ++ (t ∷ []))
+  pub last_is : y.last_event c ≡ some (y.terminal (y.transaction t).revision)
+  pub last_in : y.terminal (y.transaction t).revision ∈ events_of y t
+  pub at_end : (init : List ℕ) × (hold (y.transaction t).revision ≡ init ++ (t ∷ []))
   pub latest : (s : ℕ) → t < s → s < y.transactions → (y.transaction s).client ≡ c → ⊥
 
 -- a transaction is seen whole from outside, and only after its yield
@@ -51,14 +51,14 @@ pub record SeenWhole (d : Diagram) (w : Transaction) (x : ℕ) : Type 0 where
 
 pub record Whole (y : Day) : Type 0 where
   pub outside : (t x e : ℕ) → t < y.transactions → x < length y.diagram → (x ∈ events_of y t → ⊥) → e ∈ events_of y t → leads y.diagram e x ≡ true → SeenWhole y.diagram (y.transaction t) x
-  pub at-terminal : (r t : ℕ) → IsOut y r → t < y.transactions → y.terminal r ∈ events_of y t → (e : ℕ) → e ∈ events_of y t → leads y.diagram e (y.terminal r) ≡ true
-  pub own-revision : (r t : ℕ) → IsOut y r → t < y.transactions → y.terminal r ∈ events_of y t → (y.transaction t).closed ≡ none → (y.transaction t).revision ≡ r
-  pub closed-low : (t n : ℕ) → t < y.transactions → (y.transaction t).closed ≡ some n → n ≤ length y.diagram
+  pub at_terminal : (r t : ℕ) → IsOut y r → t < y.transactions → y.terminal r ∈ events_of y t → (e : ℕ) → e ∈ events_of y t → leads y.diagram e (y.terminal r) ≡ true
+  pub own_revision : (r t : ℕ) → IsOut y r → t < y.transactions → y.terminal r ∈ events_of y t → (y.transaction t).closed ≡ none → (y.transaction t).revision ≡ r
+  pub closed_low : (t n : ℕ) → t < y.transactions → (y.transaction t).closed ≡ some n → n ≤ length y.diagram
 
 -- a client's later transactions see its earlier ones
 pub record Sessions (y : Day) : Type 0 where
-  pub last-low : (c l : ℕ) → y.last_event c ≡ some l → l < length y.diagram
-  pub last-sees : (t e : ℕ) → t < y.transactions → e ∈ events_of y t → (l : ℕ) × (y.last_event (y.transaction t).client ≡ some l) × (leads y.diagram e l ≡ true)
+  pub last_low : (c l : ℕ) → y.last_event c ≡ some l → l < length y.diagram
+  pub last_sees : (t e : ℕ) → t < y.transactions → e ∈ events_of y t → (l : ℕ) × (y.last_event (y.transaction t).client ≡ some l) × (leads y.diagram e l ≡ true)
   pub later : (s t e f : ℕ) → s < t → t < y.transactions → (y.transaction s).client ≡ (y.transaction t).client → e ∈ events_of y s → f ∈ events_of y t → leads y.diagram e f ≡ true
 
 -- 02, U9: a mark holds no transaction; the main revision is none
@@ -86,7 +86,7 @@ unfolding tabulate marked
 sound_fresh = record {
   real = real_fresh;
   filed = record {
-    blocks-ok = λ x i. refl;
+    blocks_ok = λ x i. refl;
     all = λ t h. let b : t < 0 = h in absurd (omega arith);
     low = λ x t i j. absurd (Memᴰ.not-nil j);
     first = λ t h. let b : t < 0 = h in absurd (omega arith);
@@ -95,13 +95,13 @@ sound_fresh = record {
   unshut = λ t h e. let b : t < 0 = h in absurd (omega arith);
   whole = record {
     outside = λ t x e h b n i s. absurd (Memᴰ.not-nil i);
-    at-terminal = λ r t o h i e j. absurd (Memᴰ.not-nil j);
-    own-revision = λ r t o h i e. absurd (Memᴰ.not-nil i);
-    closed-low = λ t n h e. absurd (some≢none none e refl);
+    at_terminal = λ r t o h i e j. absurd (Memᴰ.not-nil j);
+    own_revision = λ r t o h i e. absurd (Memᴰ.not-nil i);
+    closed_low = λ t n h e. absurd (some≢none none e refl);
   };
   sessions = record {
-    last-low = λ c l e. absurd (some≢none none e refl);
-    last-sees = λ t e h i. absurd (Memᴰ.not-nil i);
+    last_low = λ c l e. absurd (some≢none none e refl);
+    last_sees = λ t e h i. absurd (Memᴰ.not-nil i);
     later = λ s t e f l h q i j. absurd (Memᴰ.not-nil i);
   };
   marks = record { empty = λ r e. refl; main = refl };
@@ -114,7 +114,7 @@ module _ (y : Day) (layout : List ℕ) (hold : ℕ → List ℕ) (F : Filed y la
       flat-++ (events_of y) (flat_back hold l) (hold x) ∙ ap (λ z. z ++ flat (events_of y) (hold x)) (flat-from-blocks l (λ z i. h z (Memᴰ.tail i))) ∙ ap (λ z. blocks (contents y.diagram y.terminal) l ++ z) (sym (h x (Memᴰ.head refl)))
 
   pub flat-blocks : flat (events_of y) (flat_back hold layout) ≡ blocks (contents y.diagram y.terminal) layout
-  flat-blocks = flat-from-blocks layout F.blocks-ok
+  flat-blocks = flat-from-blocks layout F.blocks_ok
 
 module _ (y : Day) (layout : List ℕ) (hold : ℕ → List ℕ) (S : Sound y layout hold) where
   pub link : Linked y.diagram layout y.terminal y.start_of
@@ -130,7 +130,7 @@ module _ (y : Day) (layout : List ℕ) (hold : ℕ → List ℕ) (S : Sound y la
   pub event-low : (t e : ℕ) → t < y.transactions → e ∈ events_of y t → e < length y.diagram
   event-low t e h i =
       let p = S.filed.all t h in
-      link.small (y.terminal p.0) e (rw (S.filed.blocks-ok p.0 p.1) (flat_in (events_of y) t e (hold p.0) p.2 i))
+      link.small (y.terminal p.0) e (rw (S.filed.blocks_ok p.0 p.1) (flat_in (events_of y) t e (hold p.0) p.2 i))
 
   pub leads-low : (x z : ℕ) → leads y.diagram x z ≡ true → z < length y.diagram
   leads-low x z e = path_bound link.ordered (leads_path y.diagram x z e)

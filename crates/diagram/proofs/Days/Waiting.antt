@@ -75,7 +75,7 @@ module _ (y : Day) (N : Named y) (hs : List ℕ) (W : Waits y hs) where
     in-waits = rw (W.are, keep-++ last hs (b ∷ []), out-last b o) (sym (mapped-++ (number_of y) (keep last hs) (b ∷ [])))
 
   waits-join : (a b : ℕ) → CanJoin y a b → Waits (join_into y a b) (hs ++ (b ∷ []))
-  waits-join a b H = record { started = in-started b H.out-b; are = in-waits b H.out-b }
+  waits-join a b H = record { started = in-started b H.out_b; are = in-waits b H.out_b }
 
   waits-drop : (r : ℕ) → CanDrop y r → Waits (drop_at y r) (hs ++ (r ∷ []))
   waits-drop r D = record { started = in-started r D.out; are = in-waits r D.out }
@@ -108,8 +108,8 @@ module _ (y : Day) (N : Named y) (hs : List ℕ) (W : Waits y hs) where
     -- the number taken was not among them, or was the first
     rest-waits : (fork_at y r name).numbering.freed ≡ keep (λ n. not (eqb new n)) y.numbering.freed
     rest-waits = cases (ltb y.numbering.given revision_limit)
-        (λ e. rw e (sym (keep_all (λ n. not (eqb y.numbering.given n)) y.numbering.freed (λ n i. let l = N.freed-low n i in rw (ne_eqb y.numbering.given n (λ q. omega arith))))))
-        (λ e. let f = first_waits y N r name C e in rw (e, f.2) (sym (keep_rest f.0 f.1 (rw f.2 at N.freed-once))))
+        (λ e. rw e (sym (keep_all (λ n. not (eqb y.numbering.given n)) y.numbering.freed (λ n i. let l = N.freed_low n i in rw (ne_eqb y.numbering.given n (λ q. omega arith))))))
+        (λ e. let f = first_waits y N r name C e in rw (e, f.2) (sym (keep_rest f.0 f.1 (rw f.2 at N.freed_once))))
 
     waits-fork : Waits (fork_at y r name) hs
     waits-fork = record { started = λ s i. let l = W.started s i in omega arith; are = rest-waits ∙ sym still }

@@ -55,7 +55,7 @@ module _ (y : Day) (layout : List ℕ) (hold : ℕ → List ℕ) (S : Sound y la
 
   filed' : Filed y' layout hold
   filed' = record {
-    blocks-ok = λ x i. S.filed.blocks-ok x i ∙ flat_same (events_of y) (events_of y') (hold x) (λ s j. sym (same-events s));
+    blocks_ok = λ x i. S.filed.blocks_ok x i ∙ flat_same (events_of y) (events_of y') (hold x) (λ s j. sym (same-events s));
     all = S.filed.all;
     low = S.filed.low;
     first = λ s h. let f = S.filed.first s h in (f.0, rw (same-events s) f.1);
@@ -69,11 +69,11 @@ module _ (y : Day) (layout : List ℕ) (hold : ℕ → List ℕ) (S : Sound y la
         known = Q.known;
         client = rw w Q.client;
         unshut = rw w Q.unshut;
-        client-ok = Q.client-ok;
+        client_ok = Q.client_ok;
         out = rw w Q.out;
-        last-is = rw w Q.last-is;
-        last-in = subst (λ z. y.terminal z.revision ∈ z.events) (sym w) Q.last-in;
-        at-end = (Q.at-end.0, rw w Q.at-end.1);
+        last_is = rw w Q.last_is;
+        last_in = subst (λ z. y.terminal z.revision ∈ z.events) (sym w) Q.last_in;
+        at_end = (Q.at_end.0, rw w Q.at_end.1);
         latest = λ z l h g. Q.latest z l h (sym (clients z) ∙ g);
       }
         where
@@ -96,9 +96,9 @@ module _ (y : Day) (layout : List ℕ) (hold : ℕ → List ℕ) (S : Sound y la
   whole' : Whole y'
   whole' = record {
     outside = outside';
-    at-terminal = λ r s o h i e j. S.whole.at-terminal r s o h (rw (same-events s) at i) e (rw (same-events s) at j);
-    own-revision = λ r s o h i e. revisions s ∙ S.whole.own-revision r s o h (rw (same-events s) at i) (sym (ap (λ w. w.closed) (w-other s (is_open s e))) ∙ e);
-    closed-low = λ s n h e. cases (eqb s t) (λ z. let f : some (length d) ≡ some n = rw z at e in let g : length d ≡ n = cc in omega arith) (λ z. S.whole.closed-low s n h (rw z at e));
+    at_terminal = λ r s o h i e j. S.whole.at_terminal r s o h (rw (same-events s) at i) e (rw (same-events s) at j);
+    own_revision = λ r s o h i e. revisions s ∙ S.whole.own_revision r s o h (rw (same-events s) at i) (sym (ap (λ w. w.closed) (w-other s (is_open s e))) ∙ e);
+    closed_low = λ s n h e. cases (eqb s t) (λ z. let f : some (length d) ≡ some n = rw z at e in let g : length d ≡ n = cc in omega arith) (λ z. S.whole.closed_low s n h (rw z at e));
   }
     where
       outside' : (s x e : ℕ) → s < y.transactions → x < length d → (x ∈ events_of y' s → ⊥) → e ∈ events_of y' s → leads d e x ≡ true → SeenWhole d (y'.transaction s) x
@@ -109,8 +109,8 @@ module _ (y : Day) (layout : List ℕ) (hold : ℕ → List ℕ) (S : Sound y la
 
   sessions' : Sessions y'
   sessions' = record {
-    last-low = S.sessions.last-low;
-    last-sees = λ s e h i. rw (clients s) (S.sessions.last-sees s e h (rw (same-events s) at i));
+    last_low = S.sessions.last_low;
+    last_sees = λ s e h i. rw (clients s) (S.sessions.last_sees s e h (rw (same-events s) at i));
     later = λ a s e f l h p i j. S.sessions.later a s e f l h (sym (clients a) ∙ p ∙ clients s) (rw (same-events a) at i) (rw (same-events s) at j);
   }
 

@@ -1,4 +1,4 @@
--- The events of a revision and those on a vertex's root-path, and that a path loses none of them.
+-- The events of a revision and those on a vertex's root_path, and that a path loses none of them.
 use Prim.Native.Nat.{◌<◌, ℕ}
 use mathlib.Core.Path.{◌≡◌, refl, sym}
 use mathlib.Core.Logic.{◌⊎◌, inl, inr}
@@ -7,7 +7,7 @@ use mathlib.Core.List.{List, Memᴰ}
 use mathlib.Core.List.{[], ◌++◌, ◌∷◌, append_assoc, append-nil}
 use native.Mathlib.Omega.{arith}
 use lib.ListN.{length}
-use Rattle.diagram.proofs.Graph.Paths.{Ordered, edge_bounds, no-vertex, one_more, path_bound}
+use Rattle.diagram.proofs.Graph.Paths.{Ordered, edge_bounds, no_vertex, one_more, path_bound}
 use Rattle.diagram.proofs.Graph.Tables.{by_vertex, fork_step, tabulate-newest, tabulate-older}
 use Rattle.diagram.specs.Diagram.{Diagram, Edge, HasPath, Vertex, event, fork, go, join, newest, older, root, sources, start, stay}
 use Rattle.diagram.specs.Effects.{fork_vertex, tabulate}
@@ -112,7 +112,7 @@ edge_new {d} o k (join p q) b c x m n i = side (mathlib.Core.List.Memᴰ.cases_c
 
 -- along a path: a vertex sees whatever one that it follows sees
 pub path_view : {d : Diagram} → Ordered d → Joined d → (x y : ℕ) → HasPath d x y → view_events d x ⊆ view_events d y
-path_view no-vertex j x y p = λ n m. absurd (omega (arith, path_bound no-vertex p))
+path_view no_vertex j x y p = λ n m. absurd (omega (arith, path_bound no_vertex p))
 path_view (one_more {v} {d} f o) j x y p = along p (path_view o j.1)
   where
     edge : (x y : ℕ) → Edge sources x y (v ∷ d) → ((x y : ℕ) → HasPath d x y → view_events d x ⊆ view_events d y) → view_events (v ∷ d) x ⊆ view_events (v ∷ d) y

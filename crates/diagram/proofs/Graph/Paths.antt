@@ -15,7 +15,7 @@ use Rattle.lists.proofs.Cases.{cases, either, or_cases, or_left, or_right, split
 
 -- every edge goes from an older vertex to a newer one
 pub data Ordered : Diagram → Type 0 where
-  no-vertex : Ordered []
+  no_vertex : Ordered []
   one_more : {v : Vertex} {d : Diagram} → ((p : ℕ) → Memᴰ p (sources v) → p < length d) → Ordered d → Ordered (v ∷ d)
 
 pub any_intro : (f : ℕ → Bool) (p : ℕ) {ps : List ℕ} → Memᴰ p ps → f p ≡ true → any_of f ps ≡ true
@@ -44,6 +44,7 @@ both_older n p q h k x (Memᴰ.head e) = rw e h
 both_older n p q h k x (Memᴰ.tail i) = rw (Memᴰ.eq_of_singleton i) k
 
 pub edge_bounds : {x y : ℕ} {d : Diagram} → Ordered d → Edge sources x y d → (x < y) × (y < length d)
+edge_bounds {y = y} no_vertex x4 = elim x4 [ ]
 edge_bounds (one_more f o) (newest e m) = let h = f _ m in (omega arith, omega arith)
 edge_bounds (one_more f o) (older m) = let h = edge_bounds o m in (h.0, omega arith)
 
@@ -77,6 +78,7 @@ leads-self (v ∷ d) x h = pick (split (eqb x (length d))) (leads-self d x)
     pick (inr e) k = let q = eqb-false x (length d) e in let l : x < length d = omega arith in leads_old v d x x l ∙ k l
 
 leads-edge : {y z : ℕ} {d : Diagram} (x : ℕ) → Ordered d → Edge sources y z d → leads d x y ≡ true → leads d x z ≡ true
+leads-edge {y = y} {z = z} x no_vertex x8 h = elim x8 [ ]
 leads-edge {y} {z} x (one_more {v} {d} f o) (newest e m) h = leads_new v d x z e ∙ or_right (eqb x z) _ (any_intro (λ p. leads d x p) y m (sym (leads_old v d x y (f y m)) ∙ h))
 leads-edge {y} {z} x (one_more {v} {d} f o) (older m) h =
     let b = edge_bounds o m in

@@ -1,4 +1,4 @@
--- Every vertex of a constructed diagram has its root-path and its revision's path, and the effects along them are its view and its own.
+-- Every vertex of a constructed diagram has its root_path and its revision's path, and the effects along them are its view and its own.
 use Prim.Native.Nat.{◌<◌, ℕ}
 use mathlib.Core.Path.{◌∙◌, ◌≡◌, ap, refl, sym}
 use mathlib.Core.Option.{Option}
@@ -11,7 +11,7 @@ use borrow.Author.Tests.{eqb-false, eqb-true}
 use Rattle.lists.proofs.Blocks.{flat-++, flat_same}
 use Rattle.lists.proofs.Cases.{cases, either}
 use Rattle.lists.specs.Lists.{◌∈◌, flat}
-use Rattle.diagram.proofs.Graph.Paths.{Ordered, both_older, edge_bounds, no-vertex, one_more}
+use Rattle.diagram.proofs.Graph.Paths.{Ordered, both_older, edge_bounds, no_vertex, one_more}
 use Rattle.diagram.proofs.Graph.Tables.{start_step, tabulate-newest, tabulate-older}
 use Rattle.diagram.specs.Construction.{Constructed, entered, forked, joined, rooted}
 use Rattle.diagram.specs.Diagram.{Diagram, Edge, Vertex, event, fork, join, newest, older, root, s_sources, sources, start}
@@ -72,11 +72,11 @@ effects_more v {d} {xs = xs} t =
 -- an older vertex, when the diagram grows
 keeps : (v : Vertex) {d : Diagram} → Ordered d → (x : ℕ) → x < length d → Composed d x → Composed (v ∷ d) x
 keeps v {d} o x h C = record {
-  root-path = C.root-path;
-  from-root = trail_older C.from-root;
-  only-root = λ xs t. C.only-root xs (trail_back o t h);
-  view-is = tabulate-older view_step [] v d x h ∙ C.view-is ∙ sym (effects_stay v C.from-root);
-  revision-path = C.revision-path;
+  root_path = C.root_path;
+  from_root = trail_older C.from_root;
+  only_root = λ xs t. C.only_root xs (trail_back o t h);
+  view_is = tabulate-older view_step [] v d x h ∙ C.view_is ∙ sym (effects_stay v C.from_root);
+  revision_path = C.revision_path;
   from_start = rw (tabulate-older start_step 0 v d x h) (trail_older C.from_start);
   own_is = tabulate-older own_step [] v d x h ∙ C.own_is ∙ sym (effects_stay v C.from_start);
 }
@@ -88,11 +88,11 @@ module _ (v : Vertex) {d : Diagram} (o : Ordered d) (p : ℕ) (low : p < length 
     (owns : own_step d (own d) v ≡ own d p ++ effect_step d (effect d) v) where
   next : Composed (v ∷ d) (length d)
   next = record {
-    root-path = C.root-path ++ (length d ∷ []);
-    from-root = onward (trail_older C.from-root) (newest refl edge-sf);
-    only-root = λ xs t. only_newest v p C.root-path o low one C.only-root refl t;
-    view-is = tabulate-newest view_step [] v d ∙ views ∙ ap (λ l. l ++ effect_step d (effect d) v) C.view-is ∙ sym (effects_more v C.from-root);
-    revision-path = C.revision-path ++ (length d ∷ []);
+    root_path = C.root_path ++ (length d ∷ []);
+    from_root = onward (trail_older C.from_root) (newest refl edge-sf);
+    only_root = λ xs t. only_newest v p C.root_path o low one C.only_root refl t;
+    view_is = tabulate-newest view_step [] v d ∙ views ∙ ap (λ l. l ++ effect_step d (effect d) v) C.view_is ∙ sym (effects_more v C.from_root);
+    revision_path = C.revision_path ++ (length d ∷ []);
     from_start = rw (tabulate-newest start_step 0 v d ∙ starts) (onward (trail_older C.from_start) (newest refl edge));
     own_is = tabulate-newest own_step [] v d ∙ owns ∙ ap (λ l. l ++ effect_step d (effect d) v) C.own_is ∙ sym (effects_more v C.from_start);
   }
@@ -100,11 +100,11 @@ module _ (v : Vertex) {d : Diagram} (o : Ordered d) (p : ℕ) (low : p < length 
 -- a start vertex, after its fork vertex
 begins : {d : Diagram} → Ordered d → (p : ℕ) → p < length d → Composed d p → Composed (start p ∷ d) (length d)
 begins {d} o p low C = record {
-  root-path = C.root-path ++ (length d ∷ []);
-  from-root = onward (trail_older C.from-root) (newest refl (Memᴰ.head refl));
-  only-root = λ xs t. only_newest (start p) p C.root-path o low (λ x i. Memᴰ.eq_of_singleton i) C.only-root refl t;
-  view-is = tabulate-newest view_step [] (start p) d ∙ sym (append-nil (view d p)) ∙ ap (λ l. l ++ []) C.view-is ∙ sym (effects_more (start p) C.from-root);
-  revision-path = length d ∷ [];
+  root_path = C.root_path ++ (length d ∷ []);
+  from_root = onward (trail_older C.from_root) (newest refl (Memᴰ.head refl));
+  only_root = λ xs t. only_newest (start p) p C.root_path o low (λ x i. Memᴰ.eq_of_singleton i) C.only_root refl t;
+  view_is = tabulate-newest view_step [] (start p) d ∙ sym (append-nil (view d p)) ∙ ap (λ l. l ++ []) C.view_is ∙ sym (effects_more (start p) C.from_root);
+  revision_path = length d ∷ [];
   from_start = rw (tabulate-newest start_step 0 (start p) d) (alone (omega arith));
   own_is = tabulate-newest own_step [] (start p) d ∙ sym (append-nil (effect (start p ∷ d) (length d)) ∙ tabulate-newest effect_step [] (start p) d);
 }
@@ -129,16 +129,17 @@ after-join : {d : Diagram} → Ordered d → (t q : ℕ) → t < length d → Co
 after-join o t q l C = next (join t q) o t l C (one_source t) (one_source t) (λ x i. Memᴰ.eq_of_singleton i) refl refl refl
 
 only-alone : {y : ℕ} {xs : List ℕ} → Trail (root ∷ []) sf_sources 0 y xs → xs ≡ 0 ∷ []
+only-alone {y = y} (onward {xs = xs} t (older x8)) = elim x8 [ ]
 only-alone (alone h) = refl
 only-alone (onward t (newest q i)) = absurd (Memᴰ.not-nil i)
 
 the_root : Composed (root ∷ []) 0
 the_root = record {
-  root-path = 0 ∷ [];
-  from-root = alone (omega arith);
-  only-root = λ xs t. only-alone t;
-  view-is = tabulate-newest view_step [] root [] ∙ sym (append-nil (effect (root ∷ []) 0) ∙ tabulate-newest effect_step [] root []);
-  revision-path = 0 ∷ [];
+  root_path = 0 ∷ [];
+  from_root = alone (omega arith);
+  only_root = λ xs t. only-alone t;
+  view_is = tabulate-newest view_step [] root [] ∙ sym (append-nil (effect (root ∷ []) 0) ∙ tabulate-newest effect_step [] root []);
+  revision_path = 0 ∷ [];
   from_start = rw (tabulate-newest start_step 0 root []) (alone (omega arith));
   own_is = tabulate-newest own_step [] root [] ∙ sym (append-nil (effect (root ∷ []) 0) ∙ tabulate-newest effect_step [] root []);
 }
@@ -148,7 +149,7 @@ only_older d t h p i = let e = Memᴰ.eq_of_singleton i in omega arith
 
 -- every edge of a constructed diagram goes from an older vertex to a newer one
 pub in_order : {d : Diagram} → Constructed d → Ordered d
-in_order rooted = one_more {d = []} (λ p i. absurd (Memᴰ.not-nil i)) no-vertex
+in_order rooted = one_more {d = []} (λ p i. absurd (Memᴰ.not-nil i)) no_vertex
 in_order (entered {d} {t} C T c u) = one_more {d = d} (only_older d t T.vertex) (in_order C)
 in_order (forked {d} {t} C T) = one_more {d = fork t ∷ d} (only_older (fork t ∷ d) (length d) (omega arith)) (one_more {d = d} (only_older d t T.vertex) (in_order C))
 in_order (joined {d} {t} {t'} C T T' J) = one_more {d = d} (both_older (length d) t t' T.vertex T'.vertex) (in_order C)

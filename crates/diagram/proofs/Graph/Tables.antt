@@ -9,7 +9,7 @@ use native.Mathlib.Omega.{arith}
 use lib.ListN.{length}
 use lib.Dec.{eqb}
 use borrow.Author.Tests.{eq-eqb, eqb-false, eqb-true, ne_eqb}
-use Rattle.diagram.proofs.Graph.Paths.{Ordered, leads_newest, leads_old, leads_up, no-vertex, one_more}
+use Rattle.diagram.proofs.Graph.Paths.{Ordered, leads_newest, leads_old, leads_up, no_vertex, one_more}
 use Rattle.diagram.specs.Diagram.{Diagram, Vertex, by_gain, by_origin, event, fork, join, root, sources, start}
 use Rattle.diagram.specs.Leads.{leads}
 use Rattle.diagram.specs.Effects.{start_vertex, tabulate}
@@ -40,7 +40,7 @@ pub by_vertex : (P : Diagram → ℕ → Type 0)
     → ((v : Vertex) (d : Diagram) → ((p : ℕ) → Memᴰ p (sources v) → p < length d) → ((p : ℕ) → p < length d → P d p) → P (v ∷ d) (length d))
     → ((v : Vertex) (d : Diagram) (x : ℕ) → x < length d → P d x → P (v ∷ d) x)
     → {d : Diagram} → Ordered d → (x : ℕ) → x < length d → P d x
-by_vertex P new old no-vertex x h = absurd (omega arith)
+by_vertex P new old no_vertex x h = absurd (omega arith)
 by_vertex P new old (one_more {v} {d} f o) x h = pick (split (eqb x (length d))) (by_vertex P new old o)
   where
     pick : (eqb x (length d) ≡ true) ⊎ (eqb x (length d) ≡ false) → ((p : ℕ) → p < length d → P d p) → P (v ∷ d) x

@@ -11,9 +11,9 @@ use lib.ListN.{length}
 use lib.Dec.{eqb}
 use borrow.Author.Tests.{eqb-false, eqb-true}
 use Rattle.diagram.proofs.Graph.Events.{Joined, own_event_step, own_events, path_view, view_event_step, view_events}
-use Rattle.diagram.proofs.Graph.Paths.{Ordered, no-vertex, one_more, path_older, path_start}
+use Rattle.diagram.proofs.Graph.Paths.{Ordered, no_vertex, one_more, path_older, path_start}
 use Rattle.diagram.proofs.Graph.Tables.{by_vertex, number_step, tabulate-newest, tabulate-older}
-use Rattle.diagram.specs.Arbitration.{IsEvent, newest-is, older-is}
+use Rattle.diagram.specs.Arbitration.{IsEvent, newest_is, older_is}
 use Rattle.diagram.specs.Diagram.{Diagram, HasPath, Vertex, event, fork, go, join, newest, root, sources, start, stay}
 use Rattle.diagram.specs.Effects.{entry, number, numbers}
 use Rattle.diagram.specs.Views.{own, own_step, view, view_step}
@@ -32,14 +32,14 @@ from-++ {d} {x} a {b} f g n i = either (mathlib.Core.List.Memᴰ.append_cases a 
 
 -- from a vertex before the newest
 up : {v : Vertex} {d : Diagram} {p : ℕ} {l : List ℕ} → Memᴰ p (sources v) → From d p l → From (v ∷ d) (length d) l
-up i f n j = let h = f n j in (older-is h.0, go (path_older h.1) (newest refl i))
+up i f n j = let h = f n j in (older_is h.0, go (path_older h.1) (newest refl i))
 
 pub view_paths : {d : Diagram} → Ordered d → (x : ℕ) → x < length d → Traced d x
 view_paths = by_vertex Traced new old
   where
     old : (v : Vertex) (d : Diagram) (x : ℕ) → x < length d → Traced d x → Traced (v ∷ d) x
     old v d x h r =
-        (rw (tabulate-older own_event_step [] v d x h) (λ n i. let q = r.0 n i in (older-is q.0, path_older q.1)), rw (tabulate-older view_event_step [] v d x h) (λ n i. let q = r.1 n i in (older-is q.0, path_older q.1)))
+        (rw (tabulate-older own_event_step [] v d x h) (λ n i. let q = r.0 n i in (older_is q.0, path_older q.1)), rw (tabulate-older view_event_step [] v d x h) (λ n i. let q = r.1 n i in (older_is q.0, path_older q.1)))
 
     none_of : {d : Diagram} {x : ℕ} → From d x []
     none_of n i = absurd (mathlib.Core.List.Memᴰ.not-nil i)
@@ -51,7 +51,7 @@ view_paths = by_vertex Traced new old
     steps (event p c u) d f k =
         let i : Memᴰ p (p ∷ []) = mathlib.Core.List.Memᴰ.head refl in
         let r = k p (f p i) in
-        let one : From (event p c u ∷ d) (length d) (length d ∷ []) = λ n j. let e = mathlib.Core.List.Memᴰ.eq_of_singleton j in (newest-is e, stay e (omega arith)) in
+        let one : From (event p c u ∷ d) (length d) (length d ∷ []) = λ n j. let e = mathlib.Core.List.Memᴰ.eq_of_singleton j in (newest_is e, stay e (omega arith)) in
         (from-++ (own_events d p) (up i r.0) one, from-++ (view_events d p) (up i r.1) one)
     steps (fork p) d f k = let i : Memᴰ p (p ∷ []) = mathlib.Core.List.Memᴰ.head refl in let r = k p (f p i) in (up i r.0, up i r.1)
     steps (join p q) d f k =
@@ -65,9 +65,9 @@ view_paths = by_vertex Traced new old
     new v d f k = rw (tabulate-newest own_event_step [] v d, tabulate-newest view_event_step [] v d) (steps v d f k)
 
 -- an event sees itself
-pub self : {d : Diagram} {x : ℕ} → IsEvent x d → (x < length d) × (x ∈ view_events d x)
-self (newest-is {p} {c} {u = k} {d} e) = (omega arith, rw (e, tabulate-newest view_event_step [] (event p c k) d) (mathlib.Core.List.Memᴰ.append_right (view_events d p) (mathlib.Core.List.Memᴰ.head refl)))
-self {x} (older-is {v} {d} u) = let h = self u in let b = h.0 in (omega arith, rw (tabulate-older view_event_step [] v d x b) h.1)
+pub self : {x : ℕ} {d : Diagram} → IsEvent x d → (x < length d) × (x ∈ view_events d x)
+self (newest_is {p} {c} {u = k} {d} e) = (omega arith, rw (e, tabulate-newest view_event_step [] (event p c k) d) (mathlib.Core.List.Memᴰ.append_right (view_events d p) (mathlib.Core.List.Memᴰ.head refl)))
+self {x} (older_is {v} {d} u) = let h = self u in let b = h.0 in (omega arith, rw (tabulate-older view_event_step [] v d x b) h.1)
 
 pub visible : {d : Diagram} → Ordered d → Joined d → (u x : ℕ) → x < length d → (u ∈ view_events d x) ↔ (IsEvent u d × HasPath d u x)
 visible {d} o j u x h = (λ i. (view_paths o x h).1 u i, λ p. path_view o j u x p.1 u (self p.0).1)
@@ -81,15 +81,15 @@ Q d x = (own d x ≡ numbers d (own_events d x)) × (view d x ≡ numbers d (vie
 pub view-numbers : {d : Diagram} → Ordered d → (x : ℕ) → x < length d → Q d x
 view-numbers {d} o x h = go o x h
   where
-    own-low : {d : Diagram} → Ordered d → (x e : ℕ) → x < length d → e ∈ own_events d x → e < length d
-    own-low o x e h i = path_start ((view_paths o x h).0 e i).1
+    own_low : {d : Diagram} → Ordered d → (x e : ℕ) → x < length d → e ∈ own_events d x → e < length d
+    own_low o x e h i = path_start ((view_paths o x h).0 e i).1
 
     view-low : {d : Diagram} → Ordered d → (x e : ℕ) → x < length d → e ∈ view_events d x → e < length d
     view-low o x e h i = path_start ((view_paths o x h).1 e i).1
 
     old : (v : Vertex) (d : Diagram) → Ordered d → (x : ℕ) → x < length d → Q d x → Q (v ∷ d) x
     old v d o x h q = (
-      rw (tabulate-older own_step [] v d x h, tabulate-older own_event_step [] v d x h, numbers_old v d (own_events d x) (λ e i. own-low o x e h i)) q.0,
+      rw (tabulate-older own_step [] v d x h, tabulate-older own_event_step [] v d x h, numbers_old v d (own_events d x) (λ e i. own_low o x e h i)) q.0,
       rw (tabulate-older view_step [] v d x h, tabulate-older view_event_step [] v d x h, numbers_old v d (view_events d x) (λ e i. view-low o x e h i)) q.1,
     )
 
@@ -97,7 +97,7 @@ view-numbers {d} o x h = go o x h
     last p c k d = rw (tabulate-newest number_step none (event p c k) d) (append-nil (entry k))
 
     more-own : (v : Vertex) (d : Diagram) → Ordered d → (p : ℕ) → p < length d → Q d p → numbers (v ∷ d) (own_events d p) ≡ own d p
-    more-own v d o p h q = numbers_old v d (own_events d p) (λ e i. own-low o p e h i) ∙ sym q.0
+    more-own v d o p h q = numbers_old v d (own_events d p) (λ e i. own_low o p e h i) ∙ sym q.0
 
     more-view : (v : Vertex) (d : Diagram) → Ordered d → (p : ℕ) → p < length d → Q d p → numbers (v ∷ d) (view_events d p) ≡ view d p
     more-view v d o p h q = numbers_old v d (view_events d p) (λ e i. view-low o p e h i) ∙ sym q.1
@@ -120,7 +120,7 @@ view-numbers {d} o x h = go o x h
         )
 
     go : {d : Diagram} → Ordered d → (x : ℕ) → x < length d → Q d x
-    go no-vertex x h = absurd (omega arith)
+    go no_vertex x h = absurd (omega arith)
     go (one_more {v} {d} f o) x h = pick (split (eqb x (length d))) (go o)
       where
         pick : (eqb x (length d) ≡ true) ⊎ (eqb x (length d) ≡ false) → ((p : ℕ) → p < length d → Q d p) → Q (v ∷ d) x

@@ -30,10 +30,10 @@ use Rattle.diagram.proofs.Order.Runs.{accepted_first, accepted_rest, along, fine
 pub record Aside (S r : ℕ) (y : Day) : Type 0 where
   pub there : r < y.revisions
   pub start : y.start_of r ≡ S
-  pub is-mark : y.joined r ≡ false → marked y r ≡ true
-  pub by-starts : (x : ℕ) → x < y.revisions → leads y.diagram S (y.terminal x) ≡ leads y.diagram S (y.start_of x)
-  pub by-forks : (x : ℕ) → x < y.revisions → (x ≡ r → ⊥) → leads y.diagram S (y.start_of x) ≡ leads y.diagram S (y.fork_of x)
-  pub not-main : leads y.diagram S (y.start_of 0) ≡ false
+  pub is_mark : y.joined r ≡ false → marked y r ≡ true
+  pub by_starts : (x : ℕ) → x < y.revisions → leads y.diagram S (y.terminal x) ≡ leads y.diagram S (y.start_of x)
+  pub by_forks : (x : ℕ) → x < y.revisions → (x ≡ r → ⊥) → leads y.diagram S (y.start_of x) ≡ leads y.diagram S (y.fork_of x)
+  pub not_main : leads y.diagram S (y.start_of 0) ≡ false
 
 module _ (S r : ℕ) (y : Day) (F : Fine y) (A : Aside S r y) where
   abbrev d : Diagram
@@ -43,7 +43,7 @@ module _ (S r : ℕ) (y : Day) (F : Fine y) (A : Aside S r y) where
   R = F.sound.real
 
   low : S < length d
-  low = rw (← A.start) (R.starts-low r)
+  low = rw (← A.start) (R.starts_low r)
 
   -- a vertex that goes on from q's terminal
   module _ (v : Vertex) (q : ℕ) (from : any_of (λ p. leads d S p) (sources v) ≡ leads d S (y.terminal q)) where
@@ -54,13 +54,13 @@ module _ (S r : ℕ) (y : Day) (F : Fine y) (A : Aside S r y) where
         (λ e. rw e (leads_old v d S (y.terminal x) (R.linked.bound x)))
 
     starts-on : (x : ℕ) → x < y.revisions → leads (v ∷ d) S (changed y.terminal q (length d) x) ≡ leads (v ∷ d) S (y.start_of x)
-    starts-on x h = on x ∙ A.by-starts x h ∙ sym (leads_old v d S (y.start_of x) (R.starts-low x))
+    starts-on x h = on x ∙ A.by_starts x h ∙ sym (leads_old v d S (y.start_of x) (R.starts_low x))
 
     forks-on : (x : ℕ) → x < y.revisions → (x ≡ r → ⊥) → leads (v ∷ d) S (y.start_of x) ≡ leads (v ∷ d) S (y.fork_of x)
-    forks-on x h n = leads_old v d S (y.start_of x) (R.starts-low x) ∙ A.by-forks x h n ∙ sym (leads_old v d S (y.fork_of x) (R.forks-low x))
+    forks-on x h n = leads_old v d S (y.start_of x) (R.starts_low x) ∙ A.by_forks x h n ∙ sym (leads_old v d S (y.fork_of x) (R.forks_low x))
 
     main-on : leads (v ∷ d) S (y.start_of 0) ≡ false
-    main-on = leads_old v d S (y.start_of 0) (R.starts-low 0) ∙ A.not-main
+    main-on = leads_old v d S (y.start_of 0) (R.starts_low 0) ∙ A.not_main
 
   aside-enter : (c q : ℕ) (u : Bool) → Aside S r (enter y c q u)
   unfolding marked
@@ -70,10 +70,10 @@ module _ (S r : ℕ) (y : Day) (F : Fine y) (A : Aside S r y) where
       record {
         there = A.there;
         start = A.start;
-        is-mark = A.is-mark;
-        by-starts = starts-on v q from;
-        by-forks = forks-on v q from;
-        not-main = main-on v q from;
+        is_mark = A.is_mark;
+        by_starts = starts-on v q from;
+        by_forks = forks-on v q from;
+        not_main = main-on v q from;
       }
 
   aside-yield : (c : ℕ) (o : Option ℕ) → Aside S r (yield y c o)
@@ -82,10 +82,10 @@ module _ (S r : ℕ) (y : Day) (F : Fine y) (A : Aside S r y) where
   aside-yield c (some t) = record {
     there = A.there;
     start = A.start;
-    is-mark = A.is-mark;
-    by-starts = A.by-starts;
-    by-forks = A.by-forks;
-    not-main = A.not-main;
+    is_mark = A.is_mark;
+    by_starts = A.by_starts;
+    by_forks = A.by_forks;
+    not_main = A.not_main;
   }
 
   aside-fork : (q : ℕ) (name : Option Name) → Aside S r (fork_at y q name)
@@ -93,15 +93,15 @@ module _ (S r : ℕ) (y : Day) (F : Fine y) (A : Aside S r y) where
   aside-fork q name = record {
     there = omega (arith, A.there);
     start = rw r-old A.start;
-    is-mark = rw r-old A.is-mark;
-    by-starts = λ x h. cases (eqb x n)
+    is_mark = rw r-old A.is_mark;
+    by_starts = λ x h. cases (eqb x n)
         (λ e. rw e)
         (λ e. rw e (later _ (on-bound d fv y.terminal R.linked.bound q x) ∙ starts-on fv q from x (not_last x n h e)
-        ∙ sym (later _ (older (R.starts-low x)))));
-    by-forks = λ x h m. cases (eqb x n)
+        ∙ sym (later _ (older (R.starts_low x)))));
+    by_forks = λ x h m. cases (eqb x n)
         (λ e. rw e (leads_to_newest sv (fv ∷ d) S (older low) ∙ or-false _ ∙ sym (later (length d) (omega arith))))
-        (λ e. rw e (later _ (older (R.starts-low x)) ∙ forks-on fv q from x (not_last x n h e) m ∙ sym (later _ (older (R.forks-low x)))));
-    not-main = rw (ne_eqb 0 n (λ e. omega (arith, A.there))) (later _ (older (R.starts-low 0)) ∙ main-on fv q from);
+        (λ e. rw e (later _ (older (R.starts_low x)) ∙ forks-on fv q from x (not_last x n h e) m ∙ sym (later _ (older (R.forks_low x)))));
+    not_main = rw (ne_eqb 0 n (λ e. omega (arith, A.there))) (later _ (older (R.starts_low 0)) ∙ main-on fv q from);
   }
     where
       n : ℕ
@@ -131,22 +131,22 @@ module _ (S r : ℕ) (y : Day) (F : Fine y) (A : Aside S r y) where
   aside-join a b H = record {
     there = A.there;
     start = A.start;
-    is-mark = cases (eqb r b) (λ e. rw e (λ q. absurd (true≢false q))) (λ e. rw e A.is-mark);
-    by-starts = starts-on v a from;
-    by-forks = forks-on v a from;
-    not-main = main-on v a from;
+    is_mark = cases (eqb r b) (λ e. rw e (λ q. absurd (true≢false q))) (λ e. rw e A.is_mark);
+    by_starts = starts-on v a from;
+    by_forks = forks-on v a from;
+    not_main = main-on v a from;
   }
     where
       v : Vertex
       v = join (y.terminal a) (y.terminal b)
 
       no-mark : b ≡ r → ⊥
-      no-mark e = false≢true (sym H.unmarked-b ∙ ap (marked y) e ∙ A.is-mark (ap y.joined (sym e) ∙ H.out-b.1))
+      no-mark e = false≢true (sym H.unmarked_b ∙ ap (marked y) e ∙ A.is_mark (ap y.joined (sym e) ∙ H.out_b.1))
 
       seen : leads d S (y.terminal b) ≡ true → leads d S (y.terminal a) ≡ true
       seen e =
-          let at_fork : leads d S (y.fork_of b) ≡ true = sym (A.by-starts b H.out-b.0 ∙ A.by-forks b H.out-b.0 no-mark) ∙ e in
-          leads_trans R.linked.ordered S (y.fork_of b) (y.terminal a) at_fork H.fork-seen
+          let at_fork : leads d S (y.fork_of b) ≡ true = sym (A.by_starts b H.out_b.0 ∙ A.by_forks b H.out_b.0 no-mark) ∙ e in
+          leads_trans R.linked.ordered S (y.fork_of b) (y.terminal a) at_fork H.fork_seen
 
       from : (leads d S (y.terminal a) || (leads d S (y.terminal b) || false)) ≡ leads d S (y.terminal a)
       from = cases (leads d S (y.terminal b)) (λ e. rw (e, seen e)) (λ e. rw e (or-false _))
@@ -156,10 +156,10 @@ module _ (S r : ℕ) (y : Day) (F : Fine y) (A : Aside S r y) where
   aside-drop q = record {
     there = A.there;
     start = A.start;
-    is-mark = cases (eqb r q) (λ e. rw e (λ z. absurd (true≢false z))) (λ e. rw e A.is-mark);
-    by-starts = A.by-starts;
-    by-forks = A.by-forks;
-    not-main = A.not-main;
+    is_mark = cases (eqb r q) (λ e. rw e (λ z. absurd (true≢false z))) (λ e. rw e A.is_mark);
+    by_starts = A.by_starts;
+    by_forks = A.by_forks;
+    not_main = A.not_main;
   }
 
   pub aside-moves : (z : Day) → Moves y z → Aside S r z
@@ -175,14 +175,14 @@ unfolding marked
 aside_new y F q name l = record {
   there = omega arith;
   start = changed_same y.start_of n S;
-  is-mark = λ e. rw (changed_same y.mark n (some name));
-  by-starts = λ x h. cases (eqb x n)
+  is_mark = λ e. rw (changed_same y.mark n (some name));
+  by_starts = λ x h. cases (eqb x n)
       (λ e. rw e)
-      (λ e. rw e (unseen _ (on-bound d fv y.terminal R.linked.bound q x) ∙ sym (unseen _ (older (R.starts-low x)))));
-  by-forks = λ x h m. cases (eqb x n)
+      (λ e. rw e (unseen _ (on-bound d fv y.terminal R.linked.bound q x) ∙ sym (unseen _ (older (R.starts_low x)))));
+  by_forks = λ x h m. cases (eqb x n)
       (λ e. absurd (m (eqb-true x n e)))
-      (λ e. rw e (unseen _ (older (R.starts-low x)) ∙ sym (unseen _ (older (R.forks-low x)))));
-  not-main = rw (ne_eqb 0 n (λ e. omega arith)) (unseen _ (older (R.starts-low 0)));
+      (λ e. rw e (unseen _ (older (R.starts_low x)) ∙ sym (unseen _ (older (R.forks_low x)))));
+  not_main = rw (ne_eqb 0 n (λ e. omega arith)) (unseen _ (older (R.starts_low 0)));
 }
   where
     d : Diagram

@@ -84,7 +84,7 @@ module _ (y : Day) (F : Fine y) (N : Numbered y.diagram y.updates) where
   one-open c t o s e f on =
       let R = S.runs c t e in
       let Q = S.runs o s f in
-      let same : t ≡ s = same_last R.at-end.0 Q.at-end.0 t s (sym R.at-end.1 ∙ ap hold on ∙ Q.at-end.1) in
+      let same : t ≡ s = same_last R.at_end.0 Q.at_end.0 t s (sym R.at_end.1 ∙ ap hold on ∙ Q.at_end.1) in
       sym R.client ∙ ap (λ x. (y.transaction x).client) same ∙ Q.client
 
   module _ (r : ℕ) (o : IsOut y r) where
@@ -92,7 +92,7 @@ module _ (y : Day) (F : Fine y) (N : Numbered y.diagram y.updates) where
     here = S.real.out r o
 
     pub own_held : own d (y.terminal r) ≡ numbers d (flat (events_of y) (hold r))
-    own_held = (view-numbers S.real.linked.ordered (y.terminal r) (S.real.linked.bound r)).0 ∙ ap (numbers d) (S.filed.blocks-ok r here)
+    own_held = (view-numbers S.real.linked.ordered (y.terminal r) (S.real.linked.bound r)).0 ∙ ap (numbers d) (S.filed.blocks_ok r here)
 
     -- a transaction held by r that is open is on r
     on-it : (s : ℕ) → s ∈ hold r → (y.transaction s).closed ≡ none → (y.open_by (y.transaction s).client ≡ some s) × ((y.transaction s).revision ≡ r)
@@ -100,7 +100,7 @@ module _ (y : Day) (F : Fine y) (N : Numbered y.diagram y.updates) where
         let known = S.filed.low r s here i in
         let b = S.unshut s known e in
         let R = S.runs (y.transaction s).client s b in
-        let last : s ∈ hold (y.transaction s).revision = rw R.at-end.1 (Memᴰ.append_right R.at-end.0 (Memᴰ.head refl)) in
+        let last : s ∈ hold (y.transaction s).revision = rw R.at_end.1 (Memᴰ.append_right R.at_end.0 (Memᴰ.head refl)) in
         (b, flat_back-one hold F.layout (order-once y F.layout hold S) (y.transaction s).revision r s (S.real.out _ R.out) here last i)
 
     -- an update of a transaction held by r that is not open
@@ -127,10 +127,10 @@ module _ (y : Day) (F : Fine y) (N : Numbered y.diagram y.updates) where
     closed-busy c t e on v = (w, whole, subst (λ l. Only (OfClosed y) l w) (sym whole) (only-front w (numbers d (events_of y t)) (λ n i. of-closed n init shut i) (open-only c t e)))
       where
         init : List ℕ
-        init = (S.runs c t e).at-end.0
+        init = (S.runs c t e).at_end.0
 
         held : hold r ≡ init ++ (t ∷ [])
-        held = ap hold (sym on) ∙ (S.runs c t e).at-end.1
+        held = ap hold (sym on) ∙ (S.runs c t e).at_end.1
 
         w : List ℕ
         w = numbers d (flat (events_of y) init)
@@ -149,7 +149,7 @@ module _ (y : Day) (F : Fine y) (N : Numbered y.diagram y.updates) where
               λ z.
                   let q = on-it s i z in
                   let R = S.runs (y.transaction s).client s q.0 in
-                  let same = same_last R.at-end.0 init s t (sym R.at-end.1 ∙ ap hold q.1 ∙ held) in
+                  let same = same_last R.at_end.0 init s t (sym R.at_end.1 ∙ ap hold q.1 ∙ held) in
                   let D : Nodup (init ++ (t ∷ [])) = rw held at (flat_back_nodup hold r F.layout here (order-once y F.layout hold S)) in
                   nodup_apart init (t ∷ []) D s j (Memᴰ.head same),
             )

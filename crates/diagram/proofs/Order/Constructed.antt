@@ -14,7 +14,7 @@ use borrow.Author.Tests.{eqb-false, eqb-true, ne_eqb}
 use Rattle.diagram.proofs.Arranged.Advance.{on-bound}
 use Rattle.diagram.proofs.Days.Moves.{CanEnter, CanFork, CanJoin, can-enter, can-fork, can-join, not_last, dropped_out, forked_out, joined_out, joinable}
 use Rattle.diagram.proofs.Days.Sound.{same_some, some≢none}
-use Rattle.diagram.proofs.Graph.Paths.{Ordered, both_older, edge_bounds, leads_path, no-vertex, one_more, path_leads}
+use Rattle.diagram.proofs.Graph.Paths.{Ordered, both_older, edge_bounds, leads_path, no_vertex, one_more, path_leads}
 use Rattle.diagram.proofs.Graph.Tables.{start-leads, start_step, tabulate-newest, tabulate-older}
 use Rattle.diagram.proofs.Order.Growth.{Fine, fine_fresh}
 use Rattle.diagram.proofs.Order.Runs.{along, fine_run, fine_step}
@@ -47,7 +47,7 @@ none_out : {from : Vertex → List ℕ} → ((v : Vertex) (x : ℕ) → Memᴰ x
 none_out f {v} {d} o y e = omega (arith, edge_bounds o (edge_any f e))
 
 terminal_newest : {v : Vertex} {d : Diagram} → Ordered (v ∷ d) → Terminal (v ∷ d) (length d)
-terminal_newest {v} {d} o = record { vertex = omega arith; no-s = none_out s_any o; no-j = none_out j_any o }
+terminal_newest {v} {d} o = record { vertex = omega arith; no_s = none_out s_any o; no_j = none_out j_any o }
 
 -- an older terminal stays one, if the new vertex has no s- or j-edge from it
 keeps_out : {from : Vertex → List ℕ} {v : Vertex} {d : Diagram} {x : ℕ} → (Memᴰ x (from v) → ⊥) → ((y : ℕ) → Edge from x y d → ⊥) → (y : ℕ) → Edge from x y (v ∷ d) → ⊥
@@ -55,7 +55,7 @@ keeps_out n f y (newest e i) = n i
 keeps_out n f y (older e) = f y e
 
 terminal_older : {v : Vertex} {d : Diagram} {x : ℕ} → (Memᴰ x (s_sources v) → ⊥) → (Memᴰ x (j_sources v) → ⊥) → Terminal d x → Terminal (v ∷ d) x
-terminal_older n m T = record { vertex = omega (arith, T.vertex); no-s = keeps_out n T.no-s; no-j = keeps_out m T.no-j }
+terminal_older n m T = record { vertex = omega (arith, T.vertex); no_s = keeps_out n T.no_s; no_j = keeps_out m T.no_j }
 
 pub record Made (y : Day) : Type 0 where
   pub constructed : Constructed y.diagram
@@ -69,7 +69,7 @@ made-fresh = record {
   constructed = rooted;
   starts = λ r h. refl;
   distinct = λ r s h k e. let a : r < 1 = h in let b : s < 1 = k in omega arith;
-  terminals = λ r o. terminal_newest (one_more {v = root} (λ p i. absurd (Memᴰ.not-nil i)) no-vertex);
+  terminals = λ r o. terminal_newest (one_more {v = root} (λ p i. absurd (Memᴰ.not-nil i)) no_vertex);
 }
 
 module _ (y : Day) (F : Fine y) (M : Made y) where
@@ -147,8 +147,8 @@ module _ (y : Day) (F : Fine y) (M : Made y) where
         where
           pick : (eqb s n ≡ true) ⊎ (eqb s n ≡ false) → (eqb t n ≡ true) ⊎ (eqb t n ≡ false) → s ≡ t
           pick (inl p) (inl q) = eqb-true s n p ∙ sym (eqb-true t n q)
-          pick (inl p) (inr q) = let f : suc (length d) ≡ y.start_of t = rw (p, q) at e in absurd (omega (arith, F.sound.real.starts-low t))
-          pick (inr p) (inl q) = let f : y.start_of s ≡ suc (length d) = rw (p, q) at e in absurd (omega (arith, F.sound.real.starts-low s))
+          pick (inl p) (inr q) = let f : suc (length d) ≡ y.start_of t = rw (p, q) at e in absurd (omega (arith, F.sound.real.starts_low t))
+          pick (inr p) (inl q) = let f : y.start_of s ≡ suc (length d) = rw (p, q) at e in absurd (omega (arith, F.sound.real.starts_low s))
           pick (inr p) (inr q) = M.distinct s t (not_last s n h p) (not_last t n k q) (rw (p, q) at e)
 
       starts' : (s : ℕ) → s < n → start_vertex (sv ∷ fv ∷ d) (changed y.terminal r (length d) s) ≡ y.start_of s
@@ -162,38 +162,38 @@ module _ (y : Day) (F : Fine y) (M : Made y) where
   -- the rule of Definition 6 and 01, from the four parts of the check
   rule-holds : (a b : ℕ) → IsOut y b → (b ≡ 0 → ⊥) → leads d (y.fork_of b) (y.terminal a) ≡ true → leads d (y.start_of b) (y.terminal a) ≡ false → Joinable d (y.terminal a) (y.terminal b)
   rule-holds a b o n f g = record {
-    started-by = y.fork_of b;
-    is-fork = F.sound.real.forks b o.0 n;
-    fork-seen = leads_path d (y.fork_of b) (y.terminal a) f;
-    start-unseen = λ p. false≢true (sym g ∙ path_leads ordered (rw (M.starts b o.0) at p));
+    started_by = y.fork_of b;
+    is_fork = F.sound.real.forks b o.0 n;
+    fork_seen = leads_path d (y.fork_of b) (y.terminal a) f;
+    start_unseen = λ p. false≢true (sym g ∙ path_leads ordered (rw (M.starts b o.0) at p));
   }
 
   -- and back: the check refuses nothing that the rule allows
   rule-back : (a b : ℕ) → IsOut y a → IsOut y b → Joinable d (y.terminal a) (y.terminal b) → not_joinable y a b ≡ false
   unfolding not_joinable
-  rule-back a b oa ob J = rw (ne_eqb b 0 not-main, ne_eqb b a not-self, fork-ok) start-ok
+  rule-back a b oa ob J = rw (ne_eqb b 0 not_main, ne_eqb b a not_self, fork-ok) start-ok
     where
-      not-main : b ≡ 0 → ⊥
-      not-main e = some≢none (fork_vertex d (y.terminal b)) J.is-fork (ap (λ z. fork_vertex d (y.terminal z)) e ∙ F.sound.real.main)
+      not_main : b ≡ 0 → ⊥
+      not_main e = some≢none (fork_vertex d (y.terminal b)) J.is_fork (ap (λ z. fork_vertex d (y.terminal z)) e ∙ F.sound.real.main)
 
-      not-self : b ≡ a → ⊥
-      not-self e = J.start-unseen (subst (HasPath d (start_vertex d (y.terminal b))) (ap y.terminal e) (leads_path d _ (y.terminal b) (start-leads ordered (y.terminal b) (low b))))
+      not_self : b ≡ a → ⊥
+      not_self e = J.start_unseen (subst (HasPath d (start_vertex d (y.terminal b))) (ap y.terminal e) (leads_path d _ (y.terminal b) (start-leads ordered (y.terminal b) (low b))))
 
-      is : J.started-by ≡ y.fork_of b
-      is = same_some (sym J.is-fork ∙ F.sound.real.forks b ob.0 not-main)
+      is : J.started_by ≡ y.fork_of b
+      is = same_some (sym J.is_fork ∙ F.sound.real.forks b ob.0 not_main)
 
       fork-ok : leads d (y.fork_of b) (y.terminal a) ≡ true
-      fork-ok = subst (λ z. leads d z (y.terminal a) ≡ true) is (path_leads ordered J.fork-seen)
+      fork-ok = subst (λ z. leads d z (y.terminal a) ≡ true) is (path_leads ordered J.fork_seen)
 
       start-ok : leads d (y.start_of b) (y.terminal a) ≡ false
-      start-ok = cases (leads d (y.start_of b) (y.terminal a)) (λ e. absurd (J.start-unseen (rw (M.starts b ob.0) (leads_path d (y.start_of b) (y.terminal a) e)))) (λ e. e)
+      start-ok = cases (leads d (y.start_of b) (y.terminal a)) (λ e. absurd (J.start_unseen (rw (M.starts b ob.0) (leads_path d (y.start_of b) (y.terminal a) e)))) (λ e. e)
 
   made-join : (a b : ℕ) → CanJoin y a b → Made (join_into y a b)
   made-join a b H = record {
-    constructed = joined M.constructed (M.terminals a H.out-a) (M.terminals b H.out-b) (rule-holds a b H.out-b H.not-main H.fork-seen H.start-unseen);
-    starts = starts-on jv a H.out-a.0 refl;
+    constructed = joined M.constructed (M.terminals a H.out_a) (M.terminals b H.out_b) (rule-holds a b H.out_b H.not_main H.fork_seen H.start_unseen);
+    starts = starts-on jv a H.out_a.0 refl;
     distinct = M.distinct;
-    terminals = λ s o. let p = joined_out y a b s o in terminals-on jv a H.out-a.0 refl two-sources refl s p.0 (apart s b p.0.0 H.out-b.0 p.1);
+    terminals = λ s o. let p = joined_out y a b s o in terminals-on jv a H.out_a.0 refl two-sources refl s p.0 (apart s b p.0.0 H.out_b.0 p.1);
   }
     where
       jv : Vertex

@@ -72,10 +72,10 @@ module _ (y : Day) (F : Fine y) where
 
   join-adds : (a b : ℕ) → CanJoin y a b → OwnAddsUp y → OwnAddsUp (join_into y a b)
   join-adds a b H h =
-      let s = sum-changed y.revisions a f (changed f a (f a + f b)) H.out-a.0 (λ x k n. changed-other f a (f a + f b) x n) in
-      let t = sum-changed y.revisions b (changed f a (f a + f b)) (own_if_out (join_into y a b)) H.out-b.0 others in
+      let s = sum-changed y.revisions a f (changed f a (f a + f b)) H.out_a.0 (λ x k n. changed-other f a (f a + f b) x n) in
+      let t = sum-changed y.revisions b (changed f a (f a + f b)) (own_if_out (join_into y a b)) H.out_b.0 others in
       let at_a = changed_same f a (f a + f b) in
-      let at_b = changed-other f a (f a + f b) b H.not-self in
+      let at_b = changed-other f a (f a + f b) b H.not_self in
       let gone : own_if_out (join_into y a b) b ≡ 0 = rw (eq-eqb b b refl) in
       omega arith
     where
@@ -87,14 +87,14 @@ module _ (y : Day) (F : Fine y) where
           cases (eqb x a)
           (λ e.
           let z = eqb-true x a e in
-          rw (ne_eqb x b n, e, tabulate-newest own_step [] jv y.diagram, z, H.out-a.1, H.out-b.1) (length-append (own y.diagram (y.terminal a)) (own y.diagram (y.terminal b))))
+          rw (ne_eqb x b n, e, tabulate-newest own_step [] jv y.diagram, z, H.out_a.1, H.out_b.1) (length-append (own y.diagram (y.terminal a)) (own y.diagram (y.terminal b))))
           (λ e. rw (ne_eqb x b n, e, older jv x))
 
   -- a mark has nothing of its own
   drop-adds : (r : ℕ) → CanDrop y r → OwnAddsUp y → OwnAddsUp (drop_at y r)
   drop-adds r D h =
       let s = sum-changed y.revisions r f (own_if_out (drop_at y r)) D.out.0 (λ x k n. rw (ne_eqb x r n)) in
-      let had : f r ≡ 0 = rw (D.out.1, unwritten y F.layout F.hold F.sound r D.is-mark D.out) in
+      let had : f r ≡ 0 = rw (D.out.1, unwritten y F.layout F.hold F.sound r D.is_mark D.out) in
       let gone : own_if_out (drop_at y r) r ≡ 0 = rw (eq-eqb r r refl) in
       omega arith
 

@@ -50,8 +50,8 @@ module _ (all : List Step) where
         (λ q. rw q (either (gone-on (fork (y.terminal r)) r (can-fork y r name e).out.1 s (rw q at h)) (λ k. inl (k.0, older k.1)) inr))
     gone-after (Join a b) i e s h =
         cases (eqb s b)
-        (λ q. let z = eqb-true s b q in inl (rw (z, ne_eqb b a (can-join y a b e).not-self) (length y.diagram, newest refl (Memᴰ.head refl))))
-        (λ q. gone-on (join (y.terminal a) (y.terminal b)) a (can-join y a b e).out-a.1 s (rw q at h))
+        (λ q. let z = eqb-true s b q in inl (rw (z, ne_eqb b a (can-join y a b e).not_self) (length y.diagram, newest refl (Memᴰ.head refl))))
+        (λ q. gone-on (join (y.terminal a) (y.terminal b)) a (can-join y a b e).out_a.1 s (rw q at h))
     gone-after (Drop r) i e s h = cases (eqb s r) (λ q. inr (rw (eqb-true s r q) i)) (λ q. G s (rw q at h))
 
 pub gone_run : (ss : List Step) → Accepted ss → (r : ℕ) → (run ss).joined r ≡ true → Ended (run ss).diagram ((run ss).terminal r) ⊎ Memᴰ (Drop r) ss

@@ -54,7 +54,7 @@ busy_idle y F r = (there, back)
   where
     there : busy y r ≡ false → IsIdle y r
     there e (c, t, q, z) =
-        let f = idle-all y r e c (F.sound.runs c t q).client-ok tt in
+        let f = idle-all y r e c (F.sound.runs c t q).client_ok tt in
         let g : eqb (y.transaction t).revision r ≡ false = rw q at f in
         eqb-false _ r g z
 

@@ -49,6 +49,7 @@ numbers_nodup d n (x ∷ l) N D = by (number d x) refl (numbers_nodup d n l N (N
 
 pub good_under : (s : Contents) (l : List ℕ) → Good s l → (x : ℕ) → x ∈ l → (s x).inherited ⊑ blocks s (behind x l)
 unfolding behind
+good_under s [] g x i = elim i [ ]
 good_under s (z ∷ l) g x i = pick (split (eqb z x)) (good_under s l g.1 x)
   where
     pick : (eqb z x ≡ true) ⊎ (eqb z x ≡ false) → (x ∈ l → (s x).inherited ⊑ blocks s (behind x l)) → (s x).inherited ⊑ blocks s (cond (eqb z x) l (behind x l))
@@ -68,14 +69,14 @@ blocks-left s (z ∷ l) x = pick (split (eqb z x)) (blocks-left s l x)
 abbrev pub inherited : Diagram → ℕ → List ℕ
 inherited d x = numbers d (inherited_events d x)
 
-pub inherited-low : {d : Diagram} → Ordered d → (x e : ℕ) → x < length d → e ∈ inherited_events d x → e < length d
-inherited-low {d} o x e h i = path_start ((view_paths o x h).1 e (rw (view-split o x h) (Memᴰ.append_left (own_events d x) i))).1
+pub inherited_low : {d : Diagram} → Ordered d → (x e : ℕ) → x < length d → e ∈ inherited_events d x → e < length d
+inherited_low {d} o x e h i = path_start ((view_paths o x h).1 e (rw (view-split o x h) (Memᴰ.append_left (own_events d x) i))).1
 
 pub inherited_older : (v : Vertex) (d : Diagram) → Ordered d → (x : ℕ) → x < length d → inherited (v ∷ d) x ≡ inherited d x
-inherited_older v d o x h = ap (numbers (v ∷ d)) (tabulate-older inherited_step [] v d x h) ∙ numbers_old v d (inherited_events d x) (λ e i. inherited-low o x e h i)
+inherited_older v d o x h = ap (numbers (v ∷ d)) (tabulate-older inherited_step [] v d x h) ∙ numbers_old v d (inherited_events d x) (λ e i. inherited_low o x e h i)
 
 pub inherited-along : (v : Vertex) (d : Diagram) → Ordered d → (p : ℕ) → p < length d → inherited_step d (inherited_events d) v ≡ inherited_events d p → inherited (v ∷ d) (length d) ≡ inherited d p
-inherited-along v d o p h q = ap (numbers (v ∷ d)) (tabulate-newest inherited_step [] v d ∙ q) ∙ numbers_old v d (inherited_events d p) (λ e i. inherited-low o p e h i)
+inherited-along v d o p h q = ap (numbers (v ∷ d)) (tabulate-newest inherited_step [] v d ∙ q) ∙ numbers_old v d (inherited_events d p) (λ e i. inherited_low o p e h i)
 
 -- a new revision inherits what its forker's terminal lists
 pub inherited-start : (d : Diagram) → Ordered d → (p : ℕ) → p < length d → inherited (start p ∷ d) (length d) ≡ view d p

@@ -29,7 +29,7 @@ pub record Latest (y : Day) (ss : List Step) (c l : ℕ) : Type 0 where
   pub update : Bool
   pub is : ss ≡ before ++ (Event c revision update ∷ rest)
   pub at : l ≡ length (run_from y before).diagram
-  pub no-later : NoEvent c rest
+  pub no_later : NoEvent c rest
 
 -- one step: the last event is as before, or it is this step
 last_step : (y : Day) (s : Step) (c l : ℕ) → (after y s).last_event c ≡ some l
@@ -59,11 +59,11 @@ last_from (s ∷ ss) y c l p = by (last_from ss (after y s) c l p)
   where
     here : NoEvent c ss → ((y.last_event c ≡ some l) × NotEvent c s) ⊎ ((r : ℕ) × (u : Bool) × (s ≡ Event c r u) × (l ≡ length y.diagram)) → ((y.last_event c ≡ some l) × NoEvent c (s ∷ ss)) ⊎ Latest y (s ∷ ss) c l
     here n (inl (q, m)) = inl (q, no_event m n)
-    here n (inr (r, u, e, g)) = inr (record { before = []; rest = ss; revision = r; update = u; is = ap (λ k. k ∷ ss) e; at = g; no-later = n })
+    here n (inr (r, u, e, g)) = inr (record { before = []; rest = ss; revision = r; update = u; is = ap (λ k. k ∷ ss) e; at = g; no_later = n })
 
     by : (((after y s).last_event c ≡ some l) × NoEvent c ss) ⊎ Latest (after y s) ss c l → ((y.last_event c ≡ some l) × NoEvent c (s ∷ ss)) ⊎ Latest y (s ∷ ss) c l
     by (inl (q, n)) = here n (last_step y s c l q)
-    by (inr k) = inr (record { before = s ∷ k.before; rest = k.rest; revision = k.revision; update = k.update; is = ap (◌∷◌ s) k.is; at = k.at; no-later = k.no-later })
+    by (inr k) = inr (record { before = s ∷ k.before; rest = k.rest; revision = k.revision; update = k.update; is = ap (◌∷◌ s) k.is; at = k.at; no_later = k.no_later })
 
 -- a fresh day has no last event
 pub latest : (ss : List Step) (c l : ℕ) → (run ss).last_event c ≡ some l → Latest fresh ss c l
@@ -109,4 +109,4 @@ open_since (s ∷ ss) y c t q n i = by (Memᴰ.cases_cons i) (open_since ss (aft
 pub no_yield_since : (ss : List Step) (c l t : ℕ) (K : Latest fresh ss c l) → (run ss).open_by c ≡ some t → NoYield c K.rest
 unfolding run_from
 no_yield_since ss c l t K q =
-    open_since K.rest (after (run K.before) (Event c K.revision K.update)) c t (sym (ap (λ z. z.open_by c) (ap run K.is ∙ run-append K.before (Event c K.revision K.update ∷ K.rest))) ∙ q) K.no-later
+    open_since K.rest (after (run K.before) (Event c K.revision K.update)) c t (sym (ap (λ z. z.open_by c) (ap run K.is ∙ run-append K.before (Event c K.revision K.update ∷ K.rest))) ∙ q) K.no_later

@@ -120,7 +120,7 @@ module _ (ss : List Step) (A : Accepted ss) where
 
   -- code 4: what is put at the terminal of a revision that was not dropped is put at one that is out
   not-joined : (r : ℕ) → There ss r → Terminal d (y.terminal r) → y.joined r ≡ false
-  not-joined r W T = cases (y.joined r) (λ e. either (gone_run ss A r e) (λ k. absurd (T.no-j k.0 k.1)) (λ i. absurd (W.1 i))) (λ e. e)
+  not-joined r W T = cases (y.joined r) (λ e. either (gone_run ss A r e) (λ k. absurd (T.no_j k.0 k.1)) (λ i. absurd (W.1 i))) (λ e. e)
 
   -- and what is out was not dropped
   is-there : (r : ℕ) → IsOut y r → There ss r
@@ -148,10 +148,10 @@ module _ (ss : List Step) (A : Accepted ss) where
     unfolding run
     still c t q n m =
         let l = y.terminal (y.transaction t).revision in
-        let K = latest ss c l (F.sound.runs c t q).last-is in
-        let no_event : NoEvent c (K.rest ++ (s ∷ [])) = λ r u i. either (Memᴰ.append_cases K.rest i) (λ j. K.no-later r u j) (λ j. n r u j) in
+        let K = latest ss c l (F.sound.runs c t q).last_is in
+        let no_event : NoEvent c (K.rest ++ (s ∷ [])) = λ r u i. either (Memᴰ.append_cases K.rest i) (λ j. K.no_later r u j) (λ j. n r u j) in
         let no-yield : NoYield c (K.rest ++ (s ∷ [])) = λ i. either (Memᴰ.append_cases K.rest i) (no_yield_since ss c l t K q) m in
-        let T = L.transacted.last-open K.before (K.rest ++ (s ∷ [])) c K.revision K.update (split K s) no_event no-yield in
+        let T = L.transacted.last_open K.before (K.rest ++ (s ∷ [])) c K.revision K.update (split K s) no_event no-yield in
         subst (λ z. Terminal z.diagram l) (run_step ss s) (subst (Terminal (run (ss ++ (s ∷ []))).diagram) (sym K.at) T)
 
     -- code 7: a step that takes a terminal away leaves no transaction of others open there
@@ -172,8 +172,8 @@ module _ (ss : List Step) (A : Accepted ss) where
     unfolding after
     follows t q =
         let l = y.terminal (y.transaction t).revision in
-        let K = latest ss c l (F.sound.runs c t q).last-is in
-        let E = L.transacted.successive K.before K.rest [] c K.revision r K.update u (split K (Event c r u)) K.no-later (no_yield_since ss c l t K q) in
+        let K = latest ss c l (F.sound.runs c t q).last_is in
+        let E = L.transacted.successive K.before K.rest [] c K.revision r K.update u (split K (Event c r u)) K.no_later (no_yield_since ss c l t K q) in
         Memᴰ.eq_of_singleton (s_edge_in ordered refl (moved (λ e x z. Edge s_sources x z e) K (Event c r u) E))
 
     -- code 6
@@ -197,7 +197,7 @@ module _ (ss : List Step) (A : Accepted ss) where
         each o h =
             cases (eqb o c)
             (λ e. rw e)
-            (λ e. rw e (idle (Event c r u) L r (λ T. T.no-s (length d) (newest refl (Memᴰ.head refl))) o (by-other e) no-yield))
+            (λ e. rw e (idle (Event c r u) L r (λ T. T.no_s (length d) (newest refl (Memᴰ.head refl))) o (by-other e) no-yield))
           where
             by-other : eqb o c ≡ false → NoEvent o (Event c r u ∷ [])
             by-other e q w i =
@@ -215,7 +215,7 @@ module _ (ss : List Step) (A : Accepted ss) where
     reached : (l : ℕ) → l < length d → (K : Latest fresh ss c l) → Memᴰ (Yield c) K.rest → leads d l (y.terminal r) ≡ true
     unfolding after
     reached l h K i =
-        let P = L.transacted.in-sequence K.before K.rest [] c K.revision r K.update u (split K (Event c r u)) i in
+        let P = L.transacted.in_sequence K.before K.rest [] c K.revision r K.update u (split K (Event c r u)) i in
         let n = newer (moved (λ e x z. HasPath e x z) K (Event c r u) P) in
         subst (λ z. leads d l z ≡ true) (Memᴰ.eq_of_singleton n.1) n.2
       where
@@ -232,7 +232,7 @@ module _ (ss : List Step) (A : Accepted ss) where
         by (some l) q = cases (leads d l (y.terminal r)) (λ e. rw e) (λ e. absurd (never e))
           where
             low : l < length d
-            low = F.sound.sessions.last-low c l q
+            low = F.sound.sessions.last_low c l q
 
             K : Latest fresh ss c l
             K = latest ss c l q
@@ -240,7 +240,7 @@ module _ (ss : List Step) (A : Accepted ss) where
             never : leads d l (y.terminal r) ≡ false → ⊥
             never e =
                 let t = has-open ss K.before K.rest A c K.revision K.update K.is (λ i. false≢true (sym e ∙ reached l low K i)) in
-                let g : l ≡ y.terminal r = same_some (sym q ∙ (F.sound.runs c t.0 t.1).last-is) ∙ follows t.0 t.1 in
+                let g : l ≡ y.terminal r = same_some (sym q ∙ (F.sound.runs c t.0 t.1).last_is) ∙ follows t.0 t.1 in
                 false≢true (sym e ∙ subst (λ z. leads d l z ≡ true) g (leads-self d l low))
 
     accept-lawful-event : Within ss (Event c r u) → accepted y (Event c r u) ≡ true
@@ -254,7 +254,7 @@ module _ (ss : List Step) (A : Accepted ss) where
   accept-lawful-fork r name L W =
       accept-fork y r name (is-given y r W.0.0) (not-joined r W.0 (forked_at (made (Fork r name) L)))
       (not-busy (Fork r name) L (λ o q w e. let z : ◌≡◌ {A = ℕ} 0 1 = cc in omega arith) (λ o e. let z : ◌≡◌ {A = ℕ} 0 1 = cc in omega arith)
-      r (λ T. T.no-s (length d) (older (newest refl (Memᴰ.head refl)))))
+      r (λ T. T.no_s (length d) (older (newest refl (Memᴰ.head refl)))))
       (ruled_out (none_left y) (λ q. let l = ltb-false _ revision_limit (not-true _ q) in let k = W.1 in omega arith))
       ((good_name ss K name).1 W.2)
 
@@ -266,8 +266,8 @@ module _ (ss : List Step) (A : Accepted ss) where
       let ob = not-joined b W.1 m.1 in
       let free = not-busy (Join a b) L (λ o q w e. let z : ◌≡◌ {A = ℕ} 0 1 = cc in omega arith) (λ o e. let z : ◌≡◌ {A = ℕ} 0 1 = cc in omega arith) in
       accept-join y a b (is-given y a W.0.0) (is-given y b W.1.0) oa ob ((not-marked ss a).1 W.2) ((not-marked ss b).1 W.3)
-      (free a (λ T. T.no-s (length d) (newest refl (Memᴰ.head refl))))
-      (free b (λ T. T.no-j (length d) (newest refl (Memᴰ.head refl))))
+      (free a (λ T. T.no_s (length d) (newest refl (Memᴰ.head refl))))
+      (free b (λ T. T.no_j (length d) (newest refl (Memᴰ.head refl))))
       ((joinable_iff ss A a b (W.0.0, oa) (W.1.0, ob)).1 m.2)
 
   -- a mark is out
@@ -293,13 +293,13 @@ module _ (ss : List Step) (A : Accepted ss) where
       let f : log_full y ≡ false = rw q at (event-tests y c r u e).6 in
       let l = ltb-true _ update_limit (not-false _ f) in
       omega arith in
-      (E.client-ok, is-there r E.out, (not-marked ss r).0 E.unmarked, full)
+      (E.client_ok, is-there r E.out, (not-marked ss r).0 E.unmarked, full)
   within (Yield c) e = can-yield y c e
-  within (Fork r name) e = let C = can-fork y r name e in (is-there r C.out, C.room, (good_name ss K name).0 C.name-ok)
+  within (Fork r name) e = let C = can-fork y r name e in (is-there r C.out, C.room, (good_name ss K name).0 C.name_ok)
   within (Join a b) e =
       let H = can-join y a b e in
-      (is-there a H.out-a, is-there b H.out-b, (not-marked ss a).0 H.unmarked-a, (not-marked ss b).0 H.unmarked-b)
-  within (Drop r) e = has_mark ss r (can-drop y r e).is-mark
+      (is-there a H.out_a, is-there b H.out_b, (not-marked ss a).0 H.unmarked_a, (not-marked ss b).0 H.unmarked_b)
+  within (Drop r) e = has_mark ss r (can-drop y r e).is_mark
 
   allowed : (s : Step) → accepted y s ≡ true → MayFollow ss s
   allowed s e = let B = accepted-more ss s A e in (within s e, record { constructed = (made-run (ss ++ (s ∷ [])) B).constructed; transacted = points (ss ++ (s ∷ [])) B })

@@ -31,7 +31,7 @@ use Rattle.diagram.proofs.Order.Growth.{Fine, view_stays}
 use Rattle.diagram.proofs.Order.Lawful.{taken_exactly}
 use Rattle.diagram.proofs.Order.Reuse.{stays_from}
 use Rattle.diagram.proofs.Order.Runs.{accepted_first, accepted_rest, fine_run, marks-run, older_from, run-append}
-use Rattle.diagram.proofs.Order.Since.{own-updates}
+use Rattle.diagram.proofs.Order.Since.{own_updates}
 
 module _ (ss : List Step) (A : Accepted ss) where
   abbrev y : Day
@@ -50,7 +50,7 @@ module _ (ss : List Step) (A : Accepted ss) where
   nothing-own r e = unwritten y F.layout F.hold F.sound r e (M.out r e)
 
   still : (r : ℕ) → marked y r ≡ true → shown_at y r ≡ view y.diagram (y.start_of r)
-  still r e = (own-updates ss A r (M.out r e)).listed ∙ ap (λ t. view y.diagram (y.start_of r) ++ t) (nothing-own r e) ∙ append-nil _
+  still r e = (own_updates ss A r (M.out r e)).listed ∙ ap (λ t. view y.diagram (y.start_of r) ++ t) (nothing-own r e) ∙ append-nil _
 
   -- of revision b, which is not the main one, the fork vertex is the day's
   fork-is : (b f : ℕ) → b < y.revisions → fork_vertex y.diagram (y.terminal b) ≡ some f → f ≡ y.fork_of b
@@ -70,17 +70,17 @@ module _ (ss : List Step) (A : Accepted ss) where
     test : (x : ℕ) → Sees y x (y.start_of r) → leads y.diagram (y.start_of r) x ≡ true
     test x = path_leads R.linked.ordered
 
-    by-starts : (x : ℕ) → x < y.revisions → Sees y (y.terminal x) (y.start_of r) ↔ FromMark y r x
-    by-starts x l = let e = I.by-starts x l in (λ p. path _ (sym e ∙ test _ p), λ p. path _ (e ∙ test _ p))
+    by_starts : (x : ℕ) → x < y.revisions → Sees y (y.terminal x) (y.start_of r) ↔ FromMark y r x
+    by_starts x l = let e = I.by_starts x l in (λ p. path _ (sym e ∙ test _ p), λ p. path _ (e ∙ test _ p))
 
     among : (a b : ℕ) → a < y.revisions → b < y.revisions → FromMark y r b → (b ≡ r → ⊥) → Joinable y.diagram (y.terminal a) (y.terminal b) → FromMark y r a
     among a b la lb p n J =
-        let at_Fork = path (y.fork_of b) (sym (I.by-forks b lb n) ∙ test _ p) in
-        let seen = subst (λ f. HasPath y.diagram f (y.terminal a)) (fork-is b J.started-by lb J.is-fork) J.fork-seen in
-        (by-starts a la).0 (path_trans at_Fork seen)
+        let at_Fork = path (y.fork_of b) (sym (I.by_forks b lb n) ∙ test _ p) in
+        let seen = subst (λ f. HasPath y.diagram f (y.terminal a)) (fork-is b J.started_by lb J.is_fork) J.fork_seen in
+        (by_starts a la).0 (path_trans at_Fork seen)
 
-    never-main : (b : ℕ) → b < y.revisions → FromMark y r b → (b ≡ r → ⊥) → Joinable y.diagram (y.terminal 0) (y.terminal b) → ⊥
-    never-main b l p n J = false≢true (sym I.not-main ∙ test _ (among 0 b (omega (arith, I.there)) l p n J))
+    never_main : (b : ℕ) → b < y.revisions → FromMark y r b → (b ≡ r → ⊥) → Joinable y.diagram (y.terminal 0) (y.terminal b) → ⊥
+    never_main b l p n J = false≢true (sym I.not_main ∙ test _ (among 0 b (omega (arith, I.there)) l p n J))
 
 still_later : (ss : List Step) → Accepted ss → (before rest : List Step) (r : ℕ) → ss ≡ before ++ rest
     → marked (run before) r ≡ true → marked (run ss) r ≡ true → shown_at (run ss) r ≡ shown_at (run before) r
@@ -92,7 +92,7 @@ still_later ss A before rest r q m n =
     let o = (marks-run before first).out r m in
     let start = ap (λ z. z.start_of r) ends ∙ (stays_from rest (run before)).start r o.0 in
     let shown = ap (λ z. view z.diagram ((run before).start_of r)) ends
-    ∙ view_stays (older_from rest (run before) (accepted_rest before rest B)) ((run before).start_of r) (F.sound.real.starts-low r) in
+    ∙ view_stays (older_from rest (run before) (accepted_rest before rest B)) ((run before).start_of r) (F.sound.real.starts_low r) in
     still ss A r n ∙ ap (view (run ss).diagram) start ∙ shown ∙ sym (still before first r m)
 
 pub by_marks : (ss : List Step) → Accepted ss → ByMarks ss
@@ -107,7 +107,7 @@ by_marks ss A =
       idle = λ r e b. none_open (run ss) F.layout F.hold F.sound r e b.0 b.1 b.2 b.3;
       still = still ss A;
       still_later = still_later ss A;
-      by-starts = λ r x K. by-starts ss A r K x;
+      by_starts = λ r x K. by_starts ss A r K x;
       among = λ r a b K. among ss A r K a b;
-      never-main = λ r b K. never-main ss A r K b;
+      never_main = λ r b K. never_main ss A r K b;
     }

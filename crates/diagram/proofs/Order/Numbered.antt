@@ -13,7 +13,7 @@ use Rattle.blocks.proofs.Joining.{low}
 use Rattle.diagram.proofs.Days.Moves.{Moves, drops_of, enters, forks_at, joins_into, yields}
 use Rattle.diagram.proofs.Days.Sound.{some≢none}
 use Rattle.diagram.proofs.Graph.Tables.{number_step, tabulate-newest, tabulate-older}
-use Rattle.diagram.specs.Arbitration.{IsEvent, Numbered, newest-is, older-is}
+use Rattle.diagram.specs.Arbitration.{IsEvent, Numbered, newest_is, older_is}
 use Rattle.diagram.specs.Day.{Day}
 use Rattle.diagram.specs.Diagram.{Diagram, Vertex, event, fork, join, root, start}
 use Rattle.diagram.specs.Effects.{number, tabulate}
@@ -116,9 +116,9 @@ number_event [] e k q = absurd (some≢none none q refl)
 number_event (v ∷ d) e k q = by v q (number_new v d e) (number_event d e k)
   where
     by : (v : Vertex) → number (v ∷ d) e ≡ some k → ((e ≡ length d) × (number (v ∷ d) e ≡ number_step d (number d) v)) ⊎ (number (v ∷ d) e ≡ number d e) → (number d e ≡ some k → IsEvent e d) → IsEvent e (v ∷ d)
-    by v q (inr a) f = older-is (f (sym a ∙ q))
+    by v q (inr a) f = older_is (f (sym a ∙ q))
     by root q (inl a) f = absurd (some≢none (number (root ∷ d) e) q a.1)
     by (start p) q (inl a) f = absurd (some≢none (number (start p ∷ d) e) q a.1)
-    by (event p c u) q (inl a) f = newest-is a.0
+    by (event p c u) q (inl a) f = newest_is a.0
     by (fork p) q (inl a) f = absurd (some≢none (number (fork p ∷ d) e) q a.1)
     by (join p w) q (inl a) f = absurd (some≢none (number (join p w ∷ d) e) q a.1)

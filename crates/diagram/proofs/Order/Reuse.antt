@@ -16,7 +16,7 @@ use Rattle.diagram.specs.Numbering.{next}
 use Rattle.diagram.specs.Day.{Day, fresh, next_number, number_of, out_count}
 use Rattle.diagram.specs.Steps.{Drop, Event, Fork, Join, Step, Yield, after, fork_at, run, run_from, yield}
 use Rattle.diagram.specs.Accepted.{Accepted, accepted}
-use Rattle.diagram.specs.Reuse.{Bears, ByNumbers, Takes, Used, longest-ago, never-used, waiting}
+use Rattle.diagram.specs.Reuse.{Bears, ByNumbers, Takes, Used, longest_ago, never_used, waiting}
 use Rattle.diagram.proofs.Days.Found.{found, found-means, searched}
 use Rattle.diagram.proofs.Days.Moves.{can-fork}
 use Rattle.diagram.proofs.Days.Naming.{Named, latest_bore, latest_last, meant-low, meant-number, named-fresh, number_new}
@@ -64,9 +64,9 @@ latest_some of n zero r l e q = omega arith
 latest_some of n (suc m) r l e q = cases (eqb (of m) n) (λ t. let z : some m ≡ none = rw t at q in some≢none none (sym z) refl)
     (λ t. latest_some of n m r (let d : r ≡ m → ⊥ = λ z. eqb-false (of m) n t (ap of (sym z) ∙ e) in omega arith) e (rw t at q))
 
-at-start : (ss : List Step) → number_of (run ss) 0 ≡ 0
+at_start : (ss : List Step) → number_of (run ss) 0 ≡ 0
 unfolding run
-at-start ss = (stays_from ss fresh).number 0 (omega arith)
+at_start ss = (stays_from ss fresh).number 0 (omega arith)
 
 pub waits_run : (ss : List Step) → Accepted ss → (run ss).numbering.freed ≡ waiting ss
 unfolding run
@@ -86,13 +86,13 @@ module _ (ss : List Step) (A : Accepted ss) where
   pub takes : (r : ℕ) (name : Option Name) → accepted y (Fork r name) ≡ true → Takes ss (next_number y)
   unfolding next_number
   takes r name a = cases (ltb y.numbering.given revision_limit)
-      (λ e. let l = ltb-true y.numbering.given revision_limit e in rw e (never-used l (λ u. let k = N.low u.0 u.1 in let z = u.2 in omega arith) used))
+      (λ e. let l = ltb-true y.numbering.given revision_limit e in rw e (never_used l (λ u. let k = N.low u.0 u.1 in let z = u.2 in omega arith) used))
       (λ e. let f = first_waits y N r name (can-fork y r name a) e in let l = ltb-false y.numbering.given revision_limit e in
-      rw (e, f.2) (longest-ago (λ m k. used m (omega arith)) f.1 (sym (waits_run ss A) ∙ f.2)))
+      rw (e, f.2) (longest_ago (λ m k. used m (omega arith)) f.1 (sym (waits_run ss A) ∙ f.2)))
 
   bears : (n r : ℕ) → found y n ≡ some r → Bears y r n
   unfolding found
-  bears n r e = record { bore = latest_bore y.numbering.of n y.revisions r e; no-later = λ s l k q. let m = latest_last y.numbering.of n y.revisions s r e k q in omega arith }
+  bears n r e = record { bore = latest_bore y.numbering.of n y.revisions r e; no_later = λ s l k q. let m = latest_last y.numbering.of n y.revisions s r e k q in omega arith }
 
   borne : (n r : ℕ) → Bears y r n → found y n ≡ some r
   unfolding found
@@ -103,7 +103,7 @@ module _ (ss : List Step) (A : Accepted ss) where
       by (some s) e =
           let b = latest_bore y.numbering.of n y.revisions s e in
           let l = latest_last y.numbering.of n y.revisions r s e B.bore.0 B.bore.1 in
-          cases (ltb r s) (λ t. absurd (B.no-later s (ltb-true r s t) b.0 b.1)) (λ t. ap some (let k = ltb-false r s t in omega arith))
+          cases (ltb r s) (λ t. absurd (B.no_later s (ltb-true r s t) b.0 b.1)) (λ t. ap some (let k = ltb-false r s t in omega arith))
 
   few : out_count y ≤ revision_limit
   few = let a = N.counted in let b = N.few in omega arith
@@ -124,7 +124,7 @@ forked ss A before rest r name q =
 
 pub by_numbers : (ss : List Step) → Accepted ss → ByNumbers ss
 by_numbers ss A = record {
-  main = at-start ss;
+  main = at_start ss;
   forked = forked ss A;
   means = λ n r. (λ m. bears ss A n r ((found-means (run ss) n r).1 m), λ B. (found-means (run ss) n r).0 (borne ss A n r B));
   out = λ r o. (found-means (run ss) _ r).0 ((N ss A).means r o);

@@ -73,7 +73,7 @@ module _ (ss : List Step) (A : Accepted ss) (x : ℕ) (h : x < length (run ss).d
           (e.0, entry_is (number d e.0) k e.2, ((view_paths L.ordered x h).1 e.0 e.1).1)
 
       back : (e : ℕ) × (number d e ≡ some k) × HasPath d e x → k ∈ view d x
-      back (e, q, p) = rw (view-numbers L.ordered x h).1 (flat_in (λ e. entry (number d e)) e k (view_events d x) ((visible L.ordered L.joins-ok e x h).1 (number_event d e k q, p)) (rw q (Memᴰ.head refl)))
+      back (e, q, p) = rw (view-numbers L.ordered x h).1 (flat_in (λ e. entry (number d e)) e k (view_events d x) ((visible L.ordered L.joins_ok e x h).1 (number_event d e k q, p)) (rw q (Memᴰ.head refl)))
 
   events-once : Nodup (view_events d x)
   events-once = Nodup.sublist ∣ held-order (fine_run ss A).layout (contents d (run ss).terminal) (may d (run ss).terminal (run ss).start_of) (view_events d x) L.inv (L.past x h) ∣₁ L.inv.once
@@ -127,8 +127,8 @@ seen_since ss before rest A place x z h l us e = record { listed = e; exactly = 
         (λ i. i)
 
 -- so are a revision's own updates
-pub own-updates : (ss : List Step) → Accepted ss → (r : ℕ) → IsOut (run ss) r → OwnUpdates (run ss) r (own (run ss).diagram ((run ss).terminal r))
-own-updates ss A r out =
+pub own_updates : (ss : List Step) → Accepted ss → (r : ℕ) → IsOut (run ss) r → OwnUpdates (run ss) r (own (run ss).diagram ((run ss).terminal r))
+own_updates ss A r out =
     let L = (fine_run ss A).sound.real.linked in
     let at = (made-run ss A).starts r out.0 in
     let low = L.bound r in

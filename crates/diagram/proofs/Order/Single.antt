@@ -1,4 +1,4 @@
--- 02, U8: a sync's fork is accepted where its join is; and on single-main days what was on a revision before its sync is visible to every revision
+-- 02, U8: a sync's fork is accepted where its join is; and on single_main days what was on a revision before its sync is visible to every revision
 -- that starts with the sync or later.
 use Prim.Native.Nat.{◌<◌, ◌≤◌, ℕ}
 use mathlib.Core.Bool.{Bool, true, false}
@@ -25,7 +25,7 @@ use Rattle.diagram.specs.Accepted.{Accepted, AcceptedFrom, accepted}
 use Rattle.diagram.specs.Single.{VisibleTo}
 use Rattle.diagram.proofs.Graph.Paths.{path_bound, path_older, path_trans}
 use Rattle.diagram.proofs.Days.Accepting.{accept-fork, join-tests}
-use Rattle.diagram.proofs.Days.Dropping.{not-main}
+use Rattle.diagram.proofs.Days.Dropping.{not_main}
 use Rattle.diagram.proofs.Days.Moves.{Moves, can-enter, can-join, drops_of, enters, forks_at, joins_into, not_last, step-moves, yields}
 use Rattle.diagram.proofs.Days.Naming.{join-count}
 use Rattle.diagram.proofs.Order.Growth.{Fine, Older, fine_fresh, next, older_moves, same}
@@ -33,7 +33,7 @@ use Rattle.diagram.proofs.Order.Runs.{accepted_first, accepted_rest, along, fine
 use Rattle.diagram.proofs.Order.Rules.{by_rules}
 use Rattle.diagram.proofs.Order.Since.{seen}
 
--- on a single-main day "boxes only ever come from the main box and go back to it". The choice bars steps and changes none, so that the day of
+-- on a single_main day "boxes only ever come from the main box and go back to it". The choice bars steps and changes none, so that the day of
 -- revisions does not keep it: the plain day does. U9: "Single-main days have no marks"
 abbrev pub OnLine : Step → Type 0
 OnLine (Event c r u) = Unit {0}
@@ -88,9 +88,9 @@ main_moves y z F o (yields c l) = by (y.open_by c)
     by none = o
     by (some t) = o
 main_moves y z F o (forks_at r name C) = (omega (arith, o.0), changed-other y.joined y.revisions false 0 (λ e. omega (arith, o.0)) ∙ o.1)
-main_moves y z F o (joins_into a b H) = (o.0, changed-other y.joined b true 0 (λ e. H.not-main (sym e)) ∙ o.1)
+main_moves y z F o (joins_into a b H) = (o.0, changed-other y.joined b true 0 (λ e. H.not_main (sym e)) ∙ o.1)
 main_moves y z F o (drops_of r D) =
-    (o.0, changed-other y.joined r true 0 (λ e. not-main y F.layout F.hold F.sound r D.is-mark (sym e)) ∙ o.1)
+    (o.0, changed-other y.joined r true 0 (λ e. not_main y F.layout F.hold F.sound r D.is_mark (sym e)) ∙ o.1)
 
 pub main-run : (ss : List Step) → Accepted ss → IsOut (run ss) 0
 unfolding run
@@ -119,8 +119,8 @@ syncs_go_on ss A b e =
     let a = N.counted in
     let f = N.few in
     accept-fork (join_into y 0 b) 0 none
-    (rw (lt-ltb 0 y.revisions H.out-a.0))
-    (rw (ne_eqb 0 b (λ q. H.not-main (sym q))) t.0)
+    (rw (lt-ltb 0 y.revisions H.out_a.0))
+    (rw (ne_eqb 0 b (λ q. H.not_main (sym q))) t.0)
     (still_idle y b t.4)
     (rw (lt-ltb (out_count (join_into y 0 b)) revision_limit (omega arith)))
     refl
@@ -219,7 +219,7 @@ from_sync y b e B rest A S =
     let H = can-join y 0 b A.0 in
     let main : Seen e 0 (join_into y 0 b) = record {
       fine = fine_step y (Join 0 b) A.0 B.fine;
-      there = H.out-a.0;
+      there = H.out_a.0;
       sees = go (path_older B.sees) (newest refl (Memᴰ.tail (Memᴰ.head refl)));
     } in
     from_then (Fork 0 none ∷ rest) (join_into y 0 b) A.1 S.1 e y.revisions (record { main = main; starts = λ r l h. absurd (omega arith) })
@@ -231,8 +231,8 @@ visible_to ss A r e l p =
     let R = by_rules ss A in
     let x = (run ss).terminal r in
     record {
-      at-start = p;
-      at-end = subst (λ z. HasPath (run ss).diagram z x) (R.starts r l) (trail_path (R.composed x (L.bound r)).from_start);
+      at_start = p;
+      at_end = subst (λ z. HasPath (run ss).diagram z x) (R.starts r l) (trail_path (R.composed x (L.bound r)).from_start);
       shown = λ x n q i. (seen ss A x (path_bound L.ordered q) n).1 (e, i, path_trans p q);
     }
 

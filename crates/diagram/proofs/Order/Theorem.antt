@@ -24,7 +24,7 @@ use Rattle.diagram.proofs.Order.Inherited.{entry_is, numbers_nodup, numbers_sub}
 use Rattle.diagram.proofs.Order.Numbered.{number_event}
 use Rattle.diagram.proofs.Order.Runs.{accepted_first, accepted_rest, fine_run, fine_step, numbered-run, older_from, run-append, run_step}
 use Rattle.diagram.specs.Arbitration.{Explains, Extends, IsEvent, Numbered, Sees, SeesTransaction, Shows, WholeAt, events_of}
-use Rattle.diagram.specs.Arbitration.{newest-is, older-is}
+use Rattle.diagram.specs.Arbitration.{newest_is, older_is}
 use Rattle.diagram.specs.Construction.{entered}
 use Rattle.diagram.specs.Day.{Day, IsIdle, IsOut, fresh}
 use Rattle.diagram.specs.Diagram.{Diagram, event}
@@ -110,41 +110,41 @@ module _ (ss : List Step) (A : Accepted ss) (F : Fine (run ss)) where
   in-event : (x t : ℕ) → t < y.transactions → x ∈ events_of y t → IsEvent x d
   in-event x t h i =
       let p = S.filed.all t h in
-      let j : x ∈ own_events d (y.terminal p.0) = rw (S.filed.blocks-ok p.0 p.1) (flat_in (events_of y) t x (hold p.0) p.2 i) in
+      let j : x ∈ own_events d (y.terminal p.0) = rw (S.filed.blocks_ok p.0 p.1) (flat_in (events_of y) t x (hold p.0) p.2 i) in
       ((view_paths L.ordered (y.terminal p.0) (L.bound p.0)).0 x j).0
 
   shows : (x : ℕ) → x < length d → Shows y order x (view d x)
   shows x h = record {
     seen = view_events d x;
-    exactly = only (Sees y x) (in_order x h) (flat-once y layout hold S) (λ e i. ((visible L.ordered L.joins-ok e x h).0 i).1) back;
+    exactly = only (Sees y x) (in_order x h) (flat-once y layout hold S) (λ e i. ((visible L.ordered L.joins_ok e x h).0 i).1) back;
     are = (view-numbers L.ordered x h).1;
   }
     where
       back : (e : ℕ) → e ∈ flat (events_of y) order → Sees y x e → e ∈ view_events d x
-      back e i p = let t = flat_from (events_of y) e order i in (visible L.ordered L.joins-ok e x h).1 (in-event e t.0 ((complete t.0).0 t.1) t.2, p)
+      back e i p = let t = flat_from (events_of y) e order i in (visible L.ordered L.joins_ok e x h).1 (in-event e t.0 ((complete t.0).0 t.1) t.2, p)
 
   -- an event stands last of what it sees
-  last_of : {d : Diagram} (e f : ℕ) → IsEvent f d → (e ≡ f → ⊥) → e ∈ view_events d f → (e ∷ f ∷ []) ⊑ view_events d f
-  last_of e f (newest-is {p} {c} {u = k} {d} q) n i =
+  last_of : (e f : ℕ) {d : Diagram} → IsEvent f d → (e ≡ f → ⊥) → e ∈ view_events d f → (e ∷ f ∷ []) ⊑ view_events d f
+  last_of e f (newest_is {p} {c} {u = k} {d} q) n i =
       let w : view_events (event p c k ∷ d) f ≡ view_events d p ++ (length d ∷ []) = ap (view_events (event p c k ∷ d)) q ∙ tabulate-newest view_event_step [] (event p c k) d in
       rw w (Sublistᴰ.append (∈-⊑ e (view_events d p) (either (Memᴰ.append_cases (view_events d p) (rw w at i)) (λ j. j) (λ j. absurd (n (Memᴰ.eq_of_singleton j ∙ sym q))))) (Sublistᴰ.cons-cons q (Sublistᴰ.refl [])))
-  last_of e f (older-is {v} {d} u) n i =
+  last_of e f (older_is {v} {d} u) n i =
       let w = tabulate-older view_event_step [] v d f (self u).0 in
       rw w (last_of e f u n (rw w at i))
 
-  after-seen : (s t : ℕ) → s < y.transactions → t < y.transactions → (s ≡ t → ⊥) → SeesTransaction y t s → (s ∷ t ∷ []) ⊑ order
-  after-seen s t hs ht n T =
+  after_seen : (s t : ℕ) → s < y.transactions → t < y.transactions → (s ≡ t → ⊥) → SeesTransaction y t s → (s ∷ t ∷ []) ⊑ order
+  after_seen s t hs ht n T =
       let fe : IsEvent T.later d = in-event T.later t ht T.later_in in
-      let ee : IsEvent T.earlier d = in-event T.earlier s hs T.earlier-in in
+      let ee : IsEvent T.earlier d = in-event T.earlier s hs T.earlier_in in
       let low : T.later < length d = (self fe).0 in
-      let i : T.earlier ∈ view_events d T.later = (visible L.ordered L.joins-ok T.earlier T.later low).1 (ee, T.path) in
-      flat_pair (events_of y) order s t T.earlier T.later (flat-once y layout hold S) ((complete s).1 hs) ((complete t).1 ht) n T.earlier-in T.later_in (Sublistᴰ.trans (last_of T.earlier T.later fe differ i) (in_order T.later low))
+      let i : T.earlier ∈ view_events d T.later = (visible L.ordered L.joins_ok T.earlier T.later low).1 (ee, T.path) in
+      flat_pair (events_of y) order s t T.earlier T.later (flat-once y layout hold S) ((complete s).1 hs) ((complete t).1 ht) n T.earlier_in T.later_in (Sublistᴰ.trans (last_of T.earlier T.later fe differ i) (in_order T.later low))
     where
       differ : T.earlier ≡ T.later → ⊥
       differ e = n (both (S.filed.all s hs) (S.filed.all t ht))
         where
           both : (x : ℕ) × (x ∈ layout) × (s ∈ hold x) → (x : ℕ) × (x ∈ layout) × (t ∈ hold x) → s ≡ t
-          both a b = same_block (events_of y) order (flat-once y layout hold S) s t T.later ((complete s).1 hs) ((complete t).1 ht) (subst (λ z. z ∈ events_of y s) e T.earlier-in) T.later_in
+          both a b = same_block (events_of y) order (flat-once y layout hold S) s t T.later ((complete s).1 hs) ((complete t).1 ht) (subst (λ z. z ∈ events_of y s) e T.earlier_in) T.later_in
 
   -- what a vertex showed at any time of the run
   ever : (before rest : List Step) → ss ≡ before ++ rest → (x : ℕ) → x < length (run before).diagram → Shows y order x (view (run before).diagram x)
@@ -169,8 +169,8 @@ module _ (ss : List Step) (A : Accepted ss) (F : Fine (run ss)) where
   numbered : Numbered d y.updates
   numbered = numbered-run ss A
 
-  updates-all : (n : ℕ) → (n ∈ numbers d (flat (events_of y) order)) ↔ (n < y.updates)
-  updates-all n = (
+  updates_all : (n : ℕ) → (n ∈ numbers d (flat (events_of y) order)) ↔ (n < y.updates)
+  updates_all n = (
     λ i. let e = flat_from (λ e. entry (number d e)) n (flat (events_of y) order) i in numbered.low e.0 n (entry_is (number d e.0) n e.2),
     λ h.
         let e = numbered.all n h in
@@ -187,9 +187,9 @@ module _ (ss : List Step) (A : Accepted ss) (F : Fine (run ss)) where
       entered = λ x. (event-in x, λ p. in-event x p.0 p.1 p.2);
       one_each = flat-once y layout hold S;
       numbered = numbered;
-      updates-once = numbers_nodup d y.updates (flat (events_of y) order) numbered (flat-once y layout hold S);
-      updates-all = updates-all;
-      after-seen = after-seen;
+      updates_once = numbers_nodup d y.updates (flat (events_of y) order) numbered (flat-once y layout hold S);
+      updates_all = updates_all;
+      after_seen = after_seen;
       visible = λ r o. shows (y.terminal r) (S.real.linked.bound r);
       in_order = λ r o. let h = S.real.linked.bound r in subst (λ z. z ⊑ numbers d (flat (events_of y) order)) (sym (view-numbers L.ordered (y.terminal r) h).1) (numbers_sub d (in_order (y.terminal r) h));
       whole = whole_of y F;

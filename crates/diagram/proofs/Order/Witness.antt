@@ -86,7 +86,7 @@ record YieldFrom (y : Day) (ss : List Step) (t n : ℕ) : Type 0 where
   rest : List Step
   client : ℕ
   is : ss ≡ before ++ (Yield client ∷ rest)
-  was-open : (run_from y before).open_by client ≡ some t
+  was_open : (run_from y before).open_by client ≡ some t
   at : n ≡ length (run_from y before).diagram
 
 yield_from : (ss : List Step) (y : Day) → AcceptedFrom y ss → Fine y → (t n : ℕ) → (y.transaction t).closed ≡ none → ((run_from y ss).transaction t).closed ≡ some n → YieldFrom y ss t n
@@ -98,13 +98,13 @@ yield_from (s ∷ ss) y A F t n q p = by ((after y s).transaction t).closed refl
     G = fine_step y s A.0 F
 
     by : (o : Option ℕ) → ((after y s).transaction t).closed ≡ o → (((after y s).transaction t).closed ≡ none → YieldFrom (after y s) ss t n) → YieldFrom y (s ∷ ss) t n
-    by none w more = let r = more w in record { before = s ∷ r.before; rest = r.rest; client = r.client; is = ap (◌∷◌ s) r.is; was-open = r.was-open; at = r.at }
+    by none w more = let r = more w in record { before = s ∷ r.before; rest = r.rest; client = r.client; is = ap (◌∷◌ s) r.is; was_open = r.was_open; at = r.at }
     by (some m) w more =
         let k = closes y F t m q s w in
         let h : t < (after y s).transactions = omega (arith, (F.sound.runs k.0 t k.2).known, more-transactions y F s) in
         let e : some m ≡ some n = sym w ∙ sym (ap (λ z. z.closed) (shut_on ss (after y s) A.1 G t m h w)) ∙ p in
         let g : n ≡ m = cc in
-        record { before = []; rest = ss; client = k.0; is = ap (λ z. z ∷ ss) k.1; was-open = k.2; at = g ∙ k.3 }
+        record { before = []; rest = ss; client = k.0; is = ap (λ z. z ∷ ss) k.1; was_open = k.2; at = g ∙ k.3 }
 
 path_on : {x z : ℕ} {d e : Diagram} → Older d e → HasPath d x z → HasPath e x z
 path_on same p = p
@@ -165,10 +165,10 @@ module _ (ss before rest : List Step) (A : Accepted ss) (c r : ℕ) (u : Bool) (
   recorded : (t : ℕ) × EnteredIn (run ss) x c r t × ((((run ss).transaction t).closed ≡ none) ↔ NoYield c rest)
   recorded = (goes_into, is-in, (λ q i. some≢none ((run ss).transaction goes_into).closed (is-shut i).1 q, λ n. ((fine_run ss A).sound.runs c goes_into (is_open n)).unshut))
 
-  last-open : NoEvent c rest → NoYield c rest → Terminal (run ss).diagram x
-  last-open n m =
+  last_open : NoEvent c rest → NoYield c rest → Terminal (run ss).diagram x
+  last_open n m =
       let R = (fine_run ss A).sound.runs c goes_into (is_open m) in
-      subst (Terminal (run ss).diagram) (same_some (sym R.last-is ∙ is_last n)) ((made-run ss A).terminals ((run ss).transaction goes_into).revision R.out)
+      subst (Terminal (run ss).diagram) (same_some (sym R.last_is ∙ is_last n)) ((made-run ss A).terminals ((run ss).transaction goes_into).revision R.out)
 
 -- a later event of the same client
 module _ (ss before middle rest : List Step) (A : Accepted ss) (c r q : ℕ) (u w : Bool) (e : ss ≡ before ++ (Event c r u ∷ (middle ++ (Event c q w ∷ rest)))) where
@@ -227,24 +227,24 @@ module _ (ss before middle rest : List Step) (A : Accepted ss) (c r q : ℕ) (u 
   successive n m =
       let o = is_open first before middle A2 c r u refl m in
       let R = F2.sound.runs c t o in
-      let g : y2.terminal (y2.transaction t).revision ≡ (length (run before).diagram) = same_some (sym R.last-is ∙ is_last first before middle A2 c r u refl n) in
+      let g : y2.terminal (y2.transaction t).revision ≡ (length (run before).diagram) = same_some (sym R.last_is ∙ is_last first before middle A2 c r u refl n) in
       let h : (y2.transaction t).revision ≡ q = can.same_revision t o in
       edge_older grown (newest refl (Memᴰ.head (sym g ∙ ap y2.terminal h)))
 
-  in-sequence : HasPath (run ss).diagram (length (run before).diagram) z
+  in_sequence : HasPath (run ss).diagram (length (run before).diagram) z
   unfolding after
-  in-sequence =
-      let p = F2.sound.sessions.last-sees t (length (run before).diagram) was-in.known was-in.has in
+  in_sequence =
+      let p = F2.sound.sessions.last_sees t (length (run before).diagram) was-in.known was-in.has in
       let x = length (run before).diagram in
-      let caught = can.caught-up p.0 (ap y2.last_event (sym was-in.own) ∙ p.1) in
+      let caught = can.caught_up p.0 (ap y2.last_event (sym was-in.own) ∙ p.1) in
       let sees = leads_trans F2.sound.real.linked.ordered x p.0 (y2.terminal q) p.2 caught in
       path_on grown (leads_path _ x z (leads_up _ y2.diagram x (y2.terminal q) (Memᴰ.head refl) sees))
 
 pub points : (ss : List Step) → Accepted ss → ByTransactions ss
 points ss A = record {
   successive = λ before middle rest c r q u w e. successive ss before middle rest A c r q u w e;
-  last-open = λ before rest c r u e. last-open ss before rest A c r u e;
-  in-sequence = λ before middle rest c r q u w e i. in-sequence ss before middle rest A c r q u w e;
+  last_open = λ before rest c r u e. last_open ss before rest A c r u e;
+  in_sequence = λ before middle rest c r q u w e i. in_sequence ss before middle rest A c r q u w e;
 }
 
 -- the theorem: a run's diagram is a witness for its events and yields
@@ -253,7 +253,7 @@ unfolding run
 witness ss A = record {
   recorded = λ before rest c r u e. recorded ss before rest A c r u e;
   together = λ before middle rest c r q u w e. together ss before middle rest A c r q u w e;
-  yielded = λ t n p. let k = yield_from ss fresh A fine_fresh t n refl p in record { before = k.before; rest = k.rest; client = k.client; is = k.is; was-open = k.was-open; at = k.at };
+  yielded = λ t n p. let k = yield_from ss fresh A fine_fresh t n refl p in record { before = k.before; rest = k.rest; client = k.client; is = k.is; was_open = k.was_open; at = k.at };
   opened = λ c t.
       let S = (fine_run ss A).sound in
       (λ q. let R = S.runs c t q in (R.known, R.client, R.unshut), λ h. subst (λ k. (run ss).open_by k ≡ some t) h.1 (S.unshut t h.0 h.2));

@@ -23,7 +23,7 @@ use Rattle.cells.specs.CellSteps.{fresh_cells}
 use Rattle.cells.proofs.Decoded.{close-decoded, drop-decoded, fork-decoded, fresh-decoded, join-decoded, mark-decoded, query-decoded, update-decoded}
 use Rattle.cells.proofs.Stays.{Lower, close-stays, drop-stays, fork-stays, fresh_stays, join-stays, mark-stays, query-stays, update-stays}
 use Rattle.following.specs.Reached.{by_number, step_bytes, step_cells}
-use Rattle.following.proofs.Cells.Kept.{Kept, log_room, low, mark-not-main, next_low, next-some, not-main}
+use Rattle.following.proofs.Cells.Kept.{Kept, log_room, low, mark-not-main, next_low, next-some, not_main}
 
 -- bytes in range that keep cells k
 pub record Stored (d : List ℕ) (k : Cells) : Type 0 where
@@ -54,13 +54,13 @@ module _ (y : Day) (m : Machine) (d : List ℕ) (K : Kept y m (cells d)) (L : Lo
   unfolding step_bytes step_cells
   step-stored (Event c r true) e =
       let E = can-enter y c r true e in
-      let cl = client c E.client-ok in
+      let cl = client c E.client_ok in
       let rl = low y m (cells d) K r E.out in
       let room = log_room y m (cells d) K c r e in
       record { lower = update-stays d L c (number_of y r) cl rl room; cells_are = update-decoded d L c (number_of y r) cl rl room }
   step-stored (Event c r false) e =
       let E = can-enter y c r false e in
-      let cl = client c E.client-ok in
+      let cl = client c E.client_ok in
       let rl = low y m (cells d) K r E.out in
       record { lower = query-stays d L c (number_of y r) cl rl; cells_are = query-decoded d L c (number_of y r) cl rl }
   step-stored (Yield c) e = record { lower = close-stays d L c; cells_are = close-decoded d L c (client c (can-yield y c e)) }
@@ -79,12 +79,12 @@ module _ (y : Day) (m : Machine) (d : List ℕ) (K : Kept y m (cells d)) (L : Lo
       record { lower = mark-stays d L q n w ql nl (room r (some w) e); cells_are = mark-decoded d L q n w ql nl pos (four r w e) }
   step-stored (Join a b) e =
       let j = can-join y a b e in
-      let al = low y m (cells d) K a j.out-a in
-      let bl = low y m (cells d) K b j.out-b in
-      let pos = not-main y m (cells d) K b j.out-b j.not-main in
+      let al = low y m (cells d) K a j.out_a in
+      let bl = low y m (cells d) K b j.out_b in
+      let pos = not_main y m (cells d) K b j.out_b j.not_main in
       record { lower = join-stays d L (number_of y a) (number_of y b) al bl pos; cells_are = join-decoded d L (number_of y a) (number_of y b) al bl }
   step-stored (Drop r) e =
       let D = can-drop y r e in
       let rl = low y m (cells d) K r D.out in
-      let pos = not-main y m (cells d) K r D.out (mark-not-main y m (cells d) K r D) in
+      let pos = not_main y m (cells d) K r D.out (mark-not-main y m (cells d) K r D) in
       record { lower = drop-stays d L (number_of y r) pos rl; cells_are = drop-decoded d L (number_of y r) rl }

@@ -43,49 +43,49 @@ module _ (y : Day) (m : Machine) (k : Cells) (D : Follows y m) (L : Laid y m) (h
       (λ q. eq-eqb (number_of y x) n (ap (number_of y) (eqb-true x r q) ∙ meant-number y n r e) ∙ sym q)
       (λ q. ne_eqb (number_of y x) n (λ z. let a : found y n ≡ some x = rw (← z) (L.named.means x o) in eqb-false x r q (cc)) ∙ sym q)
 
-  opened-is : (c : ℕ) → c < clients → k.opened c ≡ open_cell (number_of y) (revision_of y.transaction (y.open_by c))
-  opened-is c l = h.opened-is c l ∙ ap (open_cell (number_of y)) (D.same-open_on c)
+  opened_is : (c : ℕ) → c < clients → k.opened c ≡ open_cell (number_of y) (revision_of y.transaction (y.open_by c))
+  opened_is c l = h.opened_is c l ∙ ap (open_cell (number_of y)) (D.same_open_on c)
 
-  open-out : (c t : ℕ) → y.open_by c ≡ some t → IsOut y (y.transaction t).revision
-  open-out c t e = L.out _ (L.open-out c (y.transaction t).revision (D.same-open_on c ∙ ap (revision_of y.transaction) e))
+  open_out : (c t : ℕ) → y.open_by c ≡ some t → IsOut y (y.transaction t).revision
+  open_out c t e = L.out _ (L.open_out c (y.transaction t).revision (D.same_open_on c ∙ ap (revision_of y.transaction) e))
 
   open-low : (c t : ℕ) → y.open_by c ≡ some t → number_of y (y.transaction t).revision < revisions
-  open-low c t e = low _ _ (L.named.means _ (open-out c t e))
+  open-low c t e = low _ _ (L.named.means _ (open_out c t e))
 
   is-on : (c n r : ℕ) → c < clients → found y n ≡ some r → eqb (k.opened c) n ≡ Day.is_on y (y.open_by c) r
-  is-on c n r l g = rw (opened-is c l) (by (y.open_by c) refl)
+  is-on c n r l g = rw (opened_is c l) (by (y.open_by c) refl)
     where
       by : (q : Option ℕ) → y.open_by c ≡ q → eqb (open_cell (number_of y) (revision_of y.transaction q)) n ≡ Day.is_on y q r
       by none e = let b = low n r g in ne_eqb closed n (λ z. omega arith)
-      by (some t) e = means-test (y.transaction t).revision n r (open-out c t e) g
+      by (some t) e = means-test (y.transaction t).revision n r (open_out c t e) g
 
   elsewhere : (c n r : ℕ) → c < clients → found y n ≡ some r → Asked.open_elsewhere k c n ≡ (is_some (y.open_by c) && not (Day.is_on y (y.open_by c) r))
-  elsewhere c n r l g = rw (opened-is c l) (by (y.open_by c) refl)
+  elsewhere c n r l g = rw (opened_is c l) (by (y.open_by c) refl)
     where
       by : (q : Option ℕ) → y.open_by c ≡ q
           → (not (eqb (open_cell (number_of y) (revision_of y.transaction q)) closed) && not (eqb (open_cell (number_of y) (revision_of y.transaction q)) n)) ≡ (is_some q && not (Day.is_on y q r))
       by none e = refl
-      by (some t) e = let b = open-low c t e in rw (ne_eqb (number_of y (y.transaction t).revision) closed (λ z. omega arith), means-test (y.transaction t).revision n r (open-out c t e) g)
+      by (some t) e = let b = open-low c t e in rw (ne_eqb (number_of y (y.transaction t).revision) closed (λ z. omega arith), means-test (y.transaction t).revision n r (open_out c t e) g)
 
   -- whatever state a number has that means a revision
   state-test : (P : ℕ → Type 0) (r : ℕ) → P state_joined → P state_marked → P state_out → P (state_cell y.joined y.mark (some r))
   state-test P r a b c = cond_all P (y.joined r) state_joined _ a (cond_all P (is_some (y.mark r)) state_marked state_out b c)
 
   given_out : (n : ℕ) → Asked.given_out k n ≡ is_given y n
-  given_out n = rw (h.state-is n, given-found y n) (by (found y n) refl)
+  given_out n = rw (h.state_is n, given-found y n) (by (found y n) refl)
     where
       by : (q : Option ℕ) → found y n ≡ q → (ltb n revisions && not (eqb (state_cell y.joined y.mark q) state_never)) ≡ is_some q
       by none e = cases (ltb n revisions) (λ q. rw q) (λ q. rw q)
       by (some r) e = rw (lt-ltb n revisions (low n r e)) (state-test (λ v. not (eqb v state_never) ≡ true) r refl refl refl)
 
   joined_is : (n r : ℕ) → found y n ≡ some r → Asked.joined k n ≡ y.joined r
-  joined_is n r e = rw (h.state-is n, e) (cases (y.joined r) (λ q. rw q) (λ q. rw q (cases (is_some (y.mark r)) (λ t. rw t) (λ t. rw t))))
+  joined_is n r e = rw (h.state_is n, e) (cases (y.joined r) (λ q. rw q) (λ q. rw q (cases (is_some (y.mark r)) (λ t. rw t) (λ t. rw t))))
 
   -- a mark is out
   marked-is : (n r : ℕ) → found y n ≡ some r → Asked.is_mark k n ≡ Day.marked y r
   unfolding Day.marked
   marked-is n r e =
-      rw (h.state-is n, e)
+      rw (h.state_is n, e)
       (cases (y.joined r)
       (λ q. rw q (cases (is_some (y.mark r)) (λ t. absurd (false≢true (sym (L.marks.out r t).1 ∙ q))) (λ t. sym t)))
       (λ q. rw q (cases (is_some (y.mark r)) (λ t. rw t) (λ t. rw t))))
@@ -95,7 +95,7 @@ module _ (y : Day) (m : Machine) (k : Cells) (D : Follows y m) (L : Laid y m) (h
     mark-bears : (r : ℕ) → y.mark r ≡ some w → Asked.bears k w (number_of y r) ≡ true
     mark-bears r e =
         let m = is-marked y r w e in
-        rw (marked-is (number_of y r) r (L.named.means r (L.marks.out r m)), m, h.name-is r w e) (same_self w)
+        rw (marked-is (number_of y r) r (L.named.means r (L.marks.out r m)), m, h.name_is r w e) (same_self w)
 
     bears-mark : (n : ℕ) → Asked.bears k w n ≡ true → (r : ℕ) × (found y n ≡ some r) × (y.mark r ≡ some w)
     unfolding Day.marked
@@ -106,10 +106,10 @@ module _ (y : Day) (m : Machine) (k : Cells) (D : Follows y m) (L : Laid y m) (h
 
         named-so : (r : ℕ) → number_of y r ≡ n → (o : Option Name) → y.mark r ≡ o → is_some o ≡ true → o ≡ some w
         named-so r z none q g = absurd (false≢true g)
-        named-so r z (some v) q g = ap some (sym (rw z at (h.name-is r v q)) ∙ same-name (k.name n) w both.1)
+        named-so r z (some v) q g = ap some (sym (rw z at (h.name_is r v q)) ∙ same-name (k.name n) w both.1)
 
         by : (q : Option ℕ) → found y n ≡ q → (r : ℕ) × (found y n ≡ some r) × (y.mark r ≡ some w)
-        by none e = absurd (false≢true (sym (ap (λ v. eqb v state_marked) (h.state-is n ∙ ap (state_cell y.joined y.mark) e)) ∙ both.0))
+        by none e = absurd (false≢true (sym (ap (λ v. eqb v state_marked) (h.state_is n ∙ ap (state_cell y.joined y.mark) e)) ∙ both.0))
         by (some r) e = (r, e, named-so r (meant-number y n r e) (y.mark r) refl (sym (marked-is n r e) ∙ both.0))
 
     -- where the name is in use
@@ -127,8 +127,8 @@ module _ (y : Day) (m : Machine) (k : Cells) (D : Follows y m) (L : Laid y m) (h
       positive : 0 < number_of y r
       positive =
           let other : number_of y r ≡ main → ⊥ = λ e.
-          let z = numbers_apart y L.named r main out (L.out main h.main-out) (e ∙ sym h.main-number) in
-          mark_apart y main r L.main-unmarked (is-marked y r w named-so) z in
+          let z = numbers_apart y L.named r main out (L.out main h.main_out) (e ∙ sym h.main_number) in
+          mark_apart y main r L.main_unmarked (is-marked y r w named-so) z in
           omega arith
 
       bearer-is : Asked.bearer k w ≡ number_of y r
@@ -150,13 +150,13 @@ module _ (y : Day) (m : Machine) (k : Cells) (D : Follows y m) (L : Laid y m) (h
   joinable-is a b oa ob =
       let i = D.laid a oa in
       let j = D.laid b ob in
-      rw (h.seen-is a b i j, D.same-joinable a b oa ob)
+      rw (h.seen_is a b i j, D.same_joinable a b oa ob)
       (cases (Day.not_joinable y a b)
       (λ e. rw e (cases (not (eqb (number_of y b) main) && not (eqb (number_of y a) (number_of y b))) (λ q. rw q) (λ q. rw q)))
       (λ e. let p = joinable y a b e in rw (e, same_number y m L a b i j, ne_eqb a b (λ q. eqb-false b a p.1 (sym q)), main-test b j, p.0)))
     where
       main-test : (x : ℕ) → x ∈ m.layout → eqb (number_of y x) main ≡ eqb x main
-      main-test x j = ap (eqb (number_of y x)) (sym h.main-number) ∙ same_number y m L x main j h.main-out
+      main-test x j = ap (eqb (number_of y x)) (sym h.main_number) ∙ same_number y m L x main j h.main_out
 
   left : Day.none_left y ≡ false → next_number k ≡ Days.next_number y
   unfolding Day.none_left Days.next_number
@@ -165,25 +165,25 @@ module _ (y : Day) (m : Machine) (k : Cells) (D : Follows y m) (L : Laid y m) (h
   pub answers : CellsFollow y k
   unfolding client_limit update_limit revision_limit Day.unknown_client Day.open_elsewhere Day.busy_by_other Day.busy Day.log_full Day.none_left
   answers = record {
-    same-order = λ r o. order_is y m k h L r (D.laid r o) ∙ D.same-shown r o;
-    whole-order = λ r o. rw (D.same-shown r o) at (shown-few y m k h L r (D.laid r o));
-    same-own = λ r o. h.own-is r (D.laid r o) ∙ D.same-own r o;
-    same-client = λ c. sym (not-not (ltb c clients));
-    same-given = given_out;
-    same-joined = λ n r e. joined_is n r ((found-means y n r).1 e);
-    same-marked = λ n r e. marked-is n r ((found-means y n r).1 e);
-    same-elsewhere = λ c n r l e. elsewhere c n r l ((found-means y n r).1 e);
-    same-busy_by_other = λ c n r g. any_same clients _ _ (λ x l. ap (λ t. not (eqb x c) && t) (is-on x n r l ((found-means y n r).1 g)));
-    same-busy = λ n r g. any_same clients _ _ (λ x l. is-on x n r l ((found-means y n r).1 g));
-    same-stale = λ c r l o. ap not (h.caught-is c r l (D.laid r o) ∙ D.same-caught_up c r o) ∙ not-not (Day.stale y c r);
-    same_full = rw (h.updates-is, D.same-updates);
+    same_order = λ r o. order_is y m k h L r (D.laid r o) ∙ D.same_shown r o;
+    whole_order = λ r o. rw (D.same_shown r o) at (shown-few y m k h L r (D.laid r o));
+    same_own = λ r o. h.own-is r (D.laid r o) ∙ D.same_own r o;
+    same_client = λ c. sym (not-not (ltb c clients));
+    same_given = given_out;
+    same_joined = λ n r e. joined_is n r ((found-means y n r).1 e);
+    same_marked = λ n r e. marked-is n r ((found-means y n r).1 e);
+    same_elsewhere = λ c n r l e. elsewhere c n r l ((found-means y n r).1 e);
+    same_busy_by_other = λ c n r g. any_same clients _ _ (λ x l. ap (λ t. not (eqb x c) && t) (is-on x n r l ((found-means y n r).1 g)));
+    same_busy = λ n r g. any_same clients _ _ (λ x l. is-on x n r l ((found-means y n r).1 g));
+    same_stale = λ c r l o. ap not (h.caught_is c r l (D.laid r o) ∙ D.same_caught_up c r o) ∙ not-not (Day.stale y c r);
+    same_full = rw (h.updates_is, D.same_updates);
     same_left = rw h.out_is;
-    same_seen = λ a b oa ob. h.seen-is a b (D.laid a oa) (D.laid b ob) ∙ D.same-joinable a b oa ob;
-    same-joinable = joinable-is;
-    same-bad_name = bad-name;
-    same-no_mark = no-mark;
-    same-bearer = λ w u. rw (bearer-is w u) ((found-means y _ _).0 (L.named.means (mark_named y w) (out w u)));
-    same-updates = h.updates-is ∙ D.same-updates;
+    same_seen = λ a b oa ob. h.seen_is a b (D.laid a oa) (D.laid b ob) ∙ D.same_joinable a b oa ob;
+    same_joinable = joinable-is;
+    same_bad_name = bad-name;
+    same_no_mark = no-mark;
+    same_bearer = λ w u. rw (bearer-is w u) ((found-means y _ _).0 (L.named.means (mark_named y w) (out w u)));
+    same_updates = h.updates_is ∙ D.same_updates;
     same_number = left;
-    same-gain = λ b o. count-is y m k h b (D.laid b o) ∙ ap length (D.same-own b o);
+    same_gain = λ b o. count-is y m k h b (D.laid b o) ∙ ap length (D.same_own b o);
   }

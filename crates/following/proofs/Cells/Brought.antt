@@ -62,7 +62,7 @@ module _ (y : Day) (m : Machine) (k : Cells) (K : Kept y m k) where
       let L' = laid (after y s) (machine_after m s) K'.agree K'.named K'.marks in
       let was = listed y m k K.agree L K.represents K.settled in
       let is = listed (after y s) (machine_after m s) k' K'.agree L' K'.represents K'.settled in
-      let g = extends y (after y s) K.agree.flagged.fine (step-moves y s e) main (L.out main K.represents.main-out) (L'.out main K'.represents.main-out) in
+      let g = extends y (after y s) K.agree.flagged.fine (step-moves y s e) main (L.out main K.represents.main_out) (L'.out main K'.represents.main_out) in
       let whole : Cells.own k' main ≡ Cells.own k main ++ g.0 = is ∙ g.1 ∙ ap (λ v. v ++ g.0) (sym was) in
       let c = chain_length k.link (k.last main) (k.count main) in
       let c' = chain_length k'.link (k'.last main) (k'.count main) in

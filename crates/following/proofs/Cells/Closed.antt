@@ -51,12 +51,12 @@ module _ (y : Day) (m : Machine) (k : Cells) (A : Agree y m) (L : Laid y m) (h :
   there : (r : ℕ) → IsOut y r → r ∈ m.layout
   there r o = (follows y m A).laid r o
 
-  pub main-out : IsOut y main
-  main-out = L.out main h.main-out
+  pub main_out : IsOut y main
+  main_out = L.out main h.main_out
 
   -- a number is the main revision's only if the revision is
   is-main : (r : ℕ) → IsOut y r → eqb (number_of y r) main ≡ eqb r main
-  is-main r o = ap (eqb (number_of y r)) (sym h.main-number) ∙ same_number y m L r main (there r o) h.main-out
+  is-main r o = ap (eqb (number_of y r)) (sym h.main_number) ∙ same_number y m L r main (there r o) h.main_out
 
   -- how long the main revision's list is
   counted-now : k.count main ≡ length (m.own main)
@@ -84,18 +84,18 @@ module _ (y : Day) (m : Machine) (k : Cells) (A : Agree y m) (L : Laid y m) (h :
 
   yielded : (c : ℕ) → c < clients → (q : Option ℕ) → y.open_by c ≡ q → Settled (yield y c q) (close_settled k c) (k.count main)
   yielded c cl none e =
-      let o : k.opened c ≡ closed = h.opened-is c cl ∙ ap (open_cell (number_of y)) (A.same-open_on c ∙ ap (revision_of y.transaction) e) in
+      let o : k.opened c ≡ closed = h.opened_is c cl ∙ ap (open_cell (number_of y)) (A.same_open_on c ∙ ap (revision_of y.transaction) e) in
       rw o S
   yielded c cl (some t) e =
       let r = (y.transaction t).revision in
-      let o : k.opened c ≡ number_of y r = h.opened-is c cl ∙ ap (open_cell (number_of y)) (A.same-open_on c ∙ ap (revision_of y.transaction) e) in
+      let o : k.opened c ≡ number_of y r = h.opened_is c cl ∙ ap (open_cell (number_of y)) (A.same_open_on c ∙ ap (revision_of y.transaction) e) in
       let i = is-main r (F.sound.runs c t e).out in
       cases (eqb r main)
       (λ w. rw (o, i, w) (yields-main y F _ _ S A.numbered c t e (eqb-true r main w)))
       (λ w. rw (o, i, w) (yields-elsewhere y F _ _ S A.numbered c t e (eqb-false r main w)))
 
   not_new : length (changed m.own m.revisions [] main) ≡ k.count main
-  not_new = let l = main-out.0 in let e = L.same-revisions in rw (ne_eqb main m.revisions (λ q. omega arith)) (sym counted-now)
+  not_new = let l = main_out.0 in let e = L.same_revisions in rw (ne_eqb main m.revisions (λ q. omega arith)) (sym counted-now)
 
   pub settled-after : (s : Step) → accepted y s ≡ true → Represents (after y s) (machine_after m s) (step_cells k (by_number y s))
       → Settled (after y s) (step_cells k (by_number y s)).settled ((step_cells k (by_number y s)).count main)
@@ -112,18 +112,18 @@ module _ (y : Day) (m : Machine) (k : Cells) (A : Agree y m) (L : Laid y m) (h :
   settled-after (Join a b) e h' =
       let J = can-join y a b e in
       cases (eqb a main)
-      (λ w. let is : number_of y a ≡ main = ap (number_of y) (eqb-true a main w) ∙ h.main-number in rw is (joins-main y F _ _ S a b J (eqb-true a main w) _))
+      (λ w. let is : number_of y a ≡ main = ap (number_of y) (eqb-true a main w) ∙ h.main_number in rw is (joins-main y F _ _ S a b J (eqb-true a main w) _))
       (λ w.
       let away = eqb-false a main w in
-      rw (is-main a J.out-a ∙ w, elsewhere a (join_count k (number_of y a) (number_of y b)) J.out-a away) (joins-elsewhere y F _ _ S a b J))
+      rw (is-main a J.out_a ∙ w, elsewhere a (join_count k (number_of y a) (number_of y b)) J.out_a away) (joins-elsewhere y F _ _ S a b J))
   settled-after (Drop r) e h' = drops y F _ _ S r
 
   -- the settled list is what the terminal shows of closed transactions
   shows : m.own main ≡ view y.diagram (y.terminal main)
-  shows = ap (λ l. l ++ m.own main) (sym h.main-inherits) ∙ (follows y m (A)).same_view main main-out
+  shows = ap (λ l. l ++ m.own main) (sym h.main_inherits) ∙ (follows y m (A)).same_view main main_out
 
   alone : view y.diagram (y.terminal main) ≡ own y.diagram (y.terminal main)
-  alone = sym shows ∙ A.same-own main main-out
+  alone = sym shows ∙ A.same_own main main_out
 
   pub listed : Cells.own k main ≡ view y.diagram (y.terminal main)
   listed = own-main y m k h ∙ shows
@@ -149,7 +149,7 @@ module _ (y : Day) (m : Machine) (k : Cells) (A : Agree y m) (L : Laid y m) (h :
   pub settled-shown : ClosedShown y main (settled_own k)
   settled-shown = either decided
       (λ (c, t, e, on).
-      let p = closed-busy y F A.numbered main main-out c t e on alone in
+      let p = closed-busy y F A.numbered main main_out c t e on alone in
       let w = p.0 in
       let O = numbers y.diagram (events_of y t) in
       let whole : Cells.own k main ≡ w ++ O = listed ∙ p.1 in
@@ -157,4 +157,4 @@ module _ (y : Day) (m : Machine) (k : Cells) (A : Agree y m) (L : Laid y m) (h :
       subst (λ l. ClosedShown y main l) (sym (ap (take k.settled) whole ∙ take_at w O k.settled size)) p.2)
       (λ i.
       let n = S.idle i in
-      subst (λ l. ClosedShown y main l) (sym (take_all k.settled (Cells.own k main) (omega (arith, long)) ∙ listed)) (closed-idle y F A.numbered main main-out i alone))
+      subst (λ l. ClosedShown y main l) (sym (take_all k.settled (Cells.own k main) (omega (arith, long)) ∙ listed)) (closed-idle y F A.numbered main main_out i alone))

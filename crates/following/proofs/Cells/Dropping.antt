@@ -31,7 +31,7 @@ module _ (y : Day) (m : Machine) (k : Cells) (h : Represents y m k) (L : Laid y 
   was x = remove_back b x m.layout
 
   drop-name : (r : ℕ) (n : Name) → y'.mark r ≡ some n → k.name (number_of y r) ≡ n
-  drop-name r n = cases (eqb r b) (λ e. rw e (λ q. absurd (none≢name q))) (λ e. rw e (h.name-is r n))
+  drop-name r n = cases (eqb r b) (λ e. rw e (λ q. absurd (none≢name q))) (λ e. rw e (h.name_is r n))
 
   pub drops : Represents y' (drop_on m b) (drop_cells k (number_of y b))
   unfolding found
@@ -39,21 +39,21 @@ module _ (y : Day) (m : Machine) (k : Cells) (h : Represents y m k) (L : Laid y 
     layout_is = leave-layout y m k h L b j other;
     places = leave-places y m k h L b j other;
     out_is = leave-out y m k h L b j other _ (drop-count y L.named b D);
-    main-out = leave-main y m k h L b j other;
-    main-number = h.main-number;
+    main_out = leave-main y m k h L b j other;
+    main_number = h.main_number;
     given_is = h.given_is;
-    freed-is = leave-freed y m k h L b j other;
-    queue-places = leave-queue y m k h L b j other;
-    state-is = leave-state y m k h L b j other y'.mark (changed-other y.mark b none);
-    name-is = drop-name;
+    freed_is = leave-freed y m k h L b j other;
+    queue_places = leave-queue y m k h L b j other;
+    state_is = leave-state y m k h L b j other y'.mark (changed-other y.mark b none);
+    name_is = drop-name;
     own_is = λ x o. h.own_is x (was x o);
-    first-is = λ x o. h.first-is x (was x o);
-    inherited-is = λ x o. h.inherited-is x (was x o);
-    base-few = λ x o. h.base-few x (was x o);
-    main-inherits = h.main-inherits;
-    seen-is = λ x z o p. h.seen-is x z (was x o) (was z p);
-    caught-is = λ c x l o. h.caught-is c x l (was x o);
-    opened-is = h.opened-is;
-    updates-is = h.updates-is;
-    updates-few = h.updates-few;
+    first_is = λ x o. h.first_is x (was x o);
+    inherited_is = λ x o. h.inherited_is x (was x o);
+    base_few = λ x o. h.base_few x (was x o);
+    main_inherits = h.main_inherits;
+    seen_is = λ x z o p. h.seen_is x z (was x o) (was z p);
+    caught_is = λ c x l o. h.caught_is c x l (was x o);
+    opened_is = h.opened_is;
+    updates_is = h.updates_is;
+    updates_few = h.updates_few;
   }

@@ -89,10 +89,10 @@ module _ (y : Day) (m : Machine) (k : Cells) (h : Represents y m k) (L : Laid y 
   old x j e = either (insert_back p R x m.layout j) (λ q. absurd (eqb-false x R e q)) (λ o. o)
 
   not_new : (x : ℕ) → x ∈ m.layout → x ≡ R → ⊥
-  not_new x j e = let l = (L.out x j).0 in let s = L.same-revisions in omega arith
+  not_new x j e = let l = (L.out x j).0 in let s = L.same_revisions in omega arith
 
   new-of : (x : ℕ) → eqb x R ≡ true → number_of y' x ≡ c
-  new-of x e = ap (number_of y') (eqb-true x R e ∙ L.same-revisions) ∙ number_new y L.named p name C
+  new-of x e = ap (number_of y') (eqb-true x R e ∙ L.same_revisions) ∙ number_new y L.named p name C
 
   old_of : (x : ℕ) → x ∈ m.layout → number_of y' x ≡ number_of y x
   old_of x j = number-old y L.named p name C x (L.out x j).0
@@ -101,13 +101,13 @@ module _ (y : Day) (m : Machine) (k : Cells) (h : Represents y m k) (L : Laid y 
   old-test x j = ne_eqb (number_of y x) c (next-apart y L.named p name C x (L.out x j))
 
   main-of : number_of y' main ≡ main
-  main-of = old_of main h.main-out ∙ h.main-number
+  main-of = old_of main h.main_out ∙ h.main_number
 
   main-own : m'.own main ≡ m.own main
-  main-own = rw (ne_eqb main R (not_new main h.main-out))
+  main-own = rw (ne_eqb main R (not_new main h.main_out))
 
   main-test : eqb n main ≡ eqb p main
-  main-test = ap (eqb n) (sym h.main-number) ∙ same_number y m L p main i h.main-out
+  main-test = ap (eqb n) (sym h.main_number) ∙ same_number y m L p main i h.main_out
 
   fork-layout : take (suc k.out) k'.layout ≡ mapped (number_of y') (insert_before p R m.layout)
   fork-layout =
@@ -125,7 +125,7 @@ module _ (y : Day) (m : Machine) (k : Cells) (h : Represents y m k) (L : Laid y 
   fork-state v z x =
       cases (eqb x c)
       (λ e. rw (e, eqb-true x c e, meant-new y L.named p name C, eq-eqb y.revisions y.revisions refl) z)
-      (λ e. rw (e, meant-old y L.named p name C x (eqb-false x c e)) (h.state-is x ∙ old-state (found y x) (meant-low y x)))
+      (λ e. rw (e, meant-old y L.named p name C x (eqb-false x c e)) (h.state_is x ∙ old-state (found y x) (meant-low y x)))
 
   -- the new mark has its name, an older one keeps it
   fork-names : (names : ℕ → Name) → ((w : Name) → name ≡ some w → names c ≡ w) → ((x : ℕ) → (x ≡ c → ⊥) → names x ≡ k.name x)
@@ -133,7 +133,7 @@ module _ (y : Day) (m : Machine) (k : Cells) (h : Represents y m k) (L : Laid y 
   fork-names names new kept r w =
       cases (eqb r y.revisions)
       (λ e. rw e (new w))
-      (λ e. rw e (λ q. let o = L.marks.out r (is-marked y r w q) in kept (number_of y r) (next-apart y L.named p name C r o) ∙ h.name-is r w q))
+      (λ e. rw e (λ q. let o = L.marks.out r (is-marked y r w q) in kept (number_of y r) (next-apart y L.named p name C r o) ∙ h.name_is r w q))
 
   fork-own : (x : ℕ) → x ∈ m'.layout → own k' (number_of y' x) ≡ m'.own x
   unfolding chain
@@ -143,27 +143,27 @@ module _ (y : Day) (m : Machine) (k : Cells) (h : Represents y m k) (L : Laid y 
       (λ e. let o = old x j e in rw (e, old_of x o, old-test x o) (h.own_is x o))
 
   fork-first : (x : ℕ) → x ∈ m'.layout → (f : ℕ) (l : List ℕ) → m'.own x ≡ f ∷ l → k.first (number_of y' x) ≡ f
-  fork-first x j f l = cases (eqb x R) (λ e. rw e (λ q. cc)) (λ e. let o = old x j e in rw (e, old_of x o) (h.first-is x o f l))
+  fork-first x j f l = cases (eqb x R) (λ e. rw e (λ q. cc)) (λ e. let o = old x j e in rw (e, old_of x o) (h.first_is x o f l))
 
   -- what is flagged at p, or p's own, has a number
   low-flag : (v : ℕ) → (flagged k n v || member v (m.own p)) ≡ true → v < updates
   low-flag v e =
-      let few = h.updates-few in
-      let is = h.updates-is in
+      let few = h.updates_few in
+      let is = h.updates_is in
       let l : v < m.updates = either (or_cases (flagged k n v) (member v (m.own p)) e)
-      (λ a. L.inherited-low p i v (member_in v (m.inherited p) (h.inherited-is p i v ∙ or_right (member v (take (k.base n) (m.own main))) (flagged k n v) a)))
-      (λ a. L.own-low p i v (member_in v (m.own p) a)) in
+      (λ a. L.inherited_low p i v (member_in v (m.inherited p) (h.inherited_is p i v ∙ or_right (member v (take (k.base n) (m.own main))) (flagged k n v) a)))
+      (λ a. L.own_low p i v (member_in v (m.own p) a)) in
       omega arith
 
   -- the new revision inherits what p shows: from the main revision by count alone, else by p's count and a row
   from-main : p ≡ main → (v : ℕ) → member v (m.inherited p ++ m.own p) ≡ (member v (take (k.count main) (m.own main)) || false)
   from-main e v =
       let l = count-main y m k h in
-      rw (e, h.main-inherits, take_all (k.count main) (m.own main) (omega arith), or-false)
+      rw (e, h.main_inherits, take_all (k.count main) (m.own main) (omega arith), or-false)
 
   from-other : (v : ℕ) → member v (m.inherited p ++ m.own p) ≡ (member v (take (k.base n) (m.own main)) || fork_row k n v)
   from-other v =
-      rw (member-++, h.inherited-is p i v, or_assoc, h.own_is p i, bounded (flagged k n v || member v (m.own p)) v updates (low-flag v))
+      rw (member-++, h.inherited_is p i v, or_assoc, h.own_is p i, bounded (flagged k n v || member v (m.own p)) v updates (low-flag v))
 
   new-inherited : (v : ℕ)
       → member v (m.inherited p ++ m.own p) ≡ (member v (take (cond (eqb n main) (k.count main) (k.base n)) (m.own main)) || (cond (eqb n main) false true && k'.row c v))
@@ -181,15 +181,15 @@ module _ (y : Day) (m : Machine) (k : Cells) (h : Represents y m k) (L : Laid y 
       rw main-own
       (cases (eqb x R)
       (λ e. rw (e, new-of x e, eq-eqb c c refl) (new-inherited v))
-      (λ e. let o = old x j e in rw (e, old_of x o, old-test x o, old_row (number_of y x) v (old-test x o)) (h.inherited-is x o v)))
+      (λ e. let o = old x j e in rw (e, old_of x o, old-test x o, old_row (number_of y x) v (old-test x o)) (h.inherited_is x o v)))
 
   fork-base : (x : ℕ) → x ∈ m'.layout → k'.base (number_of y' x) ≤ length (m'.own main)
   fork-base x j =
       let l = count-main y m k h in
       rw main-own
       (cases (eqb x R)
-      (λ e. rw (new-of x e, eq-eqb c c refl) (cases (eqb n main) (λ q. rw q (omega arith)) (λ q. rw q (h.base-few p i))))
-      (λ e. let o = old x j e in rw (old_of x o, old-test x o) (h.base-few x o)))
+      (λ e. rw (new-of x e, eq-eqb c c refl) (cases (eqb n main) (λ q. rw q (omega arith)) (λ q. rw q (h.base_few p i))))
+      (λ e. let o = old x j e in rw (old_of x o, old-test x o) (h.base_few x o)))
 
   -- flags
   sender : (x : ℕ) → x ∈ m'.layout → eqb (number_of y' x) n ≡ eqb x p
@@ -198,20 +198,20 @@ module _ (y : Day) (m : Machine) (k : Cells) (h : Represents y m k) (L : Laid y 
       (λ e. rw (new-of x e) (ne_eqb c n (λ q. eqb-false n c (old-test p i) (sym q)) ∙ sym (ne_eqb x p (λ q. not_new p i (sym q ∙ eqb-true x R e)))))
       (λ e. let o = old x j e in rw (old_of x o) (same_number y m L x p o i))
 
-  fork-seen : (a b : ℕ) → a ∈ m'.layout → b ∈ m'.layout → k'.seen (number_of y' a) (number_of y' b) ≡ m'.joinable a b
-  fork-seen a b u v =
+  fork_seen : (a b : ℕ) → a ∈ m'.layout → b ∈ m'.layout → k'.seen (number_of y' a) (number_of y' b) ≡ m'.joinable a b
+  fork_seen a b u v =
       cases (eqb b R)
       (λ e. rw (e, new-of b e, eq-eqb c c refl) (sender a u))
       (λ e. let s = old b v e in rw (e, old_of b s, old-test b s)
       (cases (eqb a R)
-      (λ q. rw (q, new-of a q, eq-eqb c c refl) (h.seen-is p b i s))
-      (λ q. let t = old a u q in rw (q, old_of a t, old-test a t) (h.seen-is a b t s))))
+      (λ q. rw (q, new-of a q, eq-eqb c c refl) (h.seen_is p b i s))
+      (λ q. let t = old a u q in rw (q, old_of a t, old-test a t) (h.seen_is a b t s))))
 
   fork-caught : (o x : ℕ) → o < clients → x ∈ m'.layout → k'.caught o (number_of y' x) ≡ m'.caught_up o x
   fork-caught o x ol j =
       cases (eqb x R)
-      (λ e. rw (e, new-of x e, eq-eqb c c refl) (h.caught-is o p ol i))
-      (λ e. let s = old x j e in rw (e, old_of x s, old-test x s) (h.caught-is o x ol s))
+      (λ e. rw (e, new-of x e, eq-eqb c c refl) (h.caught_is o p ol i))
+      (λ e. let s = old x j e in rw (e, old_of x s, old-test x s) (h.caught_is o x ol s))
 
   still_open : (q : Option ℕ) → ((r : ℕ) → q ≡ some r → r ∈ m.layout) → open_cell (number_of y) q ≡ open_cell (number_of y') q
   still_open none l = refl
@@ -221,12 +221,12 @@ module _ (y : Day) (m : Machine) (k : Cells) (h : Represents y m k) (L : Laid y 
   unfolding revision_limit
   fork-freed-is =
       cases (ltb y.numbering.given revisions)
-      (λ e. let l = ltb-true y.numbering.given revisions e in let g = h.given_is in fork-freed k n c (omega arith) ∙ rw e h.freed-is)
+      (λ e. let l = ltb-true y.numbering.given revisions e in let g = h.given_is in fork-freed k n c (omega arith) ∙ rw e h.freed_is)
       (λ e. let l = ltb-false y.numbering.given revisions e in let g = h.given_is in let r = room in
-      fork-freed-first k n c h.queue-places (omega arith) (omega arith) (given-few y m k h L) ∙ rw (e, h.freed-is))
+      fork-freed-first k n c h.queue_places (omega arith) (omega arith) (given-few y m k h L) ∙ rw (e, h.freed_is))
 
   fork-queue : length k'.queue ≡ revisions
-  fork-queue = let q = h.queue-places in cases (ltb k.given revisions) (λ e. rw e q) (λ e. rw e (shift_length k.queue (omega arith) ∙ q))
+  fork-queue = let q = h.queue_places in cases (ltb k.given revisions) (λ e. rw e q) (λ e. rw e (shift_length k.queue (omega arith) ∙ q))
 
   fork-given : fork_given k ≡ y'.numbering.given
   unfolding revision_limit
@@ -238,23 +238,23 @@ module _ (y : Day) (m : Machine) (k : Cells) (h : Represents y m k) (L : Laid y 
     layout_is = fork-layout;
     places = let a = h.places in let b = insert_length n c k.layout in length-take-le revisions (insert_before n c k.layout) (omega arith);
     out_is = ap suc h.out_is ∙ sym (fork-count y L.named p name C);
-    main-out = insert_old p R main m.layout h.main-out;
-    main-number = main-of;
+    main_out = insert_old p R main m.layout h.main_out;
+    main_number = main-of;
     given_is = fork-given;
-    freed-is = fork-freed-is;
-    queue-places = fork-queue;
-    state-is = states;
-    name-is = named-so;
+    freed_is = fork-freed-is;
+    queue_places = fork-queue;
+    state_is = states;
+    name_is = named-so;
     own_is = fork-own;
-    first-is = fork-first;
-    inherited-is = fork-inherited;
-    base-few = fork-base;
-    main-inherits = rw (ne_eqb main R (not_new main h.main-out)) h.main-inherits;
-    seen-is = fork-seen;
-    caught-is = fork-caught;
-    opened-is = λ o l. h.opened-is o l ∙ still_open (m.open_on o) (L.open-out o);
-    updates-is = h.updates-is;
-    updates-few = h.updates-few;
+    first_is = fork-first;
+    inherited_is = fork-inherited;
+    base_few = fork-base;
+    main_inherits = rw (ne_eqb main R (not_new main h.main_out)) h.main_inherits;
+    seen_is = fork_seen;
+    caught_is = fork-caught;
+    opened_is = λ o l. h.opened_is o l ∙ still_open (m.open_on o) (L.open_out o);
+    updates_is = h.updates_is;
+    updates_few = h.updates_few;
   }
 
 module _ (y : Day) (m : Machine) (k : Cells) (h : Represents y m k) (L : Laid y m) (p : ℕ) (i : p ∈ m.layout) where

@@ -57,9 +57,9 @@ module _ (y : Day) (m : Machine) (k : Cells) (h : Represents y m k) (L : Laid y 
     where
       few : k.count na + k.count nb ≤ updates
       few =
-          let l = own_few y' m' L' a (remove-keep b a m.layout (λ q. H.not-self (sym q)) i) in
+          let l = own_few y' m' L' a (remove-keep b a m.layout (λ q. H.not_self (sym q)) i) in
           let e = ap length (changed_same m.own a (m.own a ++ m.own b)) ∙ length-append (m.own a) (m.own b) in
-          omega (arith, l, e, count-is y m k h a i, count-is y m k h b j, h.updates-is, h.updates-few)
+          omega (arith, l, e, count-is y m k h a i, count-is y m k h b j, h.updates_is, h.updates_few)
 
   b-none : k.count nb ≡ 0 → m.own b ≡ []
   unfolding chain
@@ -77,7 +77,7 @@ module _ (y : Day) (m : Machine) (k : Cells) (h : Represents y m k) (L : Laid y 
     b-some = sym b-own ∙ chain_first k.link (k.last nb) n
 
     b-first : k.first nb ≡ w
-    b-first = h.first-is b j w (chain k.link (k.last nb) n) b-some
+    b-first = h.first_is b j w (chain k.link (k.last nb) n) b-some
 
     b-once : Nodup (chain k.link (k.last nb) (suc n))
     b-once = rw b-own (flat_back_nodup m.own b m.layout j L.once)
@@ -91,7 +91,7 @@ module _ (y : Day) (m : Machine) (k : Cells) (h : Represents y m k) (L : Laid y 
         rw (ne_eqb (k.count nb) 0 (λ z. omega arith))
         (rw (same_number y m L x a (was x o) i)
         (cases (eqb x a)
-        (λ q. rw (q, sum_is, b-first, e) (splice k.link (k.last na) (k.count na) (k.last nb) n b-once (b-apart a i (λ z. H.not-self (sym z))) ∙ rw (b-own, h.own_is a i)))
+        (λ q. rw (q, sum_is, b-first, e) (splice k.link (k.last na) (k.count na) (k.last nb) n b-once (b-apart a i (λ z. H.not_self (sym z))) ∙ rw (b-own, h.own_is a i)))
         (λ q. rw (q, b-first) (kept-chain k.link w (k.last na) (k.last (number_of y x)) (k.count (number_of y x)) (b-apart x (was x o) (not-b x o)) ∙ h.own_is x (was x o)))))
 
   own-none : k.count nb ≡ 0 → (x : ℕ) → x ∈ m'.layout → own k' (number_of y x) ≡ m'.own x
@@ -110,43 +110,43 @@ module _ (y : Day) (m : Machine) (k : Cells) (h : Represents y m k) (L : Laid y 
   join_first x o f l =
       cases (eqb (k.count nb) 0)
       (λ z. rw z (cases (eqb x a)
-      (λ q. rw (q, eqb-true x a q, b-none (eqb-true (k.count nb) 0 z), append-nil) (h.first-is a i f l))
-      (λ q. rw q (h.first-is x (was x o) f l))))
+      (λ q. rw (q, eqb-true x a q, b-none (eqb-true (k.count nb) 0 z), append-nil) (h.first_is a i f l))
+      (λ q. rw q (h.first_is x (was x o) f l))))
       (λ z. rw (z, same_number y m L x a (was x o) i) (cases (eqb x a)
-      (λ q. rw (q, count-is y m k h a i) (first_append (m.own a) (m.own b) (k.first na) (k.first nb) (h.first-is a i) (h.first-is b j) f l))
-      (λ q. rw q (h.first-is x (was x o) f l))))
+      (λ q. rw (q, count-is y m k h a i) (first_append (m.own a) (m.own b) (k.first na) (k.first nb) (h.first_is a i) (h.first_is b j) f l))
+      (λ q. rw q (h.first_is x (was x o) f l))))
 
   join-seen : (x z : ℕ) → x ∈ m'.layout → z ∈ m'.layout → k'.seen (number_of y x) (number_of y z) ≡ m'.joinable x z
   join-seen x z o p =
       rw (same_number y m L x a (was x o) i)
-      (cases (eqb x a) (λ e. rw (e, h.seen-is a z i (was z p), h.seen-is b z j (was z p))) (λ e. rw e (h.seen-is x z (was x o) (was z p))))
+      (cases (eqb x a) (λ e. rw (e, h.seen_is a z i (was z p), h.seen_is b z j (was z p))) (λ e. rw e (h.seen_is x z (was x o) (was z p))))
 
   join-caught : (c x : ℕ) → c < clients → x ∈ m'.layout → k'.caught c (number_of y x) ≡ m'.caught_up c x
   join-caught c x l o =
       rw (same_number y m L x a (was x o) i)
-      (cases (eqb x a) (λ e. rw (e, h.caught-is c a l i, h.caught-is c b l j)) (λ e. rw e (h.caught-is c x l (was x o))))
+      (cases (eqb x a) (λ e. rw (e, h.caught_is c a l i, h.caught_is c b l j)) (λ e. rw e (h.caught_is c x l (was x o))))
 
   pub joins : Represents y' m' k'
   unfolding found
   joins = record {
-    layout_is = leave-layout y m k h L b j H.not-main;
-    places = leave-places y m k h L b j H.not-main;
-    out_is = leave-out y m k h L b j H.not-main _ (join-count y L.named a b H);
-    main-out = leave-main y m k h L b j H.not-main;
-    main-number = h.main-number;
+    layout_is = leave-layout y m k h L b j H.not_main;
+    places = leave-places y m k h L b j H.not_main;
+    out_is = leave-out y m k h L b j H.not_main _ (join-count y L.named a b H);
+    main_out = leave-main y m k h L b j H.not_main;
+    main_number = h.main_number;
     given_is = h.given_is;
-    freed-is = leave-freed y m k h L b j H.not-main;
-    queue-places = leave-queue y m k h L b j H.not-main;
-    state-is = leave-state y m k h L b j H.not-main y.mark (λ r n. refl);
-    name-is = h.name-is;
+    freed_is = leave-freed y m k h L b j H.not_main;
+    queue_places = leave-queue y m k h L b j H.not_main;
+    state_is = leave-state y m k h L b j H.not_main y.mark (λ r n. refl);
+    name_is = h.name_is;
     own_is = join-own;
-    first-is = join_first;
-    inherited-is = λ x o u. rw (grown-take m.own a (m.own b) (k.base (number_of y x)) main (h.base-few x (was x o))) (h.inherited-is x (was x o) u);
-    base-few = λ x o. let p = h.base-few x (was x o) in let q = grown-longer m.own a (m.own b) main in omega arith;
-    main-inherits = h.main-inherits;
-    seen-is = join-seen;
-    caught-is = join-caught;
-    opened-is = h.opened-is;
-    updates-is = h.updates-is;
-    updates-few = h.updates-few;
+    first_is = join_first;
+    inherited_is = λ x o u. rw (grown-take m.own a (m.own b) (k.base (number_of y x)) main (h.base_few x (was x o))) (h.inherited_is x (was x o) u);
+    base_few = λ x o. let p = h.base_few x (was x o) in let q = grown-longer m.own a (m.own b) main in omega arith;
+    main_inherits = h.main_inherits;
+    seen_is = join-seen;
+    caught_is = join-caught;
+    opened_is = h.opened_is;
+    updates_is = h.updates_is;
+    updates_few = h.updates_few;
   }

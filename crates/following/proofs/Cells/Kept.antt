@@ -53,23 +53,23 @@ fresh_represents single = record {
   layout_is = refl;
   places = length-replicate {A = ℕ} revisions 0;
   out_is = refl;
-  main-out = Memᴰ.head refl;
-  main-number = refl;
+  main_out = Memᴰ.head refl;
+  main_number = refl;
   given_is = refl;
-  freed-is = refl;
-  queue-places = length-replicate {A = ℕ} revisions 1;
-  state-is = λ r. cases (eqb r main) (λ e. rw (e, eqb-true r main e)) (λ e. let d = eqb-false r main e in rw (e, ne_eqb main r (λ q. d (sym q))));
-  name-is = λ r n e. absurd (none≢name e);
+  freed_is = refl;
+  queue_places = length-replicate {A = ℕ} revisions 1;
+  state_is = λ r. cases (eqb r main) (λ e. rw (e, eqb-true r main e)) (λ e. let d = eqb-false r main e in rw (e, ne_eqb main r (λ q. d (sym q))));
+  name_is = λ r n e. absurd (none≢name e);
   own_is = λ r i. refl;
-  first-is = λ r i f l e. cc;
-  inherited-is = λ r i u. refl;
-  base-few = λ r i. omega arith;
-  main-inherits = refl;
-  seen-is = λ a b i j. refl;
-  caught-is = λ c r l i. rw (lt-ltb c clients l);
-  opened-is = λ c l. rw (lt-ltb c clients l);
-  updates-is = refl;
-  updates-few = omega arith;
+  first_is = λ r i f l e. cc;
+  inherited_is = λ r i u. refl;
+  base_few = λ r i. omega arith;
+  main_inherits = refl;
+  seen_is = λ a b i j. refl;
+  caught_is = λ c r l i. rw (lt-ltb c clients l);
+  opened_is = λ c l. rw (lt-ltb c clients l);
+  updates_is = refl;
+  updates_few = omega arith;
 }
 
 pub fresh_kept : (single : Bool) → Kept fresh fresh_machine (fresh_cells single)
@@ -97,9 +97,9 @@ module _ (y : Day) (m : Machine) (k : Cells) (K : Kept y m k) where
   pub low : (r : ℕ) → IsOut y r → number_of y r < revisions
   low r o = out-low y m k h L r (there r o)
 
-  pub not-main : (r : ℕ) → IsOut y r → (r ≡ main → ⊥) → 0 < number_of y r
-  not-main r o d =
-      let e : number_of y r ≡ main → ⊥ = λ q. d (apart y m L r main (there r o) h.main-out (q ∙ sym h.main-number)) in
+  pub not_main : (r : ℕ) → IsOut y r → (r ≡ main → ⊥) → 0 < number_of y r
+  not_main r o d =
+      let e : number_of y r ≡ main → ⊥ = λ q. d (apart y m L r main (there r o) h.main_out (q ∙ sym h.main_number)) in
       omega arith
 
   -- an update is accepted only if the log has room; a fork gives a number that is not the main revision's
@@ -108,7 +108,7 @@ module _ (y : Day) (m : Machine) (k : Cells) (K : Kept y m k) where
   log_room c r e =
       let others = unknown_client c ∷ not_given y r ∷ y.joined r ∷ marked y r ∷ open_elsewhere y c r ∷ busy_by_other y c r ∷ stale y c r ∷ [] in
       let room = last_quiet others (log_full y) e in
-      rw (h.updates-is, A.same-updates) (ltb-true y.updates updates (not-false _ room))
+      rw (h.updates_is, A.same_updates) (ltb-true y.updates updates (not-false _ room))
 
   module _ (r : ℕ) (name : Option Name) (e : accepted y (Fork r name) ≡ true) where
     abbrev C : CanFork y r name
@@ -122,10 +122,10 @@ module _ (y : Day) (m : Machine) (k : Cells) (K : Kept y m k) where
     next_low = let a = next-given y K.named r name C in let q = next_is in omega arith
 
     pub next-some : next_number k ≡ 0 → ⊥
-    next-some z = next-apart y K.named r name C main (L.out main h.main-out) (h.main-number ∙ sym z ∙ next_is)
+    next-some z = next-apart y K.named r name C main (L.out main h.main_out) (h.main_number ∙ sym z ∙ next_is)
 
   pub mark-not-main : (r : ℕ) → CanDrop y r → r ≡ main → ⊥
-  mark-not-main r D = let F = A.flagged.fine in Drops.not-main y F.layout F.hold F.sound r D.is-mark
+  mark-not-main r D = let F = A.flagged.fine in Drops.not_main y F.layout F.hold F.sound r D.is_mark
 
   represents-after : (s : Step) → accepted y s ≡ true → Laid (after y s) (machine_after m s) → Represents (after y s) (machine_after m s) (step_cells k (by_number y s))
   unfolding step_cells machine_after after
@@ -133,7 +133,7 @@ module _ (y : Day) (m : Machine) (k : Cells) (K : Kept y m k) where
   represents-after (Event c r false) e L' = queries y m k h L c r (there r (can-enter y c r false e).out)
   represents-after (Yield c) e L' = yields y m k h c (y.open_by c)
   represents-after (Fork r name) e L' = let C = can-fork y r name e in forks y m k h L r (there r C.out) name C
-  represents-after (Join a b) e L' = let j = can-join y a b e in joins y m k h L a b (there a j.out-a) (there b j.out-b) j L'
+  represents-after (Join a b) e L' = let j = can-join y a b e in joins y m k h L a b (there a j.out_a) (there b j.out_b) j L'
   represents-after (Drop r) e L' = let D = can-drop y r e in drops y m k h L r (there r D.out) D (mark-not-main r D)
 
   pub kept-after : (s : Step) → accepted y s ≡ true → Kept (after y s) (machine_after m s) (step_cells k (by_number y s))

@@ -33,18 +33,18 @@ use Rattle.diagram.proofs.Order.Inherited.{blocks-numbers, entry_is, numbers_nod
 pub record Laid (y : Day) (m : Machine) : Type 0 where
   pub named : Named y
   pub marks : Marks y
-  pub main-unmarked : marked y 0 ≡ false
-  pub same-revisions : m.revisions ≡ y.revisions
+  pub main_unmarked : marked y 0 ≡ false
+  pub same_revisions : m.revisions ≡ y.revisions
   pub lone : Nodup m.layout
   pub once : Nodup (flat_back m.own m.layout)
   pub out : (r : ℕ) → r ∈ m.layout → IsOut y r
-  pub open-out : (c r : ℕ) → m.open_on c ≡ some r → r ∈ m.layout
-  pub own-low : (r : ℕ) → r ∈ m.layout → (u : ℕ) → u ∈ m.own r → u < m.updates
-  pub inherited-low : (r : ℕ) → r ∈ m.layout → (u : ℕ) → u ∈ m.inherited r → u < m.updates
+  pub open_out : (c r : ℕ) → m.open_on c ≡ some r → r ∈ m.layout
+  pub own_low : (r : ℕ) → r ∈ m.layout → (u : ℕ) → u ∈ m.own r → u < m.updates
+  pub inherited_low : (r : ℕ) → r ∈ m.layout → (u : ℕ) → u ∈ m.inherited r → u < m.updates
 
 -- so an own list is not longer than the log
 pub own_few : (y : Day) (m : Machine) → Laid y m → (r : ℕ) → r ∈ m.layout → length (m.own r) ≤ m.updates
-own_few y m L r i = few_below m.updates (m.own r) (flat_back_nodup m.own r m.layout i L.once) (L.own-low r i)
+own_few y m L r i = few_below m.updates (m.own r) (flat_back_nodup m.own r m.layout i L.once) (L.own_low r i)
 
 -- and no two revisions of the layout bear one number
 module _ (y : Day) (m : Machine) (L : Laid y m) where
@@ -68,10 +68,10 @@ module _ (y : Day) (m : Machine) (A : Agree y m) (N : Named y) (M : Marks y) whe
   out r i = R.back r (rw A.same_layout i)
 
   low : (l : List ℕ) (u : ℕ) → u ∈ numbers d l → u < m.updates
-  low l u i = let p = flat_from (λ e. entry (number d e)) u l i in rw A.same-updates (A.numbered.low p.0 u (entry_is (number d p.0) u p.2))
+  low l u i = let p = flat_from (λ e. entry (number d e)) u l i in rw A.same_updates (A.numbered.low p.0 u (entry_is (number d p.0) u p.2))
 
   own-numbers : (r : ℕ) → r ∈ m.layout → m.own r ≡ numbers d (own_events d (y.terminal r))
-  own-numbers r i = A.same-own r (out r i) ∙ (view-numbers (ordered y m A) (y.terminal r) (terminal-low y m A r)).0
+  own-numbers r i = A.same_own r (out r i) ∙ (view-numbers (ordered y m A) (y.terminal r) (terminal-low y m A r)).0
 
   all-is : numbers d (blocks (contents d y.terminal) m.layout) ≡ flat_back m.own m.layout
   all-is =
@@ -79,8 +79,8 @@ module _ (y : Day) (m : Machine) (A : Agree y m) (N : Named y) (M : Marks y) whe
       ∙ flat_back_same (λ r. numbers d (own_events d (y.terminal r))) m.own m.layout (λ r i. sym (own-numbers r i))
 
   -- an open transaction is on a revision that is out
-  open-out : (c r : ℕ) → m.open_on c ≡ some r → r ∈ m.layout
-  open-out c r e = by (y.open_by c) refl (sym (A.same-open_on c) ∙ e)
+  open_out : (c r : ℕ) → m.open_on c ≡ some r → r ∈ m.layout
+  open_out c r e = by (y.open_by c) refl (sym (A.same_open_on c) ∙ e)
     where
       by : (q : Option ℕ) → y.open_by c ≡ q → revision_of y.transaction q ≡ some r → r ∈ m.layout
       by none p f = let z : ◌≡◌ {A = ℕ} 0 1 = cc in absurd (omega arith)
@@ -94,12 +94,12 @@ module _ (y : Day) (m : Machine) (A : Agree y m) (N : Named y) (M : Marks y) whe
       record {
         named = N;
         marks = M;
-        main-unmarked = A.flagged.fine.sound.marks.main;
-        same-revisions = A.same-revisions;
+        main_unmarked = A.flagged.fine.sound.marks.main;
+        same_revisions = A.same_revisions;
         lone = rw A.same_layout at R.linked.inv.distinct;
         once = subst Nodup all-is (numbers_nodup d y.updates _ A.numbered once);
         out = out;
-        open-out = open-out;
-        own-low = λ r i u j. low (own_events d (y.terminal r)) u (rw (own-numbers r i) at j);
-        inherited-low = λ r i u j. low (inherited_events d (y.terminal r)) u (rw (A.same-inherited r (out r i)) at j);
+        open_out = open_out;
+        own_low = λ r i u j. low (own_events d (y.terminal r)) u (rw (own-numbers r i) at j);
+        inherited_low = λ r i u j. low (inherited_events d (y.terminal r)) u (rw (A.same_inherited r (out r i)) at j);
       }

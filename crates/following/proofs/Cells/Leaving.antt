@@ -39,7 +39,7 @@ module _ (y : Day) (m : Machine) (k : Cells) (h : Represents y m k) (L : Laid y 
 
   -- the main revision is out too, so that the count does not stop
   two : 1 < k.out
-  two = two_out k (number_of y main) nb (listed main h.main-out) (listed b j) (λ e. other (sym (apart y m L main b h.main-out j e)))
+  two = two_out k (number_of y main) nb (listed main h.main_out) (listed b j) (λ e. other (sym (apart y m L main b h.main_out j e)))
 
   pub leave-layout : outs k' ≡ mapped (number_of y) (remove b m.layout)
   leave-layout =
@@ -55,13 +55,13 @@ module _ (y : Day) (m : Machine) (k : Cells) (h : Represents y m k) (L : Laid y 
   leave-out n e = let o = h.out_is in fewer_is k.out two ∙ omega arith
 
   pub leave-main : main ∈ remove b m.layout
-  leave-main = remove-keep b main m.layout (λ e. other (sym e)) h.main-out
+  leave-main = remove-keep b main m.layout (λ e. other (sym e)) h.main_out
 
   pub leave-freed : freed k' ≡ y.numbering.freed ++ (nb ∷ [])
-  leave-freed = drop-freed k nb h.queue-places two (all-given y m k h L) (given-few y m k h L) ∙ ap (λ l. l ++ (nb ∷ [])) h.freed-is
+  leave-freed = drop-freed k nb h.queue_places two (all-given y m k h L) (given-few y m k h L) ∙ ap (λ l. l ++ (nb ∷ [])) h.freed_is
 
   pub leave-queue : length k'.queue ≡ revisions
-  leave-queue = length-set k.queue (k.given - k.out) nb ∙ h.queue-places
+  leave-queue = length-set k.queue (k.given - k.out) nb ∙ h.queue_places
 
   -- a number that means another revision than b keeps its state
   module _ (mark : ℕ → Option Name) (kept : (r : ℕ) → (r ≡ b → ⊥) → mark r ≡ y.mark r) where
@@ -73,4 +73,4 @@ module _ (y : Day) (m : Machine) (k : Cells) (h : Represents y m k) (L : Laid y 
     leave-state n =
         cases (eqb n nb)
         (λ e. rw (e, eqb-true n nb e, L.named.means b (L.out b j), eq-eqb b b refl))
-        (λ e. rw e (h.state-is n ∙ other-state (found y n) (λ q. eqb-false n nb e (sym (meant-number y n b q)))))
+        (λ e. rw e (h.state_is n ∙ other-state (found y n) (λ q. eqb-false n nb e (sym (meant-number y n b q)))))

@@ -47,13 +47,13 @@ module _ (y : Day) (m : Machine) (k : Cells) (h : Represents y m k) (L : Laid y 
 
   -- what is not inherited by count is inherited if it is flagged
   outside : (l : List ℕ) → Apart front l → keep came l ≡ keep (flagged k n) l
-  outside l a = keep_in came (flagged k n) l (λ u j. h.inherited-is r i u ∙ cases (member u front) (λ e. absurd (a u (member_in u front e) j)) (λ e. rw e))
+  outside l a = keep_in came (flagged k n) l (λ u j. h.inherited_is r i u ∙ cases (member u front) (λ e. absurd (a u (member_in u front e) j)) (λ e. rw e))
 
   once : Nodup (front ++ back)
-  once = rw whole (flat_back_nodup m.own main m.layout h.main-out L.once)
+  once = rw whole (flat_back_nodup m.own main m.layout h.main_out L.once)
 
   by_count : (u : ℕ) → u ∈ front → came u ≡ true
-  by_count u o = h.inherited-is r i u ∙ or_left (member u front) (flagged k n u) (in_member u front o)
+  by_count u o = h.inherited_is r i u ∙ or_left (member u front) (flagged k n u) (in_member u front o)
 
   main-picked : keep came (m.own main) ≡ front ++ keep (flagged k n) back
   main-picked = ap (keep came) (sym whole) ∙ keep-++ came front back ∙ rw (keep_all came front by_count, outside back (nodup_apart front back once))
@@ -63,22 +63,22 @@ module _ (y : Day) (m : Machine) (k : Cells) (h : Represents y m k) (L : Laid y 
   picked d j =
       rw main-test
       (cases (eqb d main)
-      (λ e. rw (e, eqb-true d main e, h.own_is main h.main-out) (sym main-picked))
+      (λ e. rw (e, eqb-true d main e, h.own_is main h.main_out) (sym main-picked))
       (λ e. rw (e, h.own_is d j) (sym (outside (m.own d) (λ u a b.
       let o : u ∈ m.own main = rw whole at (Memᴰ.append_left back a) in
-      eqb-false d main e (flat_back-one m.own m.layout L.once d main u j h.main-out b o))))))
+      eqb-false d main e (flat_back-one m.own m.layout L.once d main u j h.main_out b o))))))
     where
       main-test : eqb (number_of y d) main ≡ eqb d main
-      main-test = ap (eqb (number_of y d)) (sym h.main-number) ∙ same_number y m L d main j h.main-out
+      main-test = ap (eqb (number_of y d)) (sym h.main_number) ∙ same_number y m L d main j h.main_out
 
   shown-in : shown m r ⊑ flat_back m.own m.layout
   shown-in = Sublistᴰ.trans (Sublistᴰ.append (keep-⊑ came (flat_back m.own (behind r m.layout))) (Sublistᴰ.refl (m.own r))) (flat_back-behind m.own r m.layout i)
 
   pub shown-few : length (shown m r) ≤ updates
   shown-few =
-      let u = h.updates-is in
-      let v = h.updates-few in
-      let low : (u : ℕ) → u ∈ shown m r → u < m.updates = λ u j. let p = flat_back_from m.own u m.layout (⊑-⊆ shown-in u j) in L.own-low p.0 p.1 u p.2 in
+      let u = h.updates_is in
+      let v = h.updates_few in
+      let low : (u : ℕ) → u ∈ shown m r → u < m.updates = λ u j. let p = flat_back_from m.own u m.layout (⊑-⊆ shown-in u j) in L.own_low p.0 p.1 u p.2 in
       let n = few_below m.updates (shown m r) (Nodup.sublist ∣ shown-in ∣₁ L.once) low in
       omega arith
 

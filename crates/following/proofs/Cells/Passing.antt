@@ -18,4 +18,4 @@ module _ (y : Day) (k : Cells) (F : CellsFollow y k) where
   known c e = ltb-true c clients (not-false (ltb c clients) e)
 
   pub client_is : (c : ℕ) → not (Asked.is_client c) ≡ unknown_client c
-  client_is c = ap not (F.same-client c) ∙ not-not (unknown_client c)
+  client_is c = ap not (F.same_client c) ∙ not-not (unknown_client c)

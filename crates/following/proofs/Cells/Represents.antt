@@ -38,37 +38,37 @@ pub record Represents (y : Day) (m : Machine) (k : Cells) : Type 0 where
   pub layout_is : outs k ≡ mapped (number_of y) m.layout
   pub places : length k.layout ≡ revisions
   pub out_is : k.out ≡ out_count y
-  pub main-out : main ∈ m.layout
-  pub main-number : number_of y main ≡ main
+  pub main_out : main ∈ m.layout
+  pub main_number : number_of y main ≡ main
   -- numbers given out, and those handed in or dropped; states, and the names of marks
   pub given_is : k.given ≡ y.numbering.given
-  pub freed-is : freed k ≡ y.numbering.freed
-  pub queue-places : length k.queue ≡ revisions
-  pub state-is : (n : ℕ) → k.state n ≡ state_cell y.joined y.mark (found y n)
-  pub name-is : (r : ℕ) (n : Name) → y.mark r ≡ some n → k.name (number_of y r) ≡ n
+  pub freed_is : freed k ≡ y.numbering.freed
+  pub queue_places : length k.queue ≡ revisions
+  pub state_is : (n : ℕ) → k.state n ≡ state_cell y.joined y.mark (found y n)
+  pub name_is : (r : ℕ) (n : Name) → y.mark r ≡ some n → k.name (number_of y r) ≡ n
   -- the own lists, by their links; what was inherited, by base count and row
   pub own_is : (r : ℕ) → r ∈ m.layout → own k (number_of y r) ≡ m.own r
-  pub first-is : (r : ℕ) → r ∈ m.layout → (f : ℕ) (l : List ℕ) → m.own r ≡ f ∷ l → k.first (number_of y r) ≡ f
-  pub inherited-is : (r : ℕ) → r ∈ m.layout → (u : ℕ) → member u (m.inherited r) ≡ (member u (take (k.base (number_of y r)) (m.own main)) || flagged k (number_of y r) u)
-  pub base-few : (r : ℕ) → r ∈ m.layout → k.base (number_of y r) ≤ length (m.own main)
-  pub main-inherits : m.inherited main ≡ []
+  pub first_is : (r : ℕ) → r ∈ m.layout → (f : ℕ) (l : List ℕ) → m.own r ≡ f ∷ l → k.first (number_of y r) ≡ f
+  pub inherited_is : (r : ℕ) → r ∈ m.layout → (u : ℕ) → member u (m.inherited r) ≡ (member u (take (k.base (number_of y r)) (m.own main)) || flagged k (number_of y r) u)
+  pub base_few : (r : ℕ) → r ∈ m.layout → k.base (number_of y r) ≤ length (m.own main)
+  pub main_inherits : m.inherited main ≡ []
   -- flags and transactions
-  pub seen-is : (a b : ℕ) → a ∈ m.layout → b ∈ m.layout → k.seen (number_of y a) (number_of y b) ≡ m.joinable a b
-  pub caught-is : (c r : ℕ) → c < clients → r ∈ m.layout → k.caught c (number_of y r) ≡ m.caught_up c r
-  pub opened-is : (c : ℕ) → c < clients → k.opened c ≡ open_cell (number_of y) (m.open_on c)
+  pub seen_is : (a b : ℕ) → a ∈ m.layout → b ∈ m.layout → k.seen (number_of y a) (number_of y b) ≡ m.joinable a b
+  pub caught_is : (c r : ℕ) → c < clients → r ∈ m.layout → k.caught c (number_of y r) ≡ m.caught_up c r
+  pub opened_is : (c : ℕ) → c < clients → k.opened c ≡ open_cell (number_of y) (m.open_on c)
   -- the log
-  pub updates-is : k.updates ≡ m.updates
-  pub updates-few : k.updates ≤ updates
+  pub updates_is : k.updates ≡ m.updates
+  pub updates_few : k.updates ≤ updates
 
 module _ (y : Day) (m : Machine) (k : Cells) (h : Represents y m k) where
   pub count-is : (r : ℕ) → r ∈ m.layout → k.count (number_of y r) ≡ length (m.own r)
   count-is r i = sym (chain_length k.link (k.last (number_of y r)) (k.count (number_of y r))) ∙ ap length (h.own_is r i)
 
   pub count-main : k.count main ≡ length (m.own main)
-  count-main = ap k.count (sym h.main-number) ∙ count-is main h.main-out
+  count-main = ap k.count (sym h.main_number) ∙ count-is main h.main_out
 
   pub own-main : own k main ≡ m.own main
-  own-main = ap (own k) (sym h.main-number) ∙ h.own_is main h.main-out
+  own-main = ap (own k) (sym h.main_number) ∙ h.own_is main h.main_out
 
   module _ (L : Laid y m) where
     pub given-few : k.given ≤ revisions
@@ -91,4 +91,4 @@ module _ (y : Day) (m : Machine) (k : Cells) (h : Represents y m k) where
         rw g
         (cases (ltb y.numbering.given revisions)
         (λ e. rw e)
-        (λ e. let l = ltb-false y.numbering.given revisions e in rw e (sym (first_freed k (omega arith)) ∙ ap head_of h.freed-is)))
+        (λ e. let l = ltb-false y.numbering.given revisions e in rw e (sym (first_freed k (omega arith)) ∙ ap head_of h.freed_is)))

@@ -92,7 +92,7 @@ module _ (y : Day) (F : Fine y) (n count : ℕ) (S : Settled y n count) where
 
     -- nobody else has r busy
     no_other : (o t : ℕ) → y.open_by o ≡ some t → (o ≡ c → ⊥) → (y.transaction t).revision ≡ r → ⊥
-    no_other o t q nc on = eqb-false (y.transaction t).revision r (rw q at (E.idle o (F.sound.runs o t q).client-ok nc)) on
+    no_other o t q nc on = eqb-false (y.transaction t).revision r (rw q at (E.idle o (F.sound.runs o t q).client_ok nc)) on
 
     module _ (here : r ≡ main) where
       before : (p : Option ℕ) → y.open_by c ≡ p → n + length (numbers d (events_before y p)) ≡ count
@@ -166,4 +166,4 @@ module _ (y : Day) (F : Fine y) (n count : ℕ) (S : Settled y n count) where
 
     pub joins-main : a ≡ main → (all : ℕ) → Settled (join_into y a b) all all
     joins-main here all = all_settled (join_into y a b) all (λ (c, t, q, on).
-        eqb-false (y.transaction t).revision a (rw q at (J.idle-a c (F.sound.runs c t q).client-ok tt)) (on ∙ sym here))
+        eqb-false (y.transaction t).revision a (rw q at (J.idle_a c (F.sound.runs c t q).client_ok tt)) (on ∙ sym here))

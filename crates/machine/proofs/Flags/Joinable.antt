@@ -36,22 +36,22 @@ abbrev pub J : Day → ℕ → ℕ → Bool
 J y a b = not (not_joinable y a b)
 
 pub record JoinRule (y : Day) (a b : ℕ) : Type 0 where
-  pub not-main : b ≡ 0 → ⊥
-  pub not-self : b ≡ a → ⊥
-  pub fork-seen : fork_seen y b a ≡ true
-  pub start-unseen : start_seen y b a ≡ false
+  pub not_main : b ≡ 0 → ⊥
+  pub not_self : b ≡ a → ⊥
+  pub fork_seen : fork_seen y b a ≡ true
+  pub start_unseen : start_seen y b a ≡ false
 
 pub J_rule : (y : Day) (a b : ℕ) → J y a b ≡ true → JoinRule y a b
 J_rule y a b e =
     let q = joinable y a b (not-true (not_joinable y a b) e) in
-    record { not-main = eqb-false b 0 q.0; not-self = eqb-false b a q.1; fork-seen = q.2; start-unseen = q.3 }
+    record { not_main = eqb-false b 0 q.0; not_self = eqb-false b a q.1; fork_seen = q.2; start_unseen = q.3 }
 
 rule_J : (y : Day) (a b : ℕ) → JoinRule y a b → J y a b ≡ true
 unfolding not_joinable
-rule_J y a b h = rw (ne_eqb b 0 h.not-main, ne_eqb b a h.not-self, h.fork-seen, h.start-unseen)
+rule_J y a b h = rw (ne_eqb b 0 h.not_main, ne_eqb b a h.not_self, h.fork_seen, h.start_unseen)
 
 pub record Flags (y : Day) (layout : List ℕ) : Type 0 where
-  pub own-start : (r : ℕ) → r < y.revisions → start_seen y r r ≡ true
+  pub own_start : (r : ℕ) → r < y.revisions → start_seen y r r ≡ true
   pub left : (x z : ℕ) → IsOut y x → IsOut y z → start_seen y z x ≡ true → (x ≡ z) ⊎ ((x ∷ z ∷ []) ⊑ layout)
   pub through : (a b z : ℕ) → IsOut y a → IsOut y b → IsOut y z → J y a b ≡ true → start_seen y z b ≡ true → (z ≡ b → ⊥) → start_seen y z a ≡ true
 
@@ -66,7 +66,7 @@ module _ (y : Day) (F : Fine y) where
   pair-order : (a b : ℕ) → IsOut y a → IsOut y b → J y a b ≡ true → (b ∷ a ∷ []) ⊑ F.layout
   pair-order a b oa ob e =
       let h = J_rule y a b e in
-      let may : May d y.terminal y.start_of a b = record { outside = h.start-unseen; at = y.fork_of b; start-of = R.forks b ob.0 h.not-main; leads = h.fork-seen } in
+      let may : May d y.terminal y.start_of a b = record { outside = h.start_unseen; at = y.fork_of b; start_of = R.forks b ob.0 h.not_main; leads = h.fork_seen } in
       (R.linked.inv.joins a b (R.out a oa) (R.out b ob) (true_may d y.terminal y.start_of a b may)).0
 
   -- J after an event
@@ -93,19 +93,19 @@ module _ (y : Day) (F : Fine y) where
         (cases (eqb a r) (λ e. rw e) (λ e. rw e))
 
     pub J-fork-self : J new n n ≡ false
-    J-fork-self = cases (J new n n) (λ e. absurd ((J_rule new n n e).not-self refl)) (λ e. e)
+    J-fork-self = cases (J new n n) (λ e. absurd ((J_rule new n n e).not_self refl)) (λ e. e)
 
   module _ (K : Flags y F.layout) where
     pub flags-enter : (c r : ℕ) (u : Bool) → Flags (enter y c r u) F.layout
     flags-enter c r u = record {
-      own-start = λ s h. enter-start y F c r u s s ∙ K.own-start s h;
+      own_start = λ s h. enter-start y F c r u s s ∙ K.own_start s h;
       left = λ x z ox oz e. K.left x z ox oz (sym (enter-start y F c r u z x) ∙ e);
       through = λ a b z oa ob oz h e k. enter-start y F c r u z a ∙ K.through a b z oa ob oz (sym (J-enter c r u a b) ∙ h) (sym (enter-start y F c r u z b) ∙ e) k;
     }
 
     pub flags-close : (c t : ℕ) → Flags (yield y c (some t)) F.layout
     unfolding not_joinable
-    flags-close c t = record { own-start = K.own-start; left = K.left; through = K.through }
+    flags-close c t = record { own_start = K.own_start; left = K.left; through = K.through }
 
     -- a fork
     module _ (r : ℕ) (name : Option Name) (N : CanFork y r name) where
@@ -119,8 +119,8 @@ module _ (y : Day) (F : Fine y) where
       unfolding not_joinable
       J-fork-copy-by b hb (inl e) =
           same_truth (J ys m b) (J y r b)
-          (λ h. absurd (false≢true (sym (J_rule ys m b h).start-unseen ∙ fork-start-new y F r name b hb ∙ subst (λ z. start_seen y z r ≡ true) (sym (eqb-true b r e)) (K.own-start r N.out.0))))
-          (λ h. absurd ((J_rule y r b h).not-self (eqb-true b r e)))
+          (λ h. absurd (false≢true (sym (J_rule ys m b h).start_unseen ∙ fork-start-new y F r name b hb ∙ subst (λ z. start_seen y z r ≡ true) (sym (eqb-true b r e)) (K.own_start r N.out.0))))
+          (λ h. absurd ((J_rule y r b h).not_self (eqb-true b r e)))
       J-fork-copy-by b hb (inr e) = rw (fork-fork-new y F r name b hb, fork-start-new y F r name b hb, ne_eqb b m hb, e)
 
       -- the new revision may join whom the forker may
@@ -153,7 +153,7 @@ module _ (y : Day) (F : Fine y) where
           by : Which z → Which b → Which a → start_seen ys z a ≡ true
           by (is-new q) (is-new g) w = absurd (k (q ∙ sym g))
           by (is-new q) (is-old j g) w = absurd (false≢true (sym (start_none y F r name b j) ∙ subst (λ w. start_seen ys w b ≡ true) q e))
-          by (is-old j q) (is-new g) (is-new w) = absurd ((J_rule ys a b h).not-self (g ∙ sym w))
+          by (is-old j q) (is-new g) (is-new w) = absurd ((J_rule ys a b h).not_self (g ∙ sym w))
           -- the joinee is new: the joiner is the forker
           by (is-old j q) (is-new g) (is-old i w) =
               let ar : a ≡ r = eqb-true a r (sym (J-fork-new r name a (λ p. omega (arith, N.out.0)) i) ∙ subst (λ s. J ys a s ≡ true) g h) in
@@ -165,7 +165,7 @@ module _ (y : Day) (F : Fine y) where
 
       pub flags-fork : Flags (fork_at y r name) (insert_before r y.revisions F.layout)
       flags-fork = record {
-        own-start = λ s h. cases (eqb s m) (λ e. subst (λ z. start_seen ys z z ≡ true) (sym (eqb-true s m e)) (start-own y F r name)) (λ e. let k = eqb-false s m e in fork-start y F r name s s k k ∙ K.own-start s (omega arith));
+        own_start = λ s h. cases (eqb s m) (λ e. subst (λ z. start_seen ys z z ≡ true) (sym (eqb-true s m e)) (start-own y F r name)) (λ e. let k = eqb-false s m e in fork-start y F r name s s k k ∙ K.own_start s (omega arith));
         left = fork-left;
         through = fork-through;
       }
@@ -176,7 +176,7 @@ module _ (y : Day) (F : Fine y) where
       yh = join_into y a b
 
       ab : J y a b ≡ true
-      ab = rule_J y a b (record { not-main = H.not-main; not-self = H.not-self; fork-seen = H.fork-seen; start-unseen = H.start-unseen })
+      ab = rule_J y a b (record { not_main = H.not_main; not_self = H.not_self; fork_seen = H.fork_seen; start_unseen = H.start_unseen })
 
       -- the join shows the joiner no start of a revision that is out
       starts-stay : (z x : ℕ) → IsOut yh z → start_seen yh z x ≡ start_seen y z x
@@ -188,7 +188,7 @@ module _ (y : Day) (F : Fine y) where
           (λ e. join-start y F a b z x (eqb-false x a e))
         where
           by-joinee : start_seen y z b ≡ true → start_seen y z a ≡ true
-          by-joinee k = K.through a b z H.out-a H.out-b (joined_out y a b z oz).0 ab k (joined_out y a b z oz).1
+          by-joinee k = K.through a b z H.out_a H.out_b (joined_out y a b z oz).0 ab k (joined_out y a b z oz).1
 
       -- J after a join: of another joiner as it was
       pub J-join-other : (x z : ℕ) → (x ≡ a → ⊥) → J yh x z ≡ J y x z
@@ -197,11 +197,11 @@ module _ (y : Day) (F : Fine y) where
 
       -- z stands right of b, and b right of a: a does not see z's start
       right : (z : ℕ) → IsOut yh z → J y b z ≡ true → (z ∷ a ∷ []) ⊑ F.layout
-      right z oz g = pair_trans z b a F.layout R.linked.inv.distinct (pair-order b z H.out-b (joined_out y a b z oz).0 g) (pair-order a b H.out-a H.out-b ab)
+      right z oz g = pair_trans z b a F.layout R.linked.inv.distinct (pair-order b z H.out_b (joined_out y a b z oz).0 g) (pair-order a b H.out_a H.out_b ab)
 
       hidden : (z : ℕ) → IsOut yh z → J y b z ≡ true → start_seen y z a ≡ true → ⊥
       hidden z oz g e =
-          either (K.left a z H.out-a (joined_out y a b z oz).0 e)
+          either (K.left a z H.out_a (joined_out y a b z oz).0 e)
           (λ q. pair_self z F.layout R.linked.inv.distinct (subst (λ s. (z ∷ s ∷ []) ⊑ F.layout) q (right z oz g)))
           (λ q. pair_self z F.layout R.linked.inv.distinct (pair_trans z a z F.layout R.linked.inv.distinct (right z oz g) q))
 
@@ -212,22 +212,22 @@ module _ (y : Day) (F : Fine y) where
           there : J yh a z ≡ true → (J y a z || J y b z) ≡ true
           there e =
               let h = J_rule yh a z e in
-              let u = or-false (start_seen y z a) (start_seen y z b) (sym (join-start-joiner y F a b z) ∙ h.start-unseen) in
-              either (or_cases (fork_seen y z a) (fork_seen y z b) (sym (join-fork-joiner y F a b z) ∙ h.fork-seen))
-              (λ k. or_left (J y a z) (J y b z) (rule_J y a z (record { not-main = h.not-main; not-self = h.not-self; fork-seen = k; start-unseen = u.0 })))
-              (λ k. or_right (J y a z) (J y b z) (rule_J y b z (record { not-main = h.not-main; not-self = (joined_out y a b z oz).1; fork-seen = k; start-unseen = u.1 })))
+              let u = or-false (start_seen y z a) (start_seen y z b) (sym (join-start-joiner y F a b z) ∙ h.start_unseen) in
+              either (or_cases (fork_seen y z a) (fork_seen y z b) (sym (join-fork-joiner y F a b z) ∙ h.fork_seen))
+              (λ k. or_left (J y a z) (J y b z) (rule_J y a z (record { not_main = h.not_main; not_self = h.not_self; fork_seen = k; start_unseen = u.0 })))
+              (λ k. or_right (J y a z) (J y b z) (rule_J y b z (record { not_main = h.not_main; not_self = (joined_out y a b z oz).1; fork_seen = k; start_unseen = u.1 })))
 
           back : (J y a z || J y b z) ≡ true → J yh a z ≡ true
           back e =
               either (or_cases (J y a z) (J y b z) e)
-              (λ k. let g = J_rule y a z k in rule_J yh a z (record { not-main = g.not-main; not-self = g.not-self; fork-seen = join-fork-joiner y F a b z ∙ or_left _ _ g.fork-seen; start-unseen = starts-stay z a oz ∙ g.start-unseen }))
+              (λ k. let g = J_rule y a z k in rule_J yh a z (record { not_main = g.not_main; not_self = g.not_self; fork_seen = join-fork-joiner y F a b z ∙ or_left _ _ g.fork_seen; start_unseen = starts-stay z a oz ∙ g.start_unseen }))
               (λ k.
               let g = J_rule y b z k in
               rule_J yh a z (record {
-                not-main = g.not-main;
-                not-self = λ q. pair_self z F.layout R.linked.inv.distinct (subst (λ s. (z ∷ s ∷ []) ⊑ F.layout) (sym q) (right z oz k));
-                fork-seen = join-fork-joiner y F a b z ∙ or_right (fork_seen y z a) _ g.fork-seen;
-                start-unseen = starts-stay z a oz ∙ cases (start_seen y z a) (λ t. absurd (hidden z oz k t)) (λ t. t);
+                not_main = g.not_main;
+                not_self = λ q. pair_self z F.layout R.linked.inv.distinct (subst (λ s. (z ∷ s ∷ []) ⊑ F.layout) (sym q) (right z oz k));
+                fork_seen = join-fork-joiner y F a b z ∙ or_right (fork_seen y z a) _ g.fork_seen;
+                start_unseen = starts-stay z a oz ∙ cases (start_seen y z a) (λ t. absurd (hidden z oz k t)) (λ t. t);
               }))
 
       join-left : (x z : ℕ) → IsOut yh x → IsOut yh z → start_seen yh z x ≡ true → (x ≡ z) ⊎ ((x ∷ z ∷ []) ⊑ remove b F.layout)
@@ -248,24 +248,24 @@ module _ (y : Day) (F : Fine y) where
           pick (inl q) =
               let g = eqb-true x a q in
               subst (λ s. start_seen y z s ≡ true) (sym g)
-              (either (or_cases (J y a w) (J y b w) (sym (J-joiner w ow) ∙ subst (λ s. J yh s w ≡ true) g h)) (by a H.out-a)
-              (λ j. K.through a b z H.out-a H.out-b (joined_out y a b z oz).0 ab (by b H.out-b j) (joined_out y a b z oz).1))
+              (either (or_cases (J y a w) (J y b w) (sym (J-joiner w ow) ∙ subst (λ s. J yh s w ≡ true) g h)) (by a H.out_a)
+              (λ j. K.through a b z H.out_a H.out_b (joined_out y a b z oz).0 ab (by b H.out_b j) (joined_out y a b z oz).1))
           pick (inr q) = by x (joined_out y a b x ox).0 (sym (J-join-other x w (eqb-false x a q)) ∙ h)
 
       own-stays : (s : ℕ) → s < y.revisions → start_seen yh s s ≡ true
       own-stays s h =
           cases (eqb s a)
-          (λ e. subst (λ w. start_seen yh w w ≡ true) (sym (eqb-true s a e)) (join-start-joiner y F a b a ∙ or_left _ _ (K.own-start a H.out-a.0)))
-          (λ e. join-start y F a b s s (eqb-false s a e) ∙ K.own-start s h)
+          (λ e. subst (λ w. start_seen yh w w ≡ true) (sym (eqb-true s a e)) (join-start-joiner y F a b a ∙ or_left _ _ (K.own_start a H.out_a.0)))
+          (λ e. join-start y F a b s s (eqb-false s a e) ∙ K.own_start s h)
 
       pub flags-join : Flags (join_into y a b) (remove b F.layout)
-      flags-join = record { own-start = own-stays; left = join-left; through = join-through }
+      flags-join = record { own_start = own-stays; left = join-left; through = join-through }
 
     -- a drop: no vertex is added
     pub flags-drop : (r : ℕ) → Flags (drop_at y r) (remove r F.layout)
     unfolding not_joinable
     flags-drop r = record {
-      own-start = K.own-start;
+      own_start = K.own_start;
       left = λ x z ox oz e.
           let p = dropped_out y r x ox in
           let q = dropped_out y r z oz in
@@ -284,9 +284,9 @@ unfolding fine_fresh
 flagged-fresh = record {
   fine = fine_fresh;
   flags = record {
-    own-start = λ r h. leads-self (root ∷ []) 0 (omega arith);
+    own_start = λ r h. leads-self (root ∷ []) 0 (omega arith);
     left = λ x z ox oz e. let a : x < 1 = ox.0 in let b : z < 1 = oz.0 in inl (omega arith);
-    through = λ a b z oa ob oz h e k. let c : b < 1 = ob.0 in absurd ((J_rule fresh a b h).not-main (omega arith));
+    through = λ a b z oa ob oz h e k. let c : b < 1 = ob.0 in absurd ((J_rule fresh a b h).not_main (omega arith));
   };
 }
 

@@ -48,13 +48,13 @@ module _ (y : Day) (F : Fine y) where
   low x = F.sound.real.linked.bound x
 
   start-low : (z : ℕ) → y.start_of z < length d
-  start-low z = F.sound.real.starts-low z
+  start-low z = F.sound.real.starts_low z
 
   fork-low : (z : ℕ) → y.fork_of z < length d
-  fork-low z = F.sound.real.forks-low z
+  fork-low z = F.sound.real.forks_low z
 
-  last-low : (c l : ℕ) → y.last_event c ≡ some l → l < length d
-  last-low = F.sound.sessions.last-low
+  last_low : (c l : ℕ) → y.last_event c ≡ some l → l < length d
+  last_low = F.sound.sessions.last_low
 
   -- an event: the terminals see of the older vertices what they saw
   module _ (c r : ℕ) (u : Bool) where
@@ -84,7 +84,7 @@ module _ (y : Day) (F : Fine y) where
     caught-own x = rw (changed_same y.last_event c (some (length d))) (not-not _ ∙ own-sees x)
 
     pub caught-other : (o x : ℕ) → (o ≡ c → ⊥) → caught (enter y c r u) o x ≡ caught y o x
-    caught-other o x n = rw (changed-other y.last_event c (some (length d)) o n) (follow d (v ∷ d) (y.last_event o) (y.terminal x) ((enter y c r u).terminal x) (λ l e. enter-sees l x (last-low o l e)))
+    caught-other o x n = rw (changed-other y.last_event c (some (length d)) o n) (follow d (v ∷ d) (y.last_event o) (y.terminal x) ((enter y c r u).terminal x) (λ l e. enter-sees l x (last_low o l e)))
 
   -- a fork: the older terminals see what they saw, the new one what the forker's saw
   module _ (r : ℕ) (name : Option Name) where
@@ -140,10 +140,10 @@ module _ (y : Day) (F : Fine y) where
         ∙ cases (eqb x r) (λ e. rw e (leads_newest fv d)) (λ e. rw e (leads_from_newer d (length d) (y.terminal x) (omega arith)))
 
     pub caught-fork : (o x : ℕ) → (x ≡ n → ⊥) → caught ys o x ≡ caught y o x
-    caught-fork o x k = follow d ys.diagram (y.last_event o) (y.terminal x) (ys.terminal x) (λ l e. fork-sees l x (last-low o l e) k)
+    caught-fork o x k = follow d ys.diagram (y.last_event o) (y.terminal x) (ys.terminal x) (λ l e. fork-sees l x (last_low o l e) k)
 
     pub caught-forked : (o : ℕ) → caught ys o n ≡ caught y o r
-    caught-forked o = follow d ys.diagram (y.last_event o) (y.terminal r) (ys.terminal n) (λ l e. fork-new l (last-low o l e))
+    caught-forked o = follow d ys.diagram (y.last_event o) (y.terminal r) (ys.terminal n) (λ l e. fork-new l (last_low o l e))
 
   -- a join: the joiner's terminal sees what either saw
   module _ (a b : ℕ) where
@@ -172,4 +172,4 @@ module _ (y : Day) (F : Fine y) where
     caught-join o x k = follow d (jv ∷ d) (y.last_event o) (y.terminal x) ((join_into y a b).terminal x) (λ l e. join-sees l x k)
 
     pub caught-joiner : (o : ℕ) → caught (join_into y a b) o a ≡ (caught y o a || caught y o b)
-    caught-joiner o = follow-two d (jv ∷ d) (y.last_event o) (y.terminal a) (y.terminal b) ((join_into y a b).terminal a) (λ l e. join-joiner l (last-low o l e))
+    caught-joiner o = follow-two d (jv ∷ d) (y.last_event o) (y.terminal a) (y.terminal b) ((join_into y a b).terminal a) (λ l e. join-joiner l (last_low o l e))

@@ -26,14 +26,14 @@ pub record Agree (y : Day) (k : Machine) : Type 0 where
   pub flagged : Flagged y
   pub numbered : Numbered y.diagram y.updates
   pub same_layout : flagged.fine.layout ≡ k.layout
-  pub same-inherited : (r : ℕ) → IsOut y r → k.inherited r ≡ inherited y.diagram (y.terminal r)
-  pub same-revisions : k.revisions ≡ y.revisions
-  pub same-joined : (r : ℕ) → k.joined r ≡ y.joined r
-  pub same-joinable : (a b : ℕ) → IsOut y a → IsOut y b → k.joinable a b ≡ J y a b
-  pub same-caught_up : (c r : ℕ) → IsOut y r → k.caught_up c r ≡ caught y c r
-  pub same-open_on : (c : ℕ) → k.open_on c ≡ revision_of y.transaction (y.open_by c)
-  pub same-updates : k.updates ≡ y.updates
-  pub same-own : (r : ℕ) → IsOut y r → k.own r ≡ own y.diagram (y.terminal r)
+  pub same_inherited : (r : ℕ) → IsOut y r → k.inherited r ≡ inherited y.diagram (y.terminal r)
+  pub same_revisions : k.revisions ≡ y.revisions
+  pub same_joined : (r : ℕ) → k.joined r ≡ y.joined r
+  pub same_joinable : (a b : ℕ) → IsOut y a → IsOut y b → k.joinable a b ≡ J y a b
+  pub same_caught_up : (c r : ℕ) → IsOut y r → k.caught_up c r ≡ caught y c r
+  pub same_open_on : (c : ℕ) → k.open_on c ≡ revision_of y.transaction (y.open_by c)
+  pub same_updates : k.updates ≡ y.updates
+  pub same_own : (r : ℕ) → IsOut y r → k.own r ≡ own y.diagram (y.terminal r)
 
 pub agree_fresh : Agree fresh fresh_machine
 unfolding tabulate flagged-fresh fine_fresh
@@ -41,14 +41,14 @@ agree_fresh = record {
   flagged = flagged-fresh;
   numbered = numbered-fresh;
   same_layout = refl;
-  same-inherited = λ r o. refl;
-  same-revisions = refl;
-  same-joined = λ r. refl;
-  same-joinable = λ a b oa ob. let h : b < 1 = ob.0 in cases (J fresh a b) (λ e. absurd ((J_rule fresh a b e).not-main (omega arith))) (λ e. sym e);
-  same-caught_up = λ c r o. refl;
-  same-open_on = λ c. refl;
-  same-updates = refl;
-  same-own = λ r o. refl;
+  same_inherited = λ r o. refl;
+  same_revisions = refl;
+  same_joined = λ r. refl;
+  same_joinable = λ a b oa ob. let h : b < 1 = ob.0 in cases (J fresh a b) (λ e. absurd ((J_rule fresh a b e).not_main (omega arith))) (λ e. sym e);
+  same_caught_up = λ c r o. refl;
+  same_open_on = λ c. refl;
+  same_updates = refl;
+  same_own = λ r o. refl;
 }
 
 module _ (y : Day) (k : Machine) (A : Agree y k) where

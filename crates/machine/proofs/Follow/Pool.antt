@@ -44,6 +44,6 @@ flags_from (s ∷ ss) y k J e j = flags_from ss (after y s) (machine_after k s) 
 pub by_pool : (ss : List Step) → Accepted ss → ByPool ss
 unfolding pool
 by_pool ss A a b oa ob =
-    let same : pool ss a b ≡ not (not_joinable (run ss) a b) = sym (ap (λ (M : Pool). M a b) (flags_from ss fresh fresh_machine (λ a b. false) refl refl)) ∙ (follows_run ss A).same-joinable a b oa ob in
+    let same : pool ss a b ≡ not (not_joinable (run ss) a b) = sym (ap (λ (M : Pool). M a b) (flags_from ss fresh fresh_machine (λ a b. false) refl refl)) ∙ (follows_run ss A).same_joinable a b oa ob in
     let rule = joinable_iff ss A a b oa ob in
     (λ J. same ∙ ap not (rule.1 J), λ e. rule.0 (not-true (not_joinable (run ss) a b) (sym same ∙ e)))

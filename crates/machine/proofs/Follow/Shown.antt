@@ -34,9 +34,9 @@ module _ (y : Day) (k : Machine) (A : Agree y k) where
   abbrev R : Real y A.flagged.fine.layout
   R = A.flagged.fine.sound.real
 
-  view-is : (r : ℕ) → IsOut y r → k.inherited r ++ k.own r ≡ view d (y.terminal r)
-  view-is r o =
-      ap (λ t. t ++ k.own r) (A.same-inherited r o) ∙ ap (λ t. inherited d (y.terminal r) ++ t) (A.same-own r o)
+  view_is : (r : ℕ) → IsOut y r → k.inherited r ++ k.own r ≡ view d (y.terminal r)
+  view_is r o =
+      ap (λ t. t ++ k.own r) (A.same_inherited r o) ∙ ap (λ t. inherited d (y.terminal r) ++ t) (A.same_own r o)
       ∙ sym (view-split-own (ordered y k A) (y.terminal r) (terminal-low y k A r))
 
   out : (r : ℕ) → r ∈ k.layout → IsOut y r
@@ -45,13 +45,13 @@ module _ (y : Day) (k : Machine) (A : Agree y k) where
   -- of the own lists left of r, in their order, what it inherited is all that it inherited
   shown-is : (r : ℕ) → IsOut y r → shown k r ≡ view d (y.terminal r)
   shown-is r o =
-      ap (λ t. t ++ k.own r) (ap (λ t. keep (λ u. member u t) left) (A.same-inherited r o) ∙ sym (keep_sublist under once) ∙ sym (A.same-inherited r o)) ∙ view-is r o
+      ap (λ t. t ++ k.own r) (ap (λ t. keep (λ u. member u t) left) (A.same_inherited r o) ∙ sym (keep_sublist under once) ∙ sym (A.same_inherited r o)) ∙ view_is r o
     where
       left : List ℕ
       left = flat_back k.own (behind r k.layout)
 
       own_at : (x : ℕ) → x ∈ behind r k.layout → numbers d (own_events d (y.terminal x)) ≡ k.own x
-      own_at x i = sym (view-numbers (ordered y k A) (y.terminal x) (terminal-low y k A x)).0 ∙ sym (A.same-own x (out x (behind_in r k.layout x i)))
+      own_at x i = sym (view-numbers (ordered y k A) (y.terminal x) (terminal-low y k A x)).0 ∙ sym (A.same_own x (out x (behind_in r k.layout x i)))
 
       left_is : numbers d (blocks (contents d y.terminal) (behind r k.layout)) ≡ left
       left_is = blocks-numbers d (contents d y.terminal) (behind r k.layout) ∙ flat_back_same (λ x. numbers d (own_events d (y.terminal x))) k.own (behind r k.layout) own_at
@@ -70,15 +70,15 @@ module _ (y : Day) (k : Machine) (A : Agree y k) where
   pub follows : Follows y k
   unfolding stale
   follows = record {
-    same-revisions = A.same-revisions;
-    same-joined = A.same-joined;
-    same-joinable = A.same-joinable;
-    same-caught_up = A.same-caught_up;
-    same-open_on = A.same-open_on;
-    same-updates = A.same-updates;
-    same-own = A.same-own;
-    same_view = view-is;
-    same-shown = shown-is;
+    same_revisions = A.same_revisions;
+    same_joined = A.same_joined;
+    same_joinable = A.same_joinable;
+    same_caught_up = A.same_caught_up;
+    same_open_on = A.same_open_on;
+    same_updates = A.same_updates;
+    same_own = A.same_own;
+    same_view = view_is;
+    same_shown = shown-is;
     out = out;
     laid = λ r o. rw A.same_layout at (R.out r o);
   }

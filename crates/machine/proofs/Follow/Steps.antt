@@ -49,14 +49,14 @@ module _ (y : Day) (k : Machine) (A : Agree y k) where
     flagged = flagged_moves y (enter y c r u) A.flagged (enters c r u E);
     numbered = numbered_moves y (enter y c r u) A.numbered (enters c r u E);
     same_layout = A.same_layout;
-    same-inherited = λ s o. A.same-inherited s o ∙ sym (inherited-step y k A v r s refl);
-    same-revisions = A.same-revisions;
-    same-joined = A.same-joined;
-    same-joinable = λ a b oa ob. A.same-joinable a b oa ob ∙ sym (J-enter y F c r u a b);
-    same-caught_up = caught';
-    same-open_on = open';
-    same-updates = rw A.same-updates;
-    same-own = own';
+    same_inherited = λ s o. A.same_inherited s o ∙ sym (inherited-step y k A v r s refl);
+    same_revisions = A.same_revisions;
+    same_joined = A.same_joined;
+    same_joinable = λ a b oa ob. A.same_joinable a b oa ob ∙ sym (J-enter y F c r u a b);
+    same_caught_up = caught';
+    same_open_on = open';
+    same_updates = rw A.same_updates;
+    same_own = own';
   }
     where
       v : Vertex
@@ -69,7 +69,7 @@ module _ (y : Day) (k : Machine) (A : Agree y k) where
       caught' o x ox =
           cases (eqb o c)
           (λ e. ap (λ z. cond z (eqb x r) (k.caught_up o x)) e ∙ sym (caught-own y F c r u x) ∙ ap (λ z. caught (enter y c r u) z x) (sym (eqb-true o c e)))
-          (λ e. ap (λ z. cond z (eqb x r) (k.caught_up o x)) e ∙ A.same-caught_up o x ox ∙ sym (caught-other y F c r u o x (eqb-false o c e)))
+          (λ e. ap (λ z. cond z (eqb x r) (k.caught_up o x)) e ∙ A.same_caught_up o x ox ∙ sym (caught-other y F c r u o x (eqb-false o c e)))
 
       -- another client's open transaction is not the one that the event goes into
       other : (o : ℕ) → (o ≡ c → ⊥) → (q : Option ℕ) → y.open_by o ≡ q → revision_of y.transaction q ≡ revision_of (enter y c r u).transaction q
@@ -84,13 +84,13 @@ module _ (y : Day) (k : Machine) (A : Agree y k) where
       open' o =
           cases (eqb o c)
           (λ e. rw e (ap (λ w. some w.revision) (sym (changed_same y.transaction (enters_into y (y.open_by c)) _))))
-          (λ e. rw e (A.same-open_on o ∙ other o (eqb-false o c e) (y.open_by o) refl))
+          (λ e. rw e (A.same_open_on o ∙ other o (eqb-false o c e) (y.open_by o) refl))
 
       own' : (s : ℕ) → IsOut y s → changed k.own r (k.own r ++ entry (cond u (some k.updates) none)) s ≡ own (v ∷ d) (changed y.terminal r (length d) s)
       own' s o =
           cases (eqb s r)
-          (λ e. rw (e, tabulate-newest own_step [] v d, A.same-updates, A.same-own r E.out))
-          (λ e. rw (e, tabulate-older own_step [] v d (y.terminal s) (terminal-low y k A s)) (A.same-own s o))
+          (λ e. rw (e, tabulate-newest own_step [] v d, A.same_updates, A.same_own r E.out))
+          (λ e. rw (e, tabulate-older own_step [] v d (y.terminal s) (terminal-low y k A s)) (A.same_own s o))
 
   -- a yield closes the open transaction, if there is one
   agree-close : (c t : ℕ) → y.open_by c ≡ some t → Agree (yield y c (some t)) (yield_on k c)
@@ -99,14 +99,14 @@ module _ (y : Day) (k : Machine) (A : Agree y k) where
     flagged = record { fine = record { layout = F.layout; hold = F.hold; sound = sound-close y F.layout F.hold F.sound c t q }; flags = flags-close y F A.flagged.flags c t };
     numbered = A.numbered;
     same_layout = A.same_layout;
-    same-inherited = A.same-inherited;
-    same-revisions = A.same-revisions;
-    same-joined = A.same-joined;
-    same-joinable = A.same-joinable;
-    same-caught_up = A.same-caught_up;
-    same-open_on = λ o. cases (eqb o c) (λ e. rw e) (λ e. rw e (A.same-open_on o ∙ by (y.open_by o)));
-    same-updates = A.same-updates;
-    same-own = A.same-own;
+    same_inherited = A.same_inherited;
+    same_revisions = A.same_revisions;
+    same_joined = A.same_joined;
+    same_joinable = A.same_joinable;
+    same_caught_up = A.same_caught_up;
+    same_open_on = λ o. cases (eqb o c) (λ e. rw e) (λ e. rw e (A.same_open_on o ∙ by (y.open_by o)));
+    same_updates = A.same_updates;
+    same_own = A.same_own;
   }
     where
       same : (s : ℕ) → ((yield y c (some t)).transaction s).revision ≡ (y.transaction s).revision
@@ -121,14 +121,14 @@ module _ (y : Day) (k : Machine) (A : Agree y k) where
     flagged = A.flagged;
     numbered = A.numbered;
     same_layout = A.same_layout;
-    same-inherited = A.same-inherited;
-    same-revisions = A.same-revisions;
-    same-joined = A.same-joined;
-    same-joinable = A.same-joinable;
-    same-caught_up = A.same-caught_up;
-    same-open_on = λ o. cases (eqb o c) (λ e. rw e (sym (ap (revision_of y.transaction) (ap y.open_by (eqb-true o c e) ∙ q)))) (λ e. rw e (A.same-open_on o));
-    same-updates = A.same-updates;
-    same-own = A.same-own;
+    same_inherited = A.same_inherited;
+    same_revisions = A.same_revisions;
+    same_joined = A.same_joined;
+    same_joinable = A.same_joinable;
+    same_caught_up = A.same_caught_up;
+    same_open_on = λ o. cases (eqb o c) (λ e. rw e (sym (ap (revision_of y.transaction) (ap y.open_by (eqb-true o c e) ∙ q)))) (λ e. rw e (A.same_open_on o));
+    same_updates = A.same_updates;
+    same_own = A.same_own;
   }
   agree-yield c (some t) q = agree-close c t q
 
@@ -140,15 +140,15 @@ module _ (y : Day) (k : Machine) (A : Agree y k) where
   agree-fork r name N = record {
     flagged = flagged_moves y (fork_at y r name) A.flagged (forks_at r name N);
     numbered = numbered_moves y (fork_at y r name) A.numbered (forks_at r name N);
-    same_layout = rw (A.same-revisions, A.same_layout);
-    same-inherited = λ s o. rw A.same-revisions (inherited' s o);
-    same-revisions = ap suc A.same-revisions;
-    same-joined = λ s. rw A.same-revisions (cases (eqb s n) (λ e. rw e) (λ e. rw e (A.same-joined s)));
-    same-joinable = λ a b oa ob. rw A.same-revisions (joinable' a b oa ob (split (eqb b n)) (split (eqb a n)));
-    same-caught_up = λ c x o. rw A.same-revisions (caught' c x o);
-    same-open_on = A.same-open_on;
-    same-updates = A.same-updates;
-    same-own = λ s o. rw A.same-revisions (own' s o);
+    same_layout = rw (A.same_revisions, A.same_layout);
+    same_inherited = λ s o. rw A.same_revisions (inherited' s o);
+    same_revisions = ap suc A.same_revisions;
+    same_joined = λ s. rw A.same_revisions (cases (eqb s n) (λ e. rw e) (λ e. rw e (A.same_joined s)));
+    same_joinable = λ a b oa ob. rw A.same_revisions (joinable' a b oa ob (split (eqb b n)) (split (eqb a n)));
+    same_caught_up = λ c x o. rw A.same_revisions (caught' c x o);
+    same_open_on = A.same_open_on;
+    same_updates = A.same_updates;
+    same_own = λ s o. rw A.same_revisions (own' s o);
   }
     where
       fv : Vertex
@@ -163,20 +163,20 @@ module _ (y : Day) (k : Machine) (A : Agree y k) where
       -- the new revision inherits what the forker's terminal shows
       taken : k.inherited r ++ k.own r ≡ inherited (sv ∷ fv ∷ d) (suc (length d))
       taken =
-          ap (λ t. t ++ k.own r) (A.same-inherited r N.out) ∙ ap (λ t. inherited d (y.terminal r) ++ t) (A.same-own r N.out)
+          ap (λ t. t ++ k.own r) (A.same_inherited r N.out) ∙ ap (λ t. inherited d (y.terminal r) ++ t) (A.same_own r N.out)
           ∙ sym (view-split-own (ordered y k A) (y.terminal r) (terminal-low y k A r)) ∙ sym (tabulate-newest view_step [] fv d) ∙ sym (inherited-start (fv ∷ d) ordered1 (length d) (omega arith))
 
       inherited' : (s : ℕ) → IsOut (fork_at y r name) s → changed k.inherited n (k.inherited r ++ k.own r) s ≡ inherited (sv ∷ fv ∷ d) ((fork_at y r name).terminal s)
       inherited' s o =
           cases (eqb s n)
           (λ e. rw e taken)
-          (λ e. rw e (A.same-inherited s (forked_out y r name s o e) ∙ sym (inherited-step y k A fv r s refl) ∙ sym (inherited_older sv (fv ∷ d) ordered1 (changed y.terminal r (length d) s) (on-bound d fv y.terminal (terminal-low y k A) r s))))
+          (λ e. rw e (A.same_inherited s (forked_out y r name s o e) ∙ sym (inherited-step y k A fv r s refl) ∙ sym (inherited_older sv (fv ∷ d) ordered1 (changed y.terminal r (length d) s) (on-bound d fv y.terminal (terminal-low y k A) r s))))
 
       own_old : (s : ℕ) → IsOut y s → k.own s ≡ own (fv ∷ d) (changed y.terminal r (length d) s)
       own_old s o =
           cases (eqb s r)
-          (λ e. rw (e, tabulate-newest own_step [] fv d) (A.same-own s o ∙ ap (λ i. own d (y.terminal i)) (eqb-true s r e)))
-          (λ e. rw (e, tabulate-older own_step [] fv d (y.terminal s) (terminal-low y k A s)) (A.same-own s o))
+          (λ e. rw (e, tabulate-newest own_step [] fv d) (A.same_own s o ∙ ap (λ i. own d (y.terminal i)) (eqb-true s r e)))
+          (λ e. rw (e, tabulate-older own_step [] fv d (y.terminal s) (terminal-low y k A s)) (A.same_own s o))
 
       own' : (s : ℕ) → IsOut (fork_at y r name) s → changed k.own n [] s ≡ own (sv ∷ fv ∷ d) ((fork_at y r name).terminal s)
       own' s o =
@@ -187,8 +187,8 @@ module _ (y : Day) (k : Machine) (A : Agree y k) where
       caught' : (c x : ℕ) → IsOut (fork_at y r name) x → cond (eqb x n) (k.caught_up c r) (k.caught_up c x) ≡ caught (fork_at y r name) c x
       caught' c x o =
           cases (eqb x n)
-          (λ e. ap (λ t. cond t (k.caught_up c r) (k.caught_up c x)) e ∙ A.same-caught_up c r N.out ∙ sym (caught-forked y F r name c) ∙ ap (λ t. caught (fork_at y r name) c t) (sym (eqb-true x n e)))
-          (λ e. ap (λ t. cond t (k.caught_up c r) (k.caught_up c x)) e ∙ A.same-caught_up c x (forked_out y r name x o e) ∙ sym (caught-fork y F r name c x (eqb-false x n e)))
+          (λ e. ap (λ t. cond t (k.caught_up c r) (k.caught_up c x)) e ∙ A.same_caught_up c r N.out ∙ sym (caught-forked y F r name c) ∙ ap (λ t. caught (fork_at y r name) c t) (sym (eqb-true x n e)))
+          (λ e. ap (λ t. cond t (k.caught_up c r) (k.caught_up c x)) e ∙ A.same_caught_up c x (forked_out y r name x o e) ∙ sym (caught-fork y F r name c x (eqb-false x n e)))
 
       joinable' : (a b : ℕ) → IsOut (fork_at y r name) a → IsOut (fork_at y r name) b → (eqb b n ≡ true) ⊎ (eqb b n ≡ false) → (eqb a n ≡ true) ⊎ (eqb a n ≡ false) → fork_pool k.joinable r n a b ≡ J (fork_at y r name) a b
       joinable' a b oa ob (inl e) (inl g) =
@@ -197,11 +197,11 @@ module _ (y : Day) (k : Machine) (A : Agree y k) where
       joinable' a b oa ob (inl e) (inr g) =
           ap (λ t. cond t (eqb a r) (changed k.joinable n (k.joinable r) a b)) e ∙ sym (J-fork-new y F r name a (λ p. omega (arith, N.out.0)) (eqb-false a n g)) ∙ ap (λ t. J (fork_at y r name) a t) (sym (eqb-true b n e))
       joinable' a b oa ob (inr e) (inl g) =
-          ap (λ t. cond t (eqb a r) (changed k.joinable n (k.joinable r) a b)) e ∙ ap (λ t. cond t (k.joinable r) (k.joinable a) b) g ∙ A.same-joinable r b N.out (forked_out y r name b ob e)
+          ap (λ t. cond t (eqb a r) (changed k.joinable n (k.joinable r) a b)) e ∙ ap (λ t. cond t (k.joinable r) (k.joinable a) b) g ∙ A.same_joinable r b N.out (forked_out y r name b ob e)
           ∙ sym (J-fork-copy y F A.flagged.flags r name N b (eqb-false b n e)) ∙ ap (λ t. J (fork_at y r name) t b) (sym (eqb-true a n g))
       joinable' a b oa ob (inr e) (inr g) =
           ap (λ t. cond t (eqb a r) (changed k.joinable n (k.joinable r) a b)) e ∙ ap (λ t. cond t (k.joinable r) (k.joinable a) b) g
-          ∙ A.same-joinable a b (forked_out y r name a oa g) (forked_out y r name b ob e) ∙ sym (J-fork-old y F r name a b (eqb-false a n g) (eqb-false b n e))
+          ∙ A.same_joinable a b (forked_out y r name a oa g) (forked_out y r name b ob e) ∙ sym (J-fork-old y F r name a b (eqb-false a n g) (eqb-false b n e))
 
   pub agree-join : (a b : ℕ) → CanJoin y a b → Agree (join_into y a b) (join_on k a b)
   unfolding flagged_moves fine_moves
@@ -209,14 +209,14 @@ module _ (y : Day) (k : Machine) (A : Agree y k) where
     flagged = flagged_moves y (join_into y a b) A.flagged (joins_into a b H);
     numbered = numbered_moves y (join_into y a b) A.numbered (joins_into a b H);
     same_layout = ap (remove b) A.same_layout;
-    same-inherited = λ s o. A.same-inherited s (joined_out y a b s o).0 ∙ sym (inherited-step y k A jv a s refl);
-    same-revisions = A.same-revisions;
-    same-joined = λ s. cases (eqb s b) (λ e. rw e) (λ e. rw e (A.same-joined s));
-    same-joinable = joinable';
-    same-caught_up = caught';
-    same-open_on = A.same-open_on;
-    same-updates = A.same-updates;
-    same-own = own';
+    same_inherited = λ s o. A.same_inherited s (joined_out y a b s o).0 ∙ sym (inherited-step y k A jv a s refl);
+    same_revisions = A.same_revisions;
+    same_joined = λ s. cases (eqb s b) (λ e. rw e) (λ e. rw e (A.same_joined s));
+    same_joinable = joinable';
+    same_caught_up = caught';
+    same_open_on = A.same_open_on;
+    same_updates = A.same_updates;
+    same_own = own';
   }
     where
       jv : Vertex
@@ -225,25 +225,25 @@ module _ (y : Day) (k : Machine) (A : Agree y k) where
       own' : (s : ℕ) → IsOut (join_into y a b) s → changed k.own a (k.own a ++ k.own b) s ≡ own (jv ∷ d) (changed y.terminal a (length d) s)
       own' s o =
           cases (eqb s a)
-          (λ e. rw (e, tabulate-newest own_step [] jv d, A.same-own a H.out-a, A.same-own b H.out-b))
-          (λ e. rw (e, tabulate-older own_step [] jv d (y.terminal s) (terminal-low y k A s)) (A.same-own s (joined_out y a b s o).0))
+          (λ e. rw (e, tabulate-newest own_step [] jv d, A.same_own a H.out_a, A.same_own b H.out_b))
+          (λ e. rw (e, tabulate-older own_step [] jv d (y.terminal s) (terminal-low y k A s)) (A.same_own s (joined_out y a b s o).0))
 
       joinable' : (x z : ℕ) → IsOut (join_into y a b) x → IsOut (join_into y a b) z → join_pool k.joinable a b x z ≡ J (join_into y a b) x z
       joinable' x z ox oz =
           cases (eqb x a)
           (λ e.
           ap (λ t. cond t (λ w. k.joinable a w || k.joinable b w) (k.joinable x) z) e
-          ∙ ap (λ t. t || k.joinable b z) (A.same-joinable a z H.out-a (joined_out y a b z oz).0) ∙ ap (λ t. J y a z || t) (A.same-joinable b z H.out-b (joined_out y a b z oz).0)
+          ∙ ap (λ t. t || k.joinable b z) (A.same_joinable a z H.out_a (joined_out y a b z oz).0) ∙ ap (λ t. J y a z || t) (A.same_joinable b z H.out_b (joined_out y a b z oz).0)
           ∙ sym (J-joiner y F A.flagged.flags a b H z oz) ∙ ap (λ t. J (join_into y a b) t z) (sym (eqb-true x a e)))
-          (λ e. ap (λ t. cond t (λ w. k.joinable a w || k.joinable b w) (k.joinable x) z) e ∙ A.same-joinable x z (joined_out y a b x ox).0 (joined_out y a b z oz).0 ∙ sym (J-join-other y F A.flagged.flags a b H x z (eqb-false x a e)))
+          (λ e. ap (λ t. cond t (λ w. k.joinable a w || k.joinable b w) (k.joinable x) z) e ∙ A.same_joinable x z (joined_out y a b x ox).0 (joined_out y a b z oz).0 ∙ sym (J-join-other y F A.flagged.flags a b H x z (eqb-false x a e)))
 
       caught' : (c x : ℕ) → IsOut (join_into y a b) x → cond (eqb x a) (k.caught_up c a || k.caught_up c b) (k.caught_up c x) ≡ caught (join_into y a b) c x
       caught' c x o =
           cases (eqb x a)
           (λ e.
-          ap (λ t. cond t (k.caught_up c a || k.caught_up c b) (k.caught_up c x)) e ∙ ap (λ t. t || k.caught_up c b) (A.same-caught_up c a H.out-a) ∙ ap (λ t. caught y c a || t) (A.same-caught_up c b H.out-b)
+          ap (λ t. cond t (k.caught_up c a || k.caught_up c b) (k.caught_up c x)) e ∙ ap (λ t. t || k.caught_up c b) (A.same_caught_up c a H.out_a) ∙ ap (λ t. caught y c a || t) (A.same_caught_up c b H.out_b)
           ∙ sym (caught-joiner y F a b c) ∙ ap (λ t. caught (join_into y a b) c t) (sym (eqb-true x a e)))
-          (λ e. ap (λ t. cond t (k.caught_up c a || k.caught_up c b) (k.caught_up c x)) e ∙ A.same-caught_up c x (joined_out y a b x o).0 ∙ sym (caught-join y F a b c x (eqb-false x a e)))
+          (λ e. ap (λ t. cond t (k.caught_up c a || k.caught_up c b) (k.caught_up c x)) e ∙ A.same_caught_up c x (joined_out y a b x o).0 ∙ sym (caught-join y F a b c x (eqb-false x a e)))
 
   -- no vertex is added: what is out still stands as it did
   pub agree-drop : (r : ℕ) → CanDrop y r → Agree (drop_at y r) (drop_on k r)
@@ -252,12 +252,12 @@ module _ (y : Day) (k : Machine) (A : Agree y k) where
     flagged = flagged_moves y (drop_at y r) A.flagged (drops_of r D);
     numbered = A.numbered;
     same_layout = ap (remove r) A.same_layout;
-    same-inherited = λ s o. A.same-inherited s (dropped_out y r s o).0;
-    same-revisions = A.same-revisions;
-    same-joined = λ s. cases (eqb s r) (λ e. rw e) (λ e. rw e (A.same-joined s));
-    same-joinable = λ a b oa ob. A.same-joinable a b (dropped_out y r a oa).0 (dropped_out y r b ob).0;
-    same-caught_up = λ c x o. A.same-caught_up c x (dropped_out y r x o).0;
-    same-open_on = A.same-open_on;
-    same-updates = A.same-updates;
-    same-own = λ s o. A.same-own s (dropped_out y r s o).0;
+    same_inherited = λ s o. A.same_inherited s (dropped_out y r s o).0;
+    same_revisions = A.same_revisions;
+    same_joined = λ s. cases (eqb s r) (λ e. rw e) (λ e. rw e (A.same_joined s));
+    same_joinable = λ a b oa ob. A.same_joinable a b (dropped_out y r a oa).0 (dropped_out y r b ob).0;
+    same_caught_up = λ c x o. A.same_caught_up c x (dropped_out y r x o).0;
+    same_open_on = A.same_open_on;
+    same_updates = A.same_updates;
+    same_own = λ s o. A.same_own s (dropped_out y r s o).0;
   }

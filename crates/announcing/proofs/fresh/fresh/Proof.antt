@@ -24,12 +24,12 @@ start-requires c κs =
 returns-3 : tie.Need-returns-3
 returns-3 c =
     let at_clear = c.before.before in
-    let at-start = at_clear.before.before.before.before in
-    let at_right = at-start.before.before in
+    let at_start = at_clear.before.before.before.before in
+    let at_right = at_start.before.before in
     let at-board = at_right.before.before in
     let at_length = at-board.before.before in
     fresh-begun _ _ _ _ _ ((length-told _).holds (sym at_length.before.before.check-length.ensures ∙ at_length.enum_told.given.1))
-    (board-long _ (sym at-board.check-board.ensures ∙ at_right.enum-told3.given.1)) at-start.start.ensures at_clear.clear.ensures
+    (board-long _ (sym at-board.check-board.ensures ∙ at_right.enum-told3.given.1)) at_start.start.ensures at_clear.clear.ensures
 
 pub fresh-spec : {M : Type 1} → statement M
 fresh-spec = tie.close (tie.spec

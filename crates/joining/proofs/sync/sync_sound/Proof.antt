@@ -43,8 +43,8 @@ start-requires c κs =
 returns-2 : tie.Need-returns-2
 unfolding low
 returns-2 c =
-    let at-start = c.before.before.before in
-    let at_next = at-start.before.before in
+    let at_start = c.before.before.before in
+    let at_next = at_start.before.before in
     let at_join = at_next.before.before.before.before.before in
     let at-found = at_join.before.before.before in
     let at-check = at-found.before.before in
@@ -52,7 +52,7 @@ returns-2 c =
     let s = start.args in
     let i = rw at-found.found.given.1 at at-check.check-join.ensures.1 in
     let e = sym at-check.check-join.ensures.0 ∙ at-found.found.given.1 in
-    sync-done s.t.now start.requires.0 s.joinee _ _ e i.1 i.2 _ at_join.join-lower.ensures.1 _ _ at_next.next.ensures at-start.start.ensures
+    sync-done s.t.now start.requires.0 s.joinee _ _ e i.1 i.2 _ at_join.join-lower.ensures.1 _ _ at_next.next.ensures at_start.start.ensures
 
 pub sync-sound-spec : {M : Type 1} → statement M
 sync-sound-spec = tie.close (tie.spec

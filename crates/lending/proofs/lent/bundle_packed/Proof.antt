@@ -19,19 +19,19 @@ slice-aggregate-all c = search rules
 
 slice-aggregate-bundle : tie.Need-slice-aggregate-bundle
 slice-aggregate-bundle c =
-    let at-end = c.before.before.before.before in
-    let p = at-end.before.before.before.before.args.p in
+    let at_end = c.before.before.before.before in
+    let p = at_end.before.before.before.before.args.p in
     let room : 768 ≡ length p.bytes = slice-aggregate-all c.before.before.before in
     let most = among-most p.count in
-    sym (length-take-le _ p.bytes (omega (arith, at-end.among.ensures)))
+    sym (length-take-le _ p.bytes (omega (arith, at_end.among.ensures)))
 
 returns : tie.Need-returns
 unfolding records_in
 returns c =
     let at_call = c.before.before.before.before in
-    let at-end = at_call.before.before.before.before.before in
-    let s = at-end.before.before.before.before.args in
-    (at_call.bundle.ensures.0 ∙ ap (λ k. bundle_out s.t.now s.client s.revision (take (12 * k) s.p.bytes) (length s.board.now)) at-end.among.ensures, at_call.bundle.ensures.1)
+    let at_end = at_call.before.before.before.before.before in
+    let s = at_end.before.before.before.before.args in
+    (at_call.bundle.ensures.0 ∙ ap (λ k. bundle_out s.t.now s.client s.revision (take (12 * k) s.p.bytes) (length s.board.now)) at_end.among.ensures, at_call.bundle.ensures.1)
 
 pub bundle-packed-spec : {M : Type 1} → statement M
 bundle-packed-spec =

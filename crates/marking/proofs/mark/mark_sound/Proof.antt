@@ -36,12 +36,12 @@ start-marked-requires c κs =
 returns-2 : tie.Need-returns-2
 unfolding low on_pair
 returns-2 c =
-    let at-start = c.before.before.before in
-    let at-found = at-start.before.before.before in
+    let at_start = c.before.before.before in
+    let at-found = at_start.before.before.before in
     let at-check = at-found.before.before in
     let start = at-check.before.before.before.before.before in
     let s = start.args in
-    same_taken _ _ _ _ at-start.start-marked.ensures refl
+    same_taken _ _ _ _ at_start.start-marked.ensures refl
     ∙ mark_by s.t.now start.requires.0 s.revision s.name.now _ (sym at-check.check-mark.ensures.0 ∙ at-found.found.given.1)
 
 pub mark-sound-spec : {M : Type 1} → statement M

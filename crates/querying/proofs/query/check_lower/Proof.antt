@@ -158,8 +158,8 @@ returns-9 c =
     let bib = bib-known _ (sym at-bib.before.before.check-bib.ensures ∙ at-bib.enum-told7.given.1) in
     let clear = (open_told _ _ _).fails (sym at_clear.before.before.check-open.ensures ∙ at_clear.enum-told9.given.1) in
     let free = (other-use-told _ _ _).fails (sym at-free.before.before.check-use-by-other.ensures ∙ at-free.enum-told11.given.1) in
-    let caught-up = (stale-told _ _ _).fails (sym at-caught-up.before.before.check-stale.ensures ∙ at-caught-up.enum-told13.given.1) in
-    (rw (client, given, out, unmarked, bib, clear, free, caught-up), (known _ _ client, was-given _ _ _ given))
+    let caught_up = (stale-told _ _ _).fails (sym at-caught-up.before.before.check-stale.ensures ∙ at-caught-up.enum-told13.given.1) in
+    (rw (client, given, out, unmarked, bib, clear, free, caught_up), (known _ _ client, was-given _ _ _ given))
 
 pub check-lower-spec : {M : Type 1} → statement M
 check-lower-spec = tie.close (tie.spec

@@ -18,8 +18,8 @@ start-requires c κs =
 
 use-number-requires : tie.Need-use-number-requires
 use-number-requires c κs =
-    let at-start = c.before.before.before in
-    let at-inherit = at-start.before.before.before.before in
+    let at_start = c.before.before.before in
+    let at-inherit = at_start.before.before.before.before in
     let at-given = at-inherit.before.before in
     let start = at-given.before.before.before.before.before in
     let g = (ranges start.args.d.now start.requires.1).most-given in
@@ -30,14 +30,14 @@ returns : tie.Need-returns
 unfolding cells
 returns c =
     let at-use = c.before.before in
-    let at-start = at-use.before.before.before.before in
-    let at-inherit = at-start.before.before.before.before in
+    let at_start = at-use.before.before.before.before in
+    let at-inherit = at_start.before.before.before.before in
     let at-given = at-inherit.before.before in
     let at_out = at-given.before.before in
     let start = at_out.before.before.before in
     let s = start.args in
     branch-done s.d.now start.requires.0 _ _ _ s.parent.0 s.child.0 at_out.out.result at-given.given.result start.requires.4
-    at_out.out.ensures.0 at-given.given.ensures.0 at-inherit.inherit.ensures at-start.start.ensures at-use.use-number.ensures
+    at_out.out.ensures.0 at-given.given.ensures.0 at-inherit.inherit.ensures at_start.start.ensures at-use.use-number.ensures
 
 pub branch-spec : {M : Type 1} → statement M
 branch-spec = tie.close (tie.spec

@@ -53,8 +53,8 @@ returns-4 c =
     let at-given-a = at-given-b.before.before.before.before in
     let given-a = sym at-given-a.before.before.before.check-given.ensures ∙ at-given-a.before.a.given.1 in
     let given-b = sym at-given-b.before.before.before.check-given2.ensures ∙ at-given-b.before.b.given.1 in
-    let out-a = (joined-told _ _).fails (sym at-out-a.before.before.check-joined.ensures ∙ at-out-a.enum-told3.given.1) in
-    (rw (given-a, given-b, out-a, (joined-told _ _).holds (sym c.before.before.check-joined2.ensures ∙ c.enum-told6.given.1)), tt)
+    let out_a = (joined-told _ _).fails (sym at-out-a.before.before.check-joined.ensures ∙ at-out-a.enum-told3.given.1) in
+    (rw (given-a, given-b, out_a, (joined-told _ _).holds (sym c.before.before.check-joined2.ensures ∙ c.enum-told6.given.1)), tt)
 
 returns-5 : tie.Need-returns-5
 unfolding join_check on_given
@@ -65,9 +65,9 @@ returns-5 c =
     let at-given-a = at-given-b.before.before.before.before in
     let given-a = sym at-given-a.before.before.before.check-given.ensures ∙ at-given-a.before.a.given.1 in
     let given-b = sym at-given-b.before.before.before.check-given2.ensures ∙ at-given-b.before.b.given.1 in
-    let out-a = (joined-told _ _).fails (sym at-out-a.before.before.check-joined.ensures ∙ at-out-a.enum-told3.given.1) in
-    let out-b = (joined-told _ _).fails (sym at-out-b.before.before.check-joined2.ensures ∙ at-out-b.enum-told5.given.1) in
-    (rw (given-a, given-b, out-a, out-b, (line-told _ _).holds (sym c.before.before.check-line.ensures ∙ c.enum-told8.given.1)), tt)
+    let out_a = (joined-told _ _).fails (sym at-out-a.before.before.check-joined.ensures ∙ at-out-a.enum-told3.given.1) in
+    let out_b = (joined-told _ _).fails (sym at-out-b.before.before.check-joined2.ensures ∙ at-out-b.enum-told5.given.1) in
+    (rw (given-a, given-b, out_a, out_b, (line-told _ _).holds (sym c.before.before.check-line.ensures ∙ c.enum-told8.given.1)), tt)
 
 check-marked-requires : tie.Need-check-marked-requires
 check-marked-requires c κs =
@@ -89,10 +89,10 @@ returns-6 c =
     let at-given-a = at-given-b.before.before.before.before in
     let given-a = sym at-given-a.before.before.before.check-given.ensures ∙ at-given-a.before.a.given.1 in
     let given-b = sym at-given-b.before.before.before.check-given2.ensures ∙ at-given-b.before.b.given.1 in
-    let out-a = (joined-told _ _).fails (sym at-out-a.before.before.check-joined.ensures ∙ at-out-a.enum-told3.given.1) in
-    let out-b = (joined-told _ _).fails (sym at-out-b.before.before.check-joined2.ensures ∙ at-out-b.enum-told5.given.1) in
+    let out_a = (joined-told _ _).fails (sym at-out-a.before.before.check-joined.ensures ∙ at-out-a.enum-told3.given.1) in
+    let out_b = (joined-told _ _).fails (sym at-out-b.before.before.check-joined2.ensures ∙ at-out-b.enum-told5.given.1) in
     let on_line = (line-told _ _).fails (sym at-on-line.before.before.check-line.ensures ∙ at-on-line.enum-told7.given.1) in
-    (rw (given-a, given-b, out-a, out-b, on_line, (marked-told _ _).holds (sym c.before.before.check-marked.ensures ∙ c.enum-told10.given.1)), tt)
+    (rw (given-a, given-b, out_a, out_b, on_line, (marked-told _ _).holds (sym c.before.before.check-marked.ensures ∙ c.enum-told10.given.1)), tt)
 
 check-marked-requires-2 : tie.Need-check-marked-requires-2
 check-marked-requires-2 c κs =
@@ -117,11 +117,11 @@ returns-7 c =
     let at-given-a = at-given-b.before.before.before.before in
     let given-a = sym at-given-a.before.before.before.check-given.ensures ∙ at-given-a.before.a.given.1 in
     let given-b = sym at-given-b.before.before.before.check-given2.ensures ∙ at-given-b.before.b.given.1 in
-    let out-a = (joined-told _ _).fails (sym at-out-a.before.before.check-joined.ensures ∙ at-out-a.enum-told3.given.1) in
-    let out-b = (joined-told _ _).fails (sym at-out-b.before.before.check-joined2.ensures ∙ at-out-b.enum-told5.given.1) in
+    let out_a = (joined-told _ _).fails (sym at-out-a.before.before.check-joined.ensures ∙ at-out-a.enum-told3.given.1) in
+    let out_b = (joined-told _ _).fails (sym at-out-b.before.before.check-joined2.ensures ∙ at-out-b.enum-told5.given.1) in
     let on_line = (line-told _ _).fails (sym at-on-line.before.before.check-line.ensures ∙ at-on-line.enum-told7.given.1) in
-    let unmarked-a = (marked-told _ _).fails (sym at-unmarked-a.before.before.check-marked.ensures ∙ at-unmarked-a.enum-told9.given.1) in
-    (rw (given-a, given-b, out-a, out-b, on_line, unmarked-a, (marked-told _ _).holds (sym c.before.before.check-marked2.ensures ∙ c.enum-told12.given.1)), tt)
+    let unmarked_a = (marked-told _ _).fails (sym at-unmarked-a.before.before.check-marked.ensures ∙ at-unmarked-a.enum-told9.given.1) in
+    (rw (given-a, given-b, out_a, out_b, on_line, unmarked_a, (marked-told _ _).holds (sym c.before.before.check-marked2.ensures ∙ c.enum-told12.given.1)), tt)
 
 returns-8 : tie.Need-returns-8
 unfolding join_check on_given
@@ -135,12 +135,12 @@ returns-8 c =
     let at-given-a = at-given-b.before.before.before.before in
     let given-a = sym at-given-a.before.before.before.check-given.ensures ∙ at-given-a.before.a.given.1 in
     let given-b = sym at-given-b.before.before.before.check-given2.ensures ∙ at-given-b.before.b.given.1 in
-    let out-a = (joined-told _ _).fails (sym at-out-a.before.before.check-joined.ensures ∙ at-out-a.enum-told3.given.1) in
-    let out-b = (joined-told _ _).fails (sym at-out-b.before.before.check-joined2.ensures ∙ at-out-b.enum-told5.given.1) in
+    let out_a = (joined-told _ _).fails (sym at-out-a.before.before.check-joined.ensures ∙ at-out-a.enum-told3.given.1) in
+    let out_b = (joined-told _ _).fails (sym at-out-b.before.before.check-joined2.ensures ∙ at-out-b.enum-told5.given.1) in
     let on_line = (line-told _ _).fails (sym at-on-line.before.before.check-line.ensures ∙ at-on-line.enum-told7.given.1) in
-    let unmarked-a = (marked-told _ _).fails (sym at-unmarked-a.before.before.check-marked.ensures ∙ at-unmarked-a.enum-told9.given.1) in
-    let unmarked-b = (marked-told _ _).fails (sym at-unmarked-b.before.before.check-marked2.ensures ∙ at-unmarked-b.enum-told11.given.1) in
-    (rw (given-a, given-b, out-a, out-b, on_line, unmarked-a, unmarked-b, (use-told _ _).holds (sym c.before.before.check-use.ensures ∙ c.enum-told14.given.1)), tt)
+    let unmarked_a = (marked-told _ _).fails (sym at-unmarked-a.before.before.check-marked.ensures ∙ at-unmarked-a.enum-told9.given.1) in
+    let unmarked_b = (marked-told _ _).fails (sym at-unmarked-b.before.before.check-marked2.ensures ∙ at-unmarked-b.enum-told11.given.1) in
+    (rw (given-a, given-b, out_a, out_b, on_line, unmarked_a, unmarked_b, (use-told _ _).holds (sym c.before.before.check-use.ensures ∙ c.enum-told14.given.1)), tt)
 
 returns-9 : tie.Need-returns-9
 unfolding join_check on_given
@@ -155,13 +155,13 @@ returns-9 c =
     let at-given-a = at-given-b.before.before.before.before in
     let given-a = sym at-given-a.before.before.before.check-given.ensures ∙ at-given-a.before.a.given.1 in
     let given-b = sym at-given-b.before.before.before.check-given2.ensures ∙ at-given-b.before.b.given.1 in
-    let out-a = (joined-told _ _).fails (sym at-out-a.before.before.check-joined.ensures ∙ at-out-a.enum-told3.given.1) in
-    let out-b = (joined-told _ _).fails (sym at-out-b.before.before.check-joined2.ensures ∙ at-out-b.enum-told5.given.1) in
+    let out_a = (joined-told _ _).fails (sym at-out-a.before.before.check-joined.ensures ∙ at-out-a.enum-told3.given.1) in
+    let out_b = (joined-told _ _).fails (sym at-out-b.before.before.check-joined2.ensures ∙ at-out-b.enum-told5.given.1) in
     let on_line = (line-told _ _).fails (sym at-on-line.before.before.check-line.ensures ∙ at-on-line.enum-told7.given.1) in
-    let unmarked-a = (marked-told _ _).fails (sym at-unmarked-a.before.before.check-marked.ensures ∙ at-unmarked-a.enum-told9.given.1) in
-    let unmarked-b = (marked-told _ _).fails (sym at-unmarked-b.before.before.check-marked2.ensures ∙ at-unmarked-b.enum-told11.given.1) in
+    let unmarked_a = (marked-told _ _).fails (sym at-unmarked-a.before.before.check-marked.ensures ∙ at-unmarked-a.enum-told9.given.1) in
+    let unmarked_b = (marked-told _ _).fails (sym at-unmarked-b.before.before.check-marked2.ensures ∙ at-unmarked-b.enum-told11.given.1) in
     let free-a = (use-told _ _).fails (sym at-free-a.before.before.check-use.ensures ∙ at-free-a.enum-told13.given.1) in
-    (rw (given-a, given-b, out-a, out-b, on_line, unmarked-a, unmarked-b, free-a, (use-told _ _).holds (sym c.before.before.check-use2.ensures ∙ c.enum-told16.given.1)), tt)
+    (rw (given-a, given-b, out_a, out_b, on_line, unmarked_a, unmarked_b, free-a, (use-told _ _).holds (sym c.before.before.check-use2.ensures ∙ c.enum-told16.given.1)), tt)
 
 check-joinable-requires : tie.Need-check-joinable-requires
 check-joinable-requires c κs =
@@ -193,14 +193,14 @@ returns-10 c =
     let at-given-a = at-given-b.before.before.before.before in
     let given-a = sym at-given-a.before.before.before.check-given.ensures ∙ at-given-a.before.a.given.1 in
     let given-b = sym at-given-b.before.before.before.check-given2.ensures ∙ at-given-b.before.b.given.1 in
-    let out-a = (joined-told _ _).fails (sym at-out-a.before.before.check-joined.ensures ∙ at-out-a.enum-told3.given.1) in
-    let out-b = (joined-told _ _).fails (sym at-out-b.before.before.check-joined2.ensures ∙ at-out-b.enum-told5.given.1) in
+    let out_a = (joined-told _ _).fails (sym at-out-a.before.before.check-joined.ensures ∙ at-out-a.enum-told3.given.1) in
+    let out_b = (joined-told _ _).fails (sym at-out-b.before.before.check-joined2.ensures ∙ at-out-b.enum-told5.given.1) in
     let on_line = (line-told _ _).fails (sym at-on-line.before.before.check-line.ensures ∙ at-on-line.enum-told7.given.1) in
-    let unmarked-a = (marked-told _ _).fails (sym at-unmarked-a.before.before.check-marked.ensures ∙ at-unmarked-a.enum-told9.given.1) in
-    let unmarked-b = (marked-told _ _).fails (sym at-unmarked-b.before.before.check-marked2.ensures ∙ at-unmarked-b.enum-told11.given.1) in
+    let unmarked_a = (marked-told _ _).fails (sym at-unmarked-a.before.before.check-marked.ensures ∙ at-unmarked-a.enum-told9.given.1) in
+    let unmarked_b = (marked-told _ _).fails (sym at-unmarked-b.before.before.check-marked2.ensures ∙ at-unmarked-b.enum-told11.given.1) in
     let free-a = (use-told _ _).fails (sym at-free-a.before.before.check-use.ensures ∙ at-free-a.enum-told13.given.1) in
     let free-b = (use-told _ _).fails (sym at-free-b.before.before.check-use2.ensures ∙ at-free-b.enum-told15.given.1) in
-    (rw (given-a, given-b, out-a, out-b, on_line, unmarked-a, unmarked-b, free-a, free-b, (joinable-told _ _ _).fails (sym c.before.before.check-joinable.ensures ∙ c.enum-told18.given.1)), tt)
+    (rw (given-a, given-b, out_a, out_b, on_line, unmarked_a, unmarked_b, free-a, free-b, (joinable-told _ _ _).fails (sym c.before.before.check-joinable.ensures ∙ c.enum-told18.given.1)), tt)
 
 returns-11 : tie.Need-returns-11
 unfolding join_check on_given
@@ -217,16 +217,16 @@ returns-11 c =
     let at-given-a = at-given-b.before.before.before.before in
     let given-a = sym at-given-a.before.before.before.check-given.ensures ∙ at-given-a.before.a.given.1 in
     let given-b = sym at-given-b.before.before.before.check-given2.ensures ∙ at-given-b.before.b.given.1 in
-    let out-a = (joined-told _ _).fails (sym at-out-a.before.before.check-joined.ensures ∙ at-out-a.enum-told3.given.1) in
-    let out-b = (joined-told _ _).fails (sym at-out-b.before.before.check-joined2.ensures ∙ at-out-b.enum-told5.given.1) in
+    let out_a = (joined-told _ _).fails (sym at-out-a.before.before.check-joined.ensures ∙ at-out-a.enum-told3.given.1) in
+    let out_b = (joined-told _ _).fails (sym at-out-b.before.before.check-joined2.ensures ∙ at-out-b.enum-told5.given.1) in
     let on_line = (line-told _ _).fails (sym at-on-line.before.before.check-line.ensures ∙ at-on-line.enum-told7.given.1) in
-    let unmarked-a = (marked-told _ _).fails (sym at-unmarked-a.before.before.check-marked.ensures ∙ at-unmarked-a.enum-told9.given.1) in
-    let unmarked-b = (marked-told _ _).fails (sym at-unmarked-b.before.before.check-marked2.ensures ∙ at-unmarked-b.enum-told11.given.1) in
+    let unmarked_a = (marked-told _ _).fails (sym at-unmarked-a.before.before.check-marked.ensures ∙ at-unmarked-a.enum-told9.given.1) in
+    let unmarked_b = (marked-told _ _).fails (sym at-unmarked-b.before.before.check-marked2.ensures ∙ at-unmarked-b.enum-told11.given.1) in
     let free-a = (use-told _ _).fails (sym at-free-a.before.before.check-use.ensures ∙ at-free-a.enum-told13.given.1) in
     let free-b = (use-told _ _).fails (sym at-free-b.before.before.check-use2.ensures ∙ at-free-b.enum-told15.given.1) in
     let joinable = (joinable-told _ _ _).holds (sym at-joinable.before.before.check-joinable.ensures ∙ at-joinable.enum-told17.given.1) in
     let start = at-given-a.before.before.before.before.before in
-    (rw (given-a, given-b, out-a, out-b, on_line, unmarked-a, unmarked-b, free-a, free-b, joinable), (was-given _ _ _ given-a, was-given _ _ _ given-b, joinee_some (cells start.args.d.now) _ _ joinable))
+    (rw (given-a, given-b, out_a, out_b, on_line, unmarked_a, unmarked_b, free-a, free-b, joinable), (was-given _ _ _ given-a, was-given _ _ _ given-b, joinee_some (cells start.args.d.now) _ _ joinable))
 
 pub check-join-spec : {M : Type 1} → statement M
 check-join-spec = tie.close (tie.spec

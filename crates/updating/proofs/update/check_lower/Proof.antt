@@ -199,8 +199,8 @@ returns-10 c =
     let kind = sym at-kind.before.before.before.check-kind.ensures ∙ at-kind.before.k.given.1 in
     let clear = (open_told _ _ _).fails (sym at_clear.before.before.check-open.ensures ∙ at_clear.enum-told10.given.1) in
     let free = (other-use-told _ _ _).fails (sym at-free.before.before.check-use-by-other.ensures ∙ at-free.enum-told12.given.1) in
-    let caught-up = (stale-told _ _ _).fails (sym at-caught-up.before.before.check-stale.ensures ∙ at-caught-up.enum-told14.given.1) in
-    (rw (client, given, out, unmarked, bib, kind, clear, free, caught-up, (log-told _).holds (sym c.before.before.check-log.ensures ∙ c.enum-told17.given.1)), tt)
+    let caught_up = (stale-told _ _ _).fails (sym at-caught-up.before.before.check-stale.ensures ∙ at-caught-up.enum-told14.given.1) in
+    (rw (client, given, out, unmarked, bib, kind, clear, free, caught_up, (log-told _).holds (sym c.before.before.check-log.ensures ∙ c.enum-told17.given.1)), tt)
 
 returns-11 : tie.Need-returns-11
 unfolding update_check on_client on_given on_kind
@@ -223,9 +223,9 @@ returns-11 c =
     let kind = sym at-kind.before.before.before.check-kind.ensures ∙ at-kind.before.k.given.1 in
     let clear = (open_told _ _ _).fails (sym at_clear.before.before.check-open.ensures ∙ at_clear.enum-told10.given.1) in
     let free = (other-use-told _ _ _).fails (sym at-free.before.before.check-use-by-other.ensures ∙ at-free.enum-told12.given.1) in
-    let caught-up = (stale-told _ _ _).fails (sym at-caught-up.before.before.check-stale.ensures ∙ at-caught-up.enum-told14.given.1) in
+    let caught_up = (stale-told _ _ _).fails (sym at-caught-up.before.before.check-stale.ensures ∙ at-caught-up.enum-told14.given.1) in
     let room = (log-told _).fails (sym at_room.before.before.check-log.ensures ∙ at_room.enum-told16.given.1) in
-    (rw (client, given, out, unmarked, bib, kind, clear, free, caught-up, room), (known _ _ client, was-given _ _ _ given, log-in _ room, bib_in _ bib))
+    (rw (client, given, out, unmarked, bib, kind, clear, free, caught_up, room), (known _ _ client, was-given _ _ _ given, log-in _ room, bib_in _ bib))
 
 pub check-lower-spec : {M : Type 1} → statement M
 check-lower-spec = tie.close (tie.spec
