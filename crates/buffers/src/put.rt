@@ -7,7 +7,7 @@ pub fn put(t: &mut [u8], at: usize, from: &[u8])
     ensures { t.new ≡ replaced t.old at (length from.now) from.now }
 {
     let end = at + from.len();
-    bytes::copy(from, &mut t[at..end]);
+    t[at..end].copy_from_slice(from);
 }
 
 // All of t replaced.
@@ -15,5 +15,5 @@ pub fn copy(t: &mut [u8], from: &[u8])
     requires { length t.old ≡ length from.now }
     ensures { t.new ≡ from.now }
 {
-    bytes::copy(from, t);
+    t.copy_from_slice(from);
 }

@@ -167,7 +167,7 @@ module _ (y : Day) (m : Machine) (k : Cells) (D : Follows y m) (L : Laid y m) (h
   answers = record {
     same_order = λ r o. order_is y m k h L r (D.laid r o) ∙ D.same_shown r o;
     whole_order = λ r o. rw (D.same_shown r o) at (shown-few y m k h L r (D.laid r o));
-    same_own = λ r o. h.own-is r (D.laid r o) ∙ D.same_own r o;
+    same_own = λ r o. h.own_is r (D.laid r o) ∙ D.same_own r o;
     same_client = λ c. sym (not-not (ltb c clients));
     same_given = given_out;
     same_joined = λ n r e. joined_is n r ((found-means y n r).1 e);

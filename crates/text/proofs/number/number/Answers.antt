@@ -7,8 +7,7 @@ use borrow.Author.Rules.{rules}
 use Rattle.text.specs.Decimal.{decimal}
 use Rattle.text.proofs.Places.{Put, first_fits, next_fits, both-put}
 use Rattle.text.proofs.Digits.{fewest_decimal}
-use Rattle.text.proofs.number.number.Statement.{statement}
-use Rattle.text.proofs.number.number.Tie as tie
+use Rattle.text.proofs.number.number.Goals as goal
 
 -- the digits that `io` put are those of `decimal`
 digits_are : (c : tie.After-decimal) → take c.decimal.result c.decimal.new.1.0 ≡ decimal c.before.before.before.args.n
@@ -25,33 +24,16 @@ first-put c =
     let s = (start c).args in
     subst (λ d. Put s.out.now s.at d c.put.result c.put.new.0) (digits_are c.before.before.before) c.put.ensures
 
-put-requires : tie.Need-put-requires
-put-requires c κs =
-    let s = c.before.before.before.before.before in
-    rw (digits_are c.before.before) (first_fits s.args.out.now (decimal s.args.n) (s.args.mark ∷ []) s.args.at s.requires)
+pub put-end-requires : goal.put-end-requires
+put-end-requires c =
+    rw (digits_are ?PLACE:After-decimal?) (first_fits c.args.out.now (decimal c.args.n) (c.args.mark ∷ []) c.args.at c.requires)
 
-put-requires-2 : tie.Need-put-requires-2
-put-requires-2 c κs =
-    let p = c.before.before.before.before in
+pub put-requires : goal.put-requires
+put-requires c =
     let s = start p in
-    next_fits s.args.out.now (decimal s.args.n) (s.args.mark ∷ []) s.args.at s.pre p.put.new.0 p.put.result (first-put p)
+    next_fits s.args.out.now (decimal s.args.n) (s.args.mark ∷ []) s.args.at s.pre c.put-end.new.0 c.put-end.result (first-put p)
 
-returns : tie.Need-returns
+pub returns : goal.returns
 returns c =
-    let q = c.before.before in
-    let p = q.before.before.before.before.before in
     let s = start p in
-    both-put s.args.out.now (decimal s.args.n) (s.args.mark ∷ []) s.args.at s.pre p.put.new.0 p.put.result (first-put p) q.put2.result q.put2.new.0 q.put2.ensures
-
-pub number-spec : {M : Type 1} → statement M
-number-spec =
-    tie.close
-    (tie.spec
-    (λ c κs. search rules)
-    (λ c. search rules)
-    (λ c. search rules)
-    put-requires
-    (λ c. search rules)
-    put-requires-2
-    (λ c. search rules)
-    returns)
+    both-put s.args.out.now (decimal s.args.n) (s.args.mark ∷ []) s.args.at s.pre c.put-end.new.0 c.put-end.result (first-put p) c.put.result c.put.new.0 c.put.ensures
