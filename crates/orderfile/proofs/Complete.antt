@@ -26,6 +26,7 @@ pub record Complete (taken : ℕ) (ns : List ℕ) : Type 0 where
 
 low_of : (taken : ℕ) (ns : List ℕ) → no_other taken ns ≡ true → (u : ℕ) → u ∈ ns → u < taken
 unfolding no_other
+low_of taken [] h u x'' = elim x'' [ ]
 low_of taken (n ∷ ns) h u (Memᴰ.head e) = let l = ltb-true n taken (and-true (ltb n taken) _ h).0 in omega arith
 low_of taken (n ∷ ns) h u (Memᴰ.tail i) = low_of taken ns (and-true (ltb n taken) _ h).1 u i
 
@@ -77,6 +78,7 @@ all_there taken ns c u l = either (mem? u ns) (λ i. i) (λ n. absurd (one_more 
 -- a list that has all numbers below n has n at least
 remove_less : (b : ℕ) (l : List ℕ) → b ∈ l → length l ≡ suc (length (remove b l))
 unfolding remove
+remove_less b [] i = elim i [ ]
 remove_less b (x ∷ l) i =
     cases (eqb x b)
     (λ e. rw e)

@@ -81,10 +81,12 @@ written_back ns = ap (λ k. numbers_of (drop k (file_of ns))) (offset-written ns
 
 -- of numbers that have two bytes it is a file of bytes
 of_two : (n b : ℕ) → n < 65536 → b ∈ in_two n → b < 256
+of_two n b h (Memᴰ.tail (Memᴰ.tail x8)) = elim x8 [ ]
 of_two n b h (Memᴰ.head e) = omega arith
 of_two n b h (Memᴰ.tail (Memᴰ.head e)) = omega arith
 
 of_word : (n b : ℕ) → n < 4294967296 → b ∈ word n → b < 256
+of_word n b h (Memᴰ.tail (Memᴰ.tail (Memᴰ.tail (Memᴰ.tail x16)))) = elim x16 [ ]
 of_word n b h (Memᴰ.head e) = omega arith
 of_word n b h (Memᴰ.tail (Memᴰ.head e)) = omega arith
 of_word n b h (Memᴰ.tail (Memᴰ.tail (Memᴰ.head e))) = omega arith

@@ -48,6 +48,7 @@ absent k (n ∷ ns) u h = rw (ne_eqb u n (λ e. h (Memᴰ.head e)), absent (suc 
 
 pub present : (k : ℕ) (ns : List ℕ) (u : ℕ) → 0 < k → u ∈ ns → k ≤ place_from k ns u
 unfolding place_from
+present k [] u h i = elim i [ ]
 present k (n ∷ ns) u h i =
     cases (eqb u n)
     (λ e. rw e (omega arith))

@@ -5,11 +5,11 @@ ghost use Rattle.sizes.specs.Numbers.{revision_check};
 use crate::table::Table;
 
 // A revision number: 0 to 63. Made by `check_revision`, for the main revision by `Revision::main`, and from the cells of a table in range.
-#[derive(Drop)]
+#[derive(Clone, Copy)]
 pub struct Revision(pub u8);
 
 // A client number: 0 to 15. Made only after its range check.
-#[derive(Drop)]
+#[derive(Clone, Copy)]
 pub struct Client(pub u8);
 
 // What the range check of a revision number finds.

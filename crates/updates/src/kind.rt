@@ -3,7 +3,7 @@ ghost use Rattle.std.specs.Prelude.{◌≡◌};
 ghost use Rattle.updates.specs.Absolute.{absolute};
 ghost use Rattle.updates.specs.Kinds.{kind_number, kind_check};
 
-#[derive(Drop)]
+#[derive(Clone, Copy)]
 pub enum Kind {
     Time,
     Earliest,

@@ -1,0 +1,6 @@
+-- `entries::standing::standing` meets its contract: from a fresh day on. Assumes nothing.
+use borrow.Author.Rules.{rules}
+use Rattle.entries.proofs.standing.standing.Goals as goal
+
+pub returns : goal.returns
+returns c = c.standing_from.ensures
