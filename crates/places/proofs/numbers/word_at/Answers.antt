@@ -1,0 +1,9 @@
+-- `places::numbers::word_at` meets its contract: two bytes, the low one first. Assumes nothing.
+use native.Mathlib.Omega.{arith}
+use borrow.Author.Rules.{rules}
+use Rattle.cells.specs.Words.{word}
+use Rattle.places.proofs.numbers.word_at.Goals as goal
+
+pub returns : goal.returns
+unfolding word
+returns c = (rw (c.wide.ensures.0, c.wide-2.ensures.0), omega arith)
