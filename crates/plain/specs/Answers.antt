@@ -24,8 +24,8 @@ pub record Outcome : Type 0 where
   pub answer : Answer (List Line)
 
 -- what a revision took itself or by joins
-abbrev pub field_own : Day → ℕ → List ℕ
-field_own y r = own y.diagram (y.terminal r)
+abbrev pub own_at : Day → ℕ → List ℕ
+own_at y r = own y.diagram (y.terminal r)
 
 -- the questions of the codes, asked of the day. "Code 1 doesn't arise on it"
 abbrev pub asked : PlainDay → Tests
@@ -76,7 +76,7 @@ yielded p c = taken (stepped p (Steps.Yield c) 0) 0
 
 -- "join, the count of updates the joiner gained"
 abbrev pub joined : PlainDay → ℕ → ℕ → Outcome
-joined p n m = taken (stepped p (Steps.Join (meant p.day n) (meant p.day m)) 0) (length (field_own p.day (meant p.day m)))
+joined p n m = taken (stepped p (Steps.Join (meant p.day n) (meant p.day m)) 0) (length (own_at p.day (meant p.day m)))
 
 -- "fork, the new number"; 02, U9: "Mark has fork's refusals and value", and gives the new box a name
 abbrev pub forked : PlainDay → ℕ → Option Name → ℕ → Outcome
@@ -111,7 +111,7 @@ abbrev pub told : PlainDay → Look ℕ → Answer (List Line)
 -- from the root"
 told p (Show n room) = plainly 0 (length (shown_at p.day (meant p.day n))) (lines_of p.entries (shown_at p.day (meant p.day n)))
 -- 02, U1: "its own updates: those it took itself plus those of boxes joined into it", busy or not; "Also tell the number taken by the whole table"
-told p (Fill n) = level (length (field_own p.day (meant p.day n))) p.day.updates []
+told p (Fill n) = level (length (own_at p.day (meant p.day n))) p.day.updates []
 -- 02, U6: "the state and value at the joiner's line end and the gain", where that line end is the join vertex, the next vertex of the day
 told p (Preview n m bib) = reading (path_result (joined p n m).next (length p.day.diagram) bib) (joined p n m).answer.value []
 -- 02, U13: "Say yes, value 1, and else value 0"
