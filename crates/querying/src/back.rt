@@ -22,7 +22,7 @@ use sizes::numbers::Revision;
 use sizes::table::Table;
 
 // What is sought in a list: updates of the bib, among those that r sees, the first `base` of the list and those flagged.
-#[derive(Drop)]
+#[derive(Clone, Copy)]
 struct Sought {
     r: Revision,
     base: usize,
@@ -30,7 +30,7 @@ struct Sought {
 }
 
 // A walk on its way: so many updates of a list are left, which end at `at`; the numbers kept stand from `from` on.
-#[derive(Drop)]
+#[derive(Clone, Copy)]
 struct Rest {
     at: usize,
     left: usize,
