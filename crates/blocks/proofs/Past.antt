@@ -14,7 +14,6 @@ use Rattle.blocks.proofs.Joining.{good-b, covered-b, joined, over-b}
 use Rattle.blocks.proofs.Transfer.{blocks-append, good_seen}
 use Rattle.blocks.specs.Blocks.{Contents, Held, Inv, blocks, grow, seen}
 use Rattle.lists.proofs.Cases.{cases}
-use Rattle.lists.proofs.Places.{in_front}
 use Rattle.lists.proofs.Sublists.{sub_both, ⊑-left}
 use Rattle.lists.specs.Lists.{◌∈◌, ◌⊑◌}
 use Rattle.lists.specs.Arranged.{◌⊆◌}

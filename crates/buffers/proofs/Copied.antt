@@ -1,11 +1,10 @@
 -- As many bytes copied as were lent.
-use Prim.Native.Nat.{ℕ, ◌+◌, ◌≤◌}
-use mathlib.Core.Path.{◌≡◌, ap, ◌∙◌}
-use mathlib.Core.List.{List, ◌++◌, append-nil}
-use native.Mathlib.Omega.{arith}
-use lib.ListN.{length, take, drop, length-take, drop_of_length-le}
-use lib.Seq.{take_all, drop-drop}
-use borrow.Rule.Slice.PartMut.{mid_of, put_mid}
+use Prim.Native.Nat.{ℕ}
+use mathlib.Core.Path.{◌≡◌, ap}
+use mathlib.Core.List.{List, ◌++◌}
+use lib.ListN.{length, take}
+use lib.Seq.{drop-drop}
+use borrow.Rule.Slice.PartMut.{put_mid}
 use Rattle.lists.specs.Arranged.{replaced}
 
 pub copied : (t from q : List ℕ) (at k : ℕ) → k ≡ length from → q ≡ from → put_mid at k t q ≡ replaced t at (length from) from

@@ -9,7 +9,7 @@ use Rattle.lists.specs.Lists.{changed}
 use Rattle.lists.specs.Arranged.{insert_before}
 use Rattle.lists.specs.Names.{Name}
 use Rattle.lists.proofs.Cases.{cases}
-use Rattle.cells.specs.Sizes.{main, revisions, updates}
+use Rattle.cells.specs.Sizes.{main, revisions}
 use Rattle.cells.specs.Cells.{Cells, chain, own, flagged}
 use Rattle.cells.specs.Checks.{is_mark}
 use Rattle.cells.specs.CellSteps.{fork_cells, fork_row, mark_cells}

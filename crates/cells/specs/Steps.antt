@@ -1,6 +1,6 @@
 -- No claim rests on this file: it serves the code.
 -- What each accepted step writes: docs/CELLS.md, "What each step writes". On parts, and so on the bytes.
-use Rattle.std.specs.Prelude.{ℕ, zero, suc, ◌+◌, ◌/◌, ◌%◌, Bool, true, cond, List, [], ◌∷◌, ◌++◌, eqb, set, take, replicate}
+use Rattle.std.specs.Prelude.{ℕ, zero, suc, ◌/◌, ◌%◌, Bool, true, cond, List, [], ◌∷◌, ◌++◌, eqb, set, take, replicate}
 use Rattle.lists.specs.Arranged.{insert_before, remove}
 use Rattle.lists.specs.Names.{Name}
 use Rattle.cells.specs.Sizes.{revisions, clients, main, closed, state_out, state_joined, state_marked}

@@ -1,9 +1,9 @@
 -- `buffers::clear::clear` meets its contract: the bytes up to `i` are 0. Assumes nothing.
-use Prim.Native.Nat.{◌-◌, ◌≤◌}
+use Prim.Native.Nat.{◌≤◌}
 use mathlib.Core.Path.{◌∙◌, ◌≡◌, ap}
-use mathlib.Core.List.{◌++◌, append-nil}
+use mathlib.Core.List.{append-nil}
 use native.Mathlib.Omega.{arith}
-use lib.ListN.{drop, drop_of_length-le, length, replicate, set}
+use lib.ListN.{drop_of_length-le, length, set}
 use borrow.Author.Fill.{fill_more, fill_none}
 use borrow.Author.Rules.{rules}
 use Rattle.buffers.proofs.clear.clear.Goals as goal

@@ -1,11 +1,8 @@
 -- `buffers::clear::clear` meets its contract: the bytes up to `i` are 0. Assumes nothing.
 use Prim.Native.Nat.{◌-◌, ◌≤◌}
-use mathlib.Core.Path.{◌∙◌, ◌≡◌, ap}
-use mathlib.Core.List.{◌++◌, append-nil}
-use native.Mathlib.Omega.{arith}
-use lib.ListN.{drop, drop_of_length-le, length, replicate, set}
-use borrow.Author.Fill.{fill_more, fill_none}
-use borrow.Author.Rules.{rules}
+use mathlib.Core.Path.{◌≡◌}
+use mathlib.Core.List.{◌++◌}
+use lib.ListN.{drop, length, replicate}
 use Rattle.buffers.proofs.clear.clear.Given as goal
 
 abbrev pub invariant-loop-i : goal.invariant-loop-i

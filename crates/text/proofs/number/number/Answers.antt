@@ -1,12 +1,11 @@
 -- `text::number::number` meets its contract: the fewest digits, and then the mark. Assumes nothing.
-use mathlib.Core.Path.{◌≡◌, ◌∙◌, subst}
+use mathlib.Core.Path.{◌≡◌, ◌∙◌}
 use mathlib.Core.List.{List, [], ◌∷◌}
 use native.Mathlib.Omega.{arith}
-use lib.ListN.{take}
 use Rattle.std.proofs.Common.{ℕ, ◌<◌, ◌^◌}
 use Rattle.io.specs.Digits.{last_digits, IsDigitCount}
 use Rattle.text.specs.Decimal.{decimal}
-use Rattle.text.proofs.Places.{Put, first_fits, next_fits, both-put}
+use Rattle.text.proofs.Places.{first_fits, next_fits, both-put}
 use Rattle.text.proofs.Digits.{fewest_decimal}
 use Rattle.text.proofs.number.number.Goals as goal
 

@@ -1,5 +1,4 @@
 -- `updates::kind::is_absolute` meets its contract: each arm knows its kind. Assumes nothing.
-use Rattle.std.proofs.Common.{rules}
 use Rattle.updates.specs.Absolute.{absolute}
 use Rattle.updates.proofs.kind.is_absolute.Goals as goal
 

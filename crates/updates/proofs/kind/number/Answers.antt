@@ -1,5 +1,4 @@
 -- `updates::kind::number` meets its contract: each arm knows its kind. Assumes nothing.
-use Rattle.std.proofs.Common.{rules}
 use Rattle.updates.specs.Kinds.{kind_number}
 use Rattle.updates.proofs.kind.number.Goals as goal
 

@@ -1,6 +1,5 @@
 -- `updates::standing::apply` meets its contract: each arm knows its kind, and what it calls gives that kind's effect.
 -- Assumes nothing.
-use Rattle.std.proofs.Common.{rules}
 use Rattle.updates.specs.Effect.{effect}
 use Rattle.updates.proofs.standing.apply.Goals as goal
 

@@ -1,5 +1,5 @@
 -- `updates::standing::earliest` meets its contract: a struck bib stays so. Assumes nothing.
-use Rattle.std.proofs.Common.{ap, rules}
+use Rattle.std.proofs.Common.{ap}
 use Rattle.updates.specs.Effect.{effect}
 use Rattle.updates.specs.declared.standing.Standing.TheVariants.{At}
 use Rattle.updates.proofs.standing.earliest.Goals as goal

@@ -1,5 +1,5 @@
 -- `updates::value::penalty` meets its contract: the test decides. Assumes nothing.
-use Rattle.std.proofs.Common.{rules, eq-eqb, ne_eqb}
+use Rattle.std.proofs.Common.{eq-eqb, ne_eqb}
 use Rattle.updates.specs.Effect.{penalized}
 use Rattle.updates.proofs.value.penalty.Goals as goal
 
