@@ -19,7 +19,7 @@ slice_bounds-all-end c = search rules
 pub slice_bounds-bundle-end : goal.slice_bounds-bundle-end
 slice_bounds-bundle-end c =
     let p = c.args.p in
-    let room : 768 ≡ length p.bytes = slice-aggregate-all ?PLACE:After-among? in
+    let room : 768 ≡ length p.bytes = search rules in
     let most = among-most p.count in
     sym (length-take-le _ p.bytes (omega (arith, c.among-end.ensures)))
 
