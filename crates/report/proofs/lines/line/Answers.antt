@@ -3,62 +3,60 @@ use Prim.Native.Nat.{ℕ, ◌+◌, ◌≤◌}
 use mathlib.Core.List.{List, ◌++◌}
 use native.Mathlib.Omega.{arith}
 use lib.ListN.{length}
-use borrow.Author.Rules.{rules}
 use Rattle.text.specs.Decimal.{ended}
 use Rattle.text.proofs.Places.{Put, first_fits, next_fits, both-put}
+use Rattle.updates.specs.declared.standing.State.{State}
 use Rattle.report.specs.Printed.{blank, line, value_text}
 use Rattle.report.proofs.Bounds.{line-length}
 use Rattle.report.proofs.lines.line.Goals as goal
 
--- the three texts, and that they fit
-module _ (s : tie.Start) where
+-- the first two texts are one, and all three fit
+module _ (out : List ℕ) (at index code : ℕ) (state : State) (value : ℕ) (short : length (line index code state value) ≤ 20) (room : at + 20 ≤ length out) where
   abbrev first : List ℕ
-  first = ended s.args.index blank
+  first = ended index blank
 
   abbrev second : List ℕ
-  second = ended s.args.code blank
+  second = ended code blank
 
   abbrev third : List ℕ
-  third = value_text s.args.state s.args.value
+  third = value_text state value
 
-  short : length (line s.args.index s.args.code s.args.state s.args.value) ≤ 20
-  short = line-length s.args.index s.args.code s.args.state s.args.value s.pre.0 (omega arith) (omega arith)
-
-  all_fit : s.args.at + length (first ++ second ++ third) ≤ length s.args.out.now
+  all_fit : at + length (first ++ second ++ third) ≤ length out
   unfolding line
   all_fit = omega (arith, short)
 
-  two-fit : s.args.at + length (first ++ second) ≤ length s.args.out.now
-  two-fit = first_fits s.args.out.now (first ++ second) third s.args.at all_fit
-
--- the function's start, from where the second number is put
-abbrev start : tie.After-number2 → tie.Start
-start c =
-    let at-number = c.before.before.before.before in
-    at-number.before.before.before
-
--- the first two are one text
-two-put : (c : tie.After-number2) → Put (start c).args.out.now (start c).args.at (first (start c) ++ second (start c)) c.number2.result c.number2.new.0
-two-put c =
-    let p = c.before.before.before.before in
-    let s = start c in
-    both-put s.args.out.now (first s) (second s) s.args.at (two-fit s) p.number.new.0 p.number.result p.number.ensures c.number2.result c.number2.new.0 c.number2.ensures
+  two_fit : at + length (first ++ second) ≤ length out
+  two_fit = first_fits out (first ++ second) third at all_fit
 
 pub number-a-requires : goal.number-a-requires
-number-a-requires c = first_fits c.args.out.now (first ?PLACE:Start?) (second ?PLACE:Start?) c.args.at (two-fit ?PLACE:Start?)
+number-a-requires c =
+    let s = c.args in
+    let short = line-length s.index s.code s.state s.value c.requires.0 (omega arith) (omega arith) in
+    first_fits s.out.now (ended s.index blank) (ended s.code blank) s.at (two_fit s.out.now s.at s.index s.code s.state s.value short c.requires.1)
 
 pub number-b-requires : goal.number-b-requires
 number-b-requires c =
-    next_fits c.args.out.now (first ?PLACE:Start?) (second ?PLACE:Start?) c.args.at (two-fit ?PLACE:Start?) c.number-a.new.out c.number-a.result c.number-a.ensures
+    let s = c.args in
+    let short = line-length s.index s.code s.state s.value c.requires.0 (omega arith) (omega arith) in
+    next_fits s.out.now (ended s.index blank) (ended s.code blank) s.at (two_fit s.out.now s.at s.index s.code s.state s.value short c.requires.1)
+    c.number-a.new.out c.number-a.result c.number-a.ensures
 
 pub value_text-requires : goal.value_text-requires
 value_text-requires c =
-    let s = start ?PLACE:After-number2? in
-    next_fits s.args.out.now (first s ++ second s) (third s) s.args.at (all_fit s) c.number-b.new.out c.number-b.result (two-put ?PLACE:After-number2?)
+    let s = c.args in
+    let short = line-length s.index s.code s.state s.value c.requires.0 (omega arith) (omega arith) in
+    let two = both-put s.out.now (ended s.index blank) (ended s.code blank) s.at (two_fit s.out.now s.at s.index s.code s.state s.value short c.requires.1)
+    c.number-a.new.out c.number-a.result c.number-a.ensures c.number-b.result c.number-b.new.out c.number-b.ensures in
+    next_fits s.out.now (ended s.index blank ++ ended s.code blank) (value_text s.state s.value) s.at
+    (all_fit s.out.now s.at s.index s.code s.state s.value short c.requires.1) c.number-b.new.out c.number-b.result two
 
 pub returns : goal.returns
 unfolding line
 returns c =
-    let s = start ?PLACE:After-number2? in
-    let all = both-put s.args.out.now (first s ++ second s) (third s) s.args.at (all_fit s) c.number-b.new.out c.number-b.result (two-put ?PLACE:After-number2?) c.value_text.result c.value_text.new.out c.value_text.ensures in
-    (omega (arith, all.0, short s), all.0, all.1)
+    let s = c.args in
+    let short = line-length s.index s.code s.state s.value c.requires.0 (omega arith) (omega arith) in
+    let two = both-put s.out.now (ended s.index blank) (ended s.code blank) s.at (two_fit s.out.now s.at s.index s.code s.state s.value short c.requires.1)
+    c.number-a.new.out c.number-a.result c.number-a.ensures c.number-b.result c.number-b.new.out c.number-b.ensures in
+    let all = both-put s.out.now (ended s.index blank ++ ended s.code blank) (value_text s.state s.value) s.at
+    (all_fit s.out.now s.at s.index s.code s.state s.value short c.requires.1) c.number-b.new.out c.number-b.result two c.value_text.result c.value_text.new.out c.value_text.ensures in
+    (omega (arith, all.0, short), all.0, all.1)
