@@ -1,6 +1,7 @@
 // The calls of the table for C and Rust: numbers and byte slices alone, the answer packed into one number
 // (`packing` specs/Packed.antt). A slice is passed as a pointer and a length.
 #![tactic(auto)]
+
 ghost use Rattle.std.specs.Prelude.{not, ◌≡◌, eqb, ◌≤◌, length};
 ghost use Rattle.lists.specs.Differences.{differences};
 ghost use Rattle.table.specs.Calls.{bill_out, board_out, bundle_out, drop_out, fill_out, fork_out, fresh_board, fresh_out, join_out, list_out, mark_out, preview_out, query_out, sync_out, update_out, verify_out, yield_out};

@@ -1,0 +1,7 @@
+-- `exports::silttongs_fresh` meets its contract: it returns the answer of `table`. Assumes nothing.
+use borrow.Author.Rules.{rules}
+use Rattle.exports.proofs.Returned.{gives}
+use Rattle.exports.proofs.silttongs_fresh.Goals as goal
+
+pub returns : goal.returns
+returns c = (gives _ c.pack.ensures c.fresh-a.ensures.0, c.fresh-a.ensures.1)
