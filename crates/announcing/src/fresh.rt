@@ -10,7 +10,7 @@ use table::answer::Answer;
 use table::sound;
 use table::sound::LengthCheck;
 
-// `single` is the choice of a single_main day (02, U8).
+// `single` is the choice of a single-main day (02, U8).
 pub fn fresh(t: &mut [u8], board: &mut [u8], single: bool) -> Answer
     ensures { (left result t.new ≡ fresh_out t.old single (length board.old)) × (board.new ≡ fresh_board t.old single board.old) }
 {

@@ -13,11 +13,10 @@ use Rattle.lists.specs.Lists.{changed}
 use Rattle.lists.proofs.Cases.{cases}
 use Rattle.lists.proofs.Changed.{changed-other, changed_same}
 use Rattle.lists.proofs.Replaced.{next_row, replaced-length, replaced-here, replaced-other}
-use Rattle.buffers.specs.Numbers.{number}
 use Rattle.buffers.proofs.Widths.{number_word}
 use Rattle.updates.specs.declared.standing.Standing.{Standing}
 use Rattle.updates.specs.declared.standing.Standing.TheVariants.{Struck, At}
-use Rattle.boards.specs.Board.{board_bytes, bibs, entries_to, entry_of, found, shown, standing_in, wrote}
+use Rattle.boards.specs.Board.{board_bytes, bibs, entries_to, entry_of, shown, standing_in, wrote}
 
 pub shown-length : (s : Standing) → length (shown s) ≡ 5
 unfolding shown

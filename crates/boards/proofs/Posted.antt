@@ -13,7 +13,7 @@ use Rattle.updates.specs.Applied.{Update, applied, fresh_standing, of_bib}
 use Rattle.updates.specs.Effect.{effect}
 use Rattle.updates.specs.declared.standing.Standing.{Standing}
 use Rattle.boards.specs.Board.{board_bytes, bibs, board_of, entries_to, entry_of, found, posted, posted_all, shown, standing_in, wrote}
-use Rattle.boards.specs.Posted.{Posted, PostedByBib, StaysRight}
+use Rattle.boards.specs.Posted.{PostedByBib, StaysRight}
 use Rattle.boards.proofs.Entries.{entries_put, entries_same, entry-of, reads-shown, wrote-length, wrote-other, wrote-there}
 
 module _ (bib_of : ℕ → ℕ) (update : ℕ → Update) where

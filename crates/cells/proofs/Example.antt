@@ -62,7 +62,7 @@ fresh-checks :
 unfolding any_below
 fresh-checks = refl
 
--- 02, U8: on a single_main day another box than 0 is off the line, whatever the steps; on another day none is
+-- 02, U8: on a single-main day another box than 0 is off the line, whatever the steps; on another day none is
 off_the_line : off_line (fresh_cells true) 0 ∷ off_line (fork_cells (fresh_cells true) 0 1) 1 ∷ off_line (fresh_cells false) 1 ∷ off_line after 2 ∷ [] ≡ false ∷ true ∷ false ∷ false ∷ []
 unfolding before after
 off_the_line = refl
@@ -106,7 +106,7 @@ last_ones : log_full (made 4095 1 1) ∷ log_full (made 4096 1 1) ∷ none_left 
 unfolding made
 last_ones = refl
 
--- 02, U7: "a never_used number while there is one, else the number handed in longest ago"
+-- 02, U7: "a never-used number while there is one, else the number handed in longest ago"
 next_ones : next_number (made 0 61 63) ∷ next_number (made 0 62 64) ∷ [] ≡ 63 ∷ 7 ∷ []
 unfolding made
 next_ones = refl

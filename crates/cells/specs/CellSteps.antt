@@ -132,7 +132,7 @@ fork_caught caught p c x = changed (caught x) c (caught x p)
 abbrev pub fork_row : Cells → ℕ → ℕ → Bool
 fork_row k p u = ltb u updates && (flagged k p u || member u (own k p))
 
--- a never_used number is one more used; else the number handed in longest ago leaves the queue
+-- a never-used number is one more used; else the number handed in longest ago leaves the queue
 abbrev pub fork_given : Cells → ℕ
 fork_given k = cond (ltb k.given revisions) (suc k.given) k.given
 

@@ -36,7 +36,7 @@ pub record Cells : Type 0 where
   pub given : ℕ
   -- 02, U9: the name of a mark; of any other number it is not looked at
   pub name : ℕ → Name
-  -- 02, U8: the choice given to fresh, a single_main day
+  -- 02, U8: the choice given to fresh, a single-main day
   pub single : Bool
   -- 02, U10: how many of the main revision's own updates, from the first, are of closed transactions
   pub settled : ℕ
@@ -75,7 +75,7 @@ outs k = take k.out k.layout
 abbrev pub freed : Cells → List ℕ
 freed k = take (k.given - k.out) k.queue
 
--- 02, U7: "A fork now takes a never_used number while there is one, else the number handed in longest ago."
+-- 02, U7: "A fork now takes a never-used number while there is one, else the number handed in longest ago."
 abbrev pub next_number : Cells → ℕ
 next_number k = cond (ltb k.given revisions) k.given (head_of k.queue)
 

@@ -27,7 +27,7 @@ fresh_parts single =
     ⟨ started_part ≔ 1 ∷ 0 ∷ [] ⟩
     ⟨ signature_part ≔ signature ⟩
 
--- client c's row of caught_up flags has r alone; its open transaction is on r
+-- client c's row of caught-up flags has r alone; its open transaction is on r
 abbrev pub query_parts : Parts → ℕ → ℕ → Parts
 query_parts p c r =
     p

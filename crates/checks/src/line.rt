@@ -1,4 +1,4 @@
-// Code 15 (02, U8): whether a fork of r, or a join into it, is off the line of a single_main day; and whether a mark is (U9).
+// Code 15 (02, U8): whether a fork of r, or a join into it, is off the line of a single-main day; and whether a mark is (U9).
 ghost use Rattle.std.specs.Prelude.{◌≡◌, length};
 ghost use Rattle.cells.specs.Sizes.{lower_bytes};
 ghost use Rattle.checks.specs.Answers.{line_check, mark_line_check};

@@ -1,4 +1,4 @@
--- Demand 3 of the table: the agreement, the line_up of the plain day, and boards that stay right. The starred edges at a table.
+-- Demand 3 of the table: the agreement, the line-up of the plain day, and boards that stay right. The starred edges at a table.
 use Prim.Native.Nat.{ℕ}
 use mathlib.Core.Bool.{Bool, true, false}
 use mathlib.Core.Path.{◌≡◌, refl, sym, ◌∙◌, ap, subst}

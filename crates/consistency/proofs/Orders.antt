@@ -1,4 +1,4 @@
--- What a verify says of every table, and that our own line_up gets a yes (02, U13).
+-- What a verify says of every table, and that our own line-up gets a yes (02, U13).
 use Prim.Native.Nat.{ℕ, ◌≤◌}
 use mathlib.Core.Bool.{Bool, false}
 use mathlib.Core.Path.{◌≡◌, refl, sym, ◌∙◌, ap}

@@ -1,4 +1,4 @@
--- A taken sync is a join and a fork, whatever the buffer is; after every list of calls from a fresh table no sync has 10, and on single_main days 11 arises
+-- A taken sync is a join and a fork, whatever the buffer is; after every list of calls from a fresh table no sync has 10, and on single-main days 11 arises
 -- only with joinee 0 (02, U8).
 use Prim.Native.Nat.{ℕ}
 use mathlib.Core.Bool.{Bool, true, ◌||◌, and-false, true≢false}
@@ -83,7 +83,7 @@ module _ (t : List ℕ) (h : length t ≡ table_bytes) (single : Bool) (qs : Lis
   preview-code : (n m bib : ℕ) → (preview_out left n m bib).code ≡ (called p (Looks (Preview n m bib))).answer.code
   preview-code n m bib = ap (λ r. r.code) (preview-same p left S n m bib).reply
 
-  -- on a single_main day
+  -- on a single-main day
   with-choice : single ≡ true → (c : Call ℕ) → (called p c).answer.code ≡ 11 → (called (day_after true (calls qs)) c).answer.code ≡ 11
   with-choice e c z = subst (λ b. (called (day_after b (calls qs)) c).answer.code ≡ 11) e z
 

@@ -19,7 +19,7 @@ pub record Explained (t : List ℕ) (single : Bool) (qs : List (Call (List ℕ))
   pub agreement : replies_on (fresh_out t single board_bytes).lent qs ≡ replies qs (answers single (calls qs))
   -- "A table made fresh and then used only through the calls never meets 1."
   pub sound : (r : Answer (List ℕ)) → Memᴰ r (replies_on (fresh_out t single board_bytes).lent qs) → r.code ≡ 1 → ⊥
-  -- "a single claim about the whole list of calls, with one line_up for it"
+  -- "a single claim about the whole list of calls, with one line-up for it"
   pub line_up : LineUp single (calls qs)
   -- 02, U10: "a board that was right before any call, and is lent to it if it takes one, is right after it", whatever board the calls before it had
   pub boards : (before rest : List (Call (List ℕ))) (q : Call (List ℕ)) → qs ≡ before ++ (q ∷ rest)

@@ -1,4 +1,4 @@
--- 02, U13, at a table: of every buffer and file, what a taken verify says; and of a table made fresh, after every list of calls, that our own line_up gets a yes.
+-- 02, U13, at a table: of every buffer and file, what a taken verify says; and of a table made fresh, after every list of calls, that our own line-up gets a yes.
 use Rattle.std.specs.Prelude.{ℕ, ◌<◌, Bool, true, ◌≡◌, ◌↔◌, List, length}
 use Rattle.lists.specs.Lists.{◌∈◌}
 use Rattle.orderfile.specs.File.{numbers_in, file_of}
@@ -27,7 +27,7 @@ pub record Says (t file : List ℕ) : Type 0 where
 abbrev pub VerdictsFit : Type 0
 VerdictsFit = (t file : List ℕ) → (verify_out t file).code ≡ 0 → Says t file
 
--- "Our own line_up of demand 3 .. must get a yes when written so": any line_up that explains the day, as a file of bytes
+-- "Our own line-up of demand 3 .. must get a yes when written so": any line-up that explains the day, as a file of bytes
 pub record OwnGetsYes (t file : List ℕ) : Type 0 where
   pub are_bytes : (b : ℕ) → b ∈ file → b < 256
   pub is_yes : verify_out t file ≡ record { code = 0; value = 1 }

@@ -1,5 +1,5 @@
 -- 02, U8, at a table: of every buffer, what a taken sync is; and of a table made fresh, after every list of calls, that 11 arises only with joinee 0 on
--- single_main days and that a sync never meets 10. What a sync makes visible is said of the day (`LineUp.single_main`).
+-- single-main days and that a sync never meets 10. What a sync makes visible is said of the day (`LineUp.single_main`).
 use Rattle.std.specs.Prelude.{ℕ, Bool, true, ◌≡◌, List, length}
 use Rattle.desk.specs.Calls.{Call}
 use Rattle.boards.specs.Board.{board_bytes}

@@ -1,5 +1,5 @@
--- What is claimed of a day and one line_up of its transactions: 01, "The plain day and its line_up", from "On it:" on, without calls and values.
--- It speaks of the day's own vertices and paths alone. 01's line_up is 002's arbitration order.
+-- What is claimed of a day and one line-up of its transactions: 01, "The plain day and its line-up", from "On it:" on, without calls and values.
+-- It speaks of the day's own vertices and paths alone. 01's line-up is 002's arbitration order.
 use Rattle.std.specs.Prelude.{ℕ, ◌<◌, ◌≤◌, ◌≡◌, ◌⊎◌, ◌↔◌, length}
 use Rattle.std.proofs.Math.Option.{Option, some}
 use mathlib.Core.List.{List, [], ◌∷◌, ◌++◌, Nodup}
@@ -29,7 +29,7 @@ pub record SeesTransaction (y : Day) (t s : ℕ) : Type 0 where
   pub earlier_in : earlier ∈ events_of y s
   pub path : Sees y later earlier
 
--- `updates` are "the updates it sees, and no others, .. each once, in line_up order, and as entered within a transaction"
+-- `updates` are "the updates it sees, and no others, .. each once, in line-up order, and as entered within a transaction"
 pub record Shows (y : Day) (order : List ℕ) (x : ℕ) (updates : List ℕ) : Type 0 where
   pub seen : List ℕ
   pub exactly : Only (Sees y x) (flat (events_of y) order) seen
@@ -65,9 +65,9 @@ Extends y z =
     (r : ℕ) → IsOut y r → IsOut z r
     → (more : List ℕ) × (view z.diagram (z.terminal r) ≡ view y.diagram (y.terminal r) ++ more)
 
--- one line_up of the day's transactions, at its end
+-- one line-up of the day's transactions, at its end
 pub record Explains (y : Day) (order : List ℕ) : Type 0 where
-  -- "A line_up has every transaction once, open ones and those of queries alone too."
+  -- "A line-up has every transaction once, open ones and those of queries alone too."
   pub once : Nodup order
   pub complete : (t : ℕ) → (t ∈ order) ↔ (t < y.transactions)
   -- every event is in one transaction, once

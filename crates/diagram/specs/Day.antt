@@ -1,4 +1,4 @@
--- The plain day of revisions: what 01, "The plain day and its line_up", keeps on paper. No bibs, no times, no bytes.
+-- The plain day of revisions: what 01, "The plain day and its line-up", keeps on paper. No bibs, no times, no bytes.
 use Rattle.std.specs.Prelude.{ℕ, ◌<◌, Bool, true, false, cond, ◌≡◌, List, [], ◌∷◌, eqb}
 use Rattle.std.proofs.Math.Option.{Option, none, some}
 use Rattle.lists.specs.Sums.{any_below, last_below, sum_below}

@@ -15,7 +15,7 @@ pub record Numbering : Type 0 where
 abbrev pub fresh_numbering : Numbering
 fresh_numbering = record { of = λ r. 0; given = 1; freed = [] }
 
--- "A fork now takes a never_used number while there is one, else the number handed in longest ago."
+-- "A fork now takes a never-used number while there is one, else the number handed in longest ago."
 abbrev pub next : Numbering → ℕ
 next n = cond (ltb n.given revision_limit) n.given (head_of n.freed)
 

@@ -34,7 +34,7 @@ pub record Bears (y : Day) (r n : ℕ) : Type 0 where
   pub bore : (r < y.revisions) × (number_of y r ≡ n)
   pub no_later : (s : ℕ) → r < s → s < y.revisions → number_of y s ≡ n → ⊥
 
--- "A fork now takes a never_used number while there is one, else the number handed in longest ago." Of those never used it is the next, as
+-- "A fork now takes a never-used number while there is one, else the number handed in longest ago." Of those never used it is the next, as
 -- in 01, "Words": "each fork gives the next unused number".
 pub data Takes (ss : List Step) (n : ℕ) : Type 0 where
   never_used : n < revision_limit → (Used (run ss) n → ⊥) → ((m : ℕ) → m < n → Used (run ss) m) → Takes ss n

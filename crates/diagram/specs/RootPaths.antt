@@ -1,4 +1,4 @@
--- 002, Definitions 7 to 9, word by word: the root_path of a vertex, the effect of a vertex, and that `view` and `own` are the
+-- 002, Definitions 7 to 9, word by word: the root-path of a vertex, the effect of a vertex, and that `view` and `own` are the
 -- effects along such paths.
 use Rattle.std.specs.Prelude.{ℕ, ◌<◌, ◌≡◌, List, [], ◌∷◌, ◌++◌, length}
 use Rattle.lists.specs.Lists.{flat}

@@ -1,4 +1,4 @@
--- The steps of the day and what each does. 01, "The plain day and its line_up": "When taken: ..".
+-- The steps of the day and what each does. 01, "The plain day and its line-up": "When taken: ..".
 use Rattle.std.specs.Prelude.{ℕ, suc, Bool, true, false, cond, List, [], ◌∷◌, ◌++◌, length}
 use Rattle.std.proofs.Math.Option.{Option, none, some}
 use Rattle.lists.specs.Lists.{changed}

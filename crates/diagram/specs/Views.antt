@@ -17,7 +17,7 @@ own_step d own (join p q) = own p ++ own q
 abbrev pub own : Diagram → ℕ → List ℕ
 own = tabulate own_step []
 
--- Definition 9: the effects along the root_path, "the unique path from the root to v that does not contain j-edges".
+-- Definition 9: the effects along the root-path, "the unique path from the root to v that does not contain j-edges".
 -- This is the listing of a vertex; a path-result applies it to the fresh values.
 abbrev pub view_step : Diagram → (ℕ → List ℕ) → Vertex → List ℕ
 view_step d view root = []

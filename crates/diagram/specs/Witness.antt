@@ -36,7 +36,7 @@ NoYield c ss = Memᴰ (Yield c) ss → ⊥
 -- crate plain.) The history of client c is its events and yields; x is an event after
 -- `before`, y a later one of the same client, with the steps `middle` between them.
 pub record ByTransactions (ss : List Step) : Type 0 where
-  -- 2: "If x, y are two successive non-yield operations .. then they must be connected by a s_edge."
+  -- 2: "If x, y are two successive non-yield operations .. then they must be connected by a s-edge."
   pub successive : (before middle rest : List Step) (c r q : ℕ) (u w : Bool) → ss ≡ before ++ (Event c r u ∷ (middle ++ (Event c q w ∷ rest)))
       → NoEvent c middle → NoYield c middle → Edge s_sources (next_vertex before) (next_vertex (before ++ (Event c r u ∷ middle))) (run ss).diagram
   -- 3: "If x is the last event .. and not a yield, then it must be a terminal."

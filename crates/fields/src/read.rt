@@ -164,7 +164,7 @@ pub fn is_named(d: &[u8], r: Revision, name: &[u8]) -> bool
     is_name(&d[NAMES..SINGLE], wide(r.0), name)
 }
 
-// The choice given to fresh: whether the day is a single_main day (02, U8).
+// The choice given to fresh: whether the day is a single-main day (02, U8).
 pub fn single(d: &[u8]) -> bool
     requires { length d.now ≡ lower_bytes }
     ensures { result ≡ (cells d.now).single }

@@ -92,7 +92,7 @@ pub fn join_seen(pair: [[u8; Table::FLAGS]; 2]) -> [u8; Table::FLAGS]
     either(joiner, joinee)
 }
 
-// The caught_up flags after the parent forked the child.
+// The caught-up flags after the parent forked the child.
 pub fn fork_caught(
     caught: [[u8; Table::FLAGS]; Table::CLIENTS],
     parent: Revision,
@@ -112,7 +112,7 @@ pub fn fork_caught(
     z
 }
 
-// The caught_up flags after a joined b.
+// The caught-up flags after a joined b.
 pub fn join_caught(
     caught: [[u8; Table::FLAGS]; Table::CLIENTS],
     a: Revision,

@@ -6,7 +6,7 @@ ghost use Rattle.table.specs.Out.{table_bytes};
 
 use sizes::table::Table;
 
-// The revisions of a new day, and no entries. `single` is the choice of a single_main day (02, U8).
+// The revisions of a new day, and no entries. `single` is the choice of a single-main day (02, U8).
 pub fn start(t: &mut [u8], single: bool)
     requires { length t.old ≡ table_bytes }
     ensures { t.new ≡ fresh_bytes single ++ replicate Upper.entry_bytes 0 }

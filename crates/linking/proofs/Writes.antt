@@ -25,7 +25,7 @@ byte-wrote {p = p} i r v h e = holds_wrote i (λ t. set t r v) h e (length-set (
 pub word-wrote : {d d' : List ℕ} {p : Parts} (i r v : ℕ) → Holds d p → d' ≡ wrote d i (put_word (split d i) r v) → Holds d' (p ⟨ i ≔ put_word (p i) r v ⟩)
 word-wrote {p = p} i r v h e = holds_wrote i (λ t. put_word t r v) h e (put_word-length (p i) r v ∙ h.sized.of i)
 
--- the caught_up flags
+-- the caught-up flags
 pub caught-wrote : {d d' : List ℕ} {p : Parts} (f : (ℕ → ℕ → Bool) → ℕ → ℕ → Bool) → Holds d p → d' ≡ wrote d caught_part (pack clients (f (decode (split d)).caught)) → Holds d' (p ⟨ caught_part ≔ pack clients (f (decode p).caught) ⟩)
 caught-wrote f h e = holds_step (λ q. q ⟨ caught_part ≔ pack clients (f (decode q).caught) ⟩) h e (caught_sized h.sized _)
 

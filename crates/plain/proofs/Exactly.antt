@@ -180,7 +180,7 @@ module _ (single : Bool) (before : List (Call ℕ)) where
   is-out : (n : ℕ) → not (is_given y n) ≡ false → meant y n < y.revisions
   is-out n e = meant-low y n (meant y n) (means p n e)
 
-  -- 15: on a single_main day, box 0
+  -- 15: on a single-main day, box 0
   pub on_line : (n : ℕ) → (p.single && not (eqb n 0)) ≡ false → OnLine single n
   on_line n e t = eqb-true n 0 (not-false _ (rw (same_choice single before, t) at e))
 

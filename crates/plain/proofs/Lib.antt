@@ -1,4 +1,4 @@
--- The starred edges by computing, code 1, which does not arise, one line_up for every list of calls, previews, syncs, orders, own updates that add up, bills, and right boards.
+-- The starred edges by computing, code 1, which does not arise, one line-up for every list of calls, previews, syncs, orders, own updates that add up, bills, and right boards.
 pub mod Edges
 pub mod Ends
 pub mod Bundles

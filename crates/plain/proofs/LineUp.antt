@@ -1,4 +1,4 @@
--- The theorem: every list of calls has one line_up.
+-- The theorem: every list of calls has one line-up.
 use Prim.Native.Nat.{◌<◌, ℕ}
 use mathlib.Core.Bool.{Bool, false}
 use mathlib.Core.Path.{◌∙◌, ◌≡◌, ap, refl, subst, sym}

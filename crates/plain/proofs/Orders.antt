@@ -1,4 +1,4 @@
--- What a taken verify says, and that a line_up which explains the day gets a yes (02, U13).
+-- What a taken verify says, and that a line-up which explains the day gets a yes (02, U13).
 use Prim.Native.Nat.{ℕ, ◌<◌}
 use mathlib.Core.Bool.{Bool, true, cond, not}
 use mathlib.Core.Path.{◌≡◌, refl, sym, ◌∙◌, ap}

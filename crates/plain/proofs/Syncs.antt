@@ -1,4 +1,4 @@
--- What a taken sync is, that it never gives 10, and what holds of single_main days (02, U8).
+-- What a taken sync is, that it never gives 10, and what holds of single-main days (02, U8).
 use Prim.Native.Nat.{ℕ, ◌<◌, ◌≤◌}
 use mathlib.Core.Bool.{Bool, true, false, not, ◌||◌, true≢false}
 use mathlib.Core.Path.{◌≡◌, refl, sym, ◌∙◌, ap, subst}
@@ -59,7 +59,7 @@ module _ (single : Bool) (before : List (Call ℕ)) (m room : ℕ) where
           let z = ap code_of (sync-ends single before m boxes ∙ passed_is (joined p 0 m).next (Fork 0) (sync-forks single before m boxes)) in
           omega arith
 
--- the steps of a single_main day come from the main revision and go back to it
+-- the steps of a single-main day come from the main revision and go back to it
 events_line : (c r : ℕ) (es : List Entry) → SingleMain (bundle_steps c r es)
 events_line c r [] = (tt, tt)
 events_line c r (e ∷ es) = (tt, events_line c r es)

@@ -41,7 +41,7 @@ pub record CanShow (y : Day) (r room : ℕ) : Type 0 where
   pub idle : IsIdle y r
   pub fits : 12 * length (shown_at y r) ≤ room
 
--- 15, 02, U8: on a single_main day, box 0
+-- 15, 02, U8: on a single-main day, box 0
 abbrev pub OnLine : Bool → ℕ → Type 0
 OnLine single n = single ≡ true → n ≡ 0
 

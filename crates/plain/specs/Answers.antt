@@ -1,4 +1,4 @@
--- What each call answers and does to the day: 01, "The plain day and its line_up": "this record and the table of codes decide each call". The table of
+-- What each call answers and does to the day: 01, "The plain day and its line-up": "this record and the table of codes decide each call". The table of
 -- codes is `checks` of crate desk.
 use Rattle.std.specs.Prelude.{ℕ, ◌+◌, ◌*◌, Bool, false, cond, not, ◌&&◌, List, [], ◌∷◌, length, eqb, ltb}
 use Rattle.std.proofs.Math.Option.{Option, none, some}

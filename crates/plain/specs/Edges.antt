@@ -222,7 +222,7 @@ reused =
     edge
     (forks 63 ++ (Fork 0 ∷ Fork 63 ∷ Fork 64 ∷ Query 0 0 7 ∷ Fork 0 ∷ yield 0 ∷ join 0 40 ∷ Fork 0 ∷ Fork 0 ∷ []))
     (up_from 1 63 ++ (refusal 10 ∷ refusal 10 ∷ refusal 3 ∷ neither ∷ refusal 7 ∷ ok 0 ∷ ok 0 ∷ ok 40 ∷ refusal 10 ∷ []))
-    -- "a never_used number while there is one", although others were handed in
+    -- "a never-used number while there is one", although others were handed in
     ∷ edge
     (Fork 0 ∷ Fork 0 ∷ join 0 1 ∷ Fork 0 ∷ join 0 2 ∷ Fork 0 ∷ Fork 1 ∷ Fork 2 ∷ Fork 5 ∷ [])
     (ok 1 ∷ ok 2 ∷ ok 0 ∷ ok 3 ∷ ok 0 ∷ ok 4 ∷ refusal 4 ∷ refusal 4 ∷ refusal 3 ∷ [])
@@ -286,7 +286,7 @@ marks =
     (up_from 1 62 ++ (ok 63 ∷ refusal 10 ∷ refusal 10 ∷ ok 0 ∷ ok 0 ∷ ok 0 ∷ ok 7 ∷ ok 63 ∷ ok 5 ∷ ok 0 ∷ ok 63 ∷ []))
     ∷ []
 
--- 02, U8, on a single_main day
+-- 02, U8, on a single-main day
 abbrev pub on_line : List Edge
 on_line =
     -- 15 "for a fork of another box than 0 or a join into one", and for a preview of such a join: after 3 and 4, before 7 and 11. What was yielded on a

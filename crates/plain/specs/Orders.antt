@@ -1,4 +1,4 @@
--- 02, U13, on the plain day: what a taken verify says, and that the day's own line_up gets a yes.
+-- 02, U13, on the plain day: what a taken verify says, and that the day's own line-up gets a yes.
 use Rattle.std.specs.Prelude.{ℕ, Bool, ◌≡◌, ◌↔◌, List, []}
 use Rattle.lists.specs.Lists.{flat}
 use Rattle.orderfile.specs.File.{numbers_in, file_of}
@@ -17,10 +17,10 @@ pub record Verified (y : Day) (file : List ℕ) (answer : Answer (List Line)) : 
   pub agrees : (answer.value ≡ 1) ↔ Fits y.updates (IsOut y) (shown_at y) (numbers_in file)
   pub else_none : (answer.value ≡ 1 → ⊥) → answer.value ≡ 0
 
--- the updates of a line_up, in its order, "as entered within a transaction"
+-- the updates of a line-up, in its order, "as entered within a transaction"
 abbrev pub updates_in : Day → List ℕ → List ℕ
 updates_in y order = numbers y.diagram (flat (events_of y) order)
 
--- "Our own line_up of demand 3, in which every box's visible updates stand in listed order, must get a yes when written so."
+-- "Our own line-up of demand 3, in which every box's visible updates stand in listed order, must get a yes when written so."
 abbrev pub GetsYes : Bool → List (Call ℕ) → List ℕ → Type 0
 GetsYes single cs order = (called (day_after single cs) (Looks (Verify (file_of (updates_in (end_of single cs) order))))).answer ≡ plainly 0 1 []

@@ -1,4 +1,4 @@
--- The day kept on paper: 01, "The plain day and its line_up". The day of revisions, with what each update was.
+-- The day kept on paper: 01, "The plain day and its line-up". The day of revisions, with what each update was.
 use Rattle.std.specs.Prelude.{ℕ, Bool, true, List}
 use Rattle.lists.specs.Lists.{changed, mapped}
 use Rattle.updates.specs.declared.kind.Kind.{Kind}
@@ -17,7 +17,7 @@ pub record Line : Type 0 where
   pub number : ℕ
 
 -- "It keeps the diagram, .. the updates taken, numbered from 0, .."; and "whatever a request's rules go by, such as .. a choice given to fresh, joins
--- the record": 02, U8, whether it is a single_main day; U14, "each box ever started, the main box included"
+-- the record": 02, U8, whether it is a single-main day; U14, "each box ever started, the main box included"
 pub record PlainDay : Type 0 where
   pub single : Bool
   pub day : Day

@@ -1,4 +1,4 @@
--- 02, U8: what a taken sync is, and what is claimed of single_main days.
+-- 02, U8: what a taken sync is, and what is claimed of single-main days.
 use Rattle.std.specs.Prelude.{ℕ, ◌<◌, ◌≤◌, Bool, true, ◌≡◌, List, ◌∷◌, ◌++◌}
 use Rattle.diagram.specs.Day.{meant}
 use Rattle.diagram.specs.Steps.{Step, Event, next_vertex}

@@ -20,14 +20,14 @@ use Rattle.plain.specs.Orders.{Verified}
 use Rattle.plain.specs.Fills.{codes_of}
 use Rattle.plain.specs.Bills.{bill_in}
 
--- a query: "as its bib stands after the updates it sees, and no others, are applied to the fresh values, each once, in line_up order, and as entered within
--- a transaction". `end` is the day after all calls, `order` its line_up, x the query's vertex
+-- a query: "as its bib stands after the updates it sees, and no others, are applied to the fresh values, each once, in line-up order, and as entered within
+-- a transaction". `end` is the day after all calls, `order` its line-up, x the query's vertex
 pub record AnsweredBy (end : PlainDay) (order : List ℕ) (x bib : ℕ) (answer : Answer (List Line)) : Type 0 where
   pub updates : List ℕ
   pub shown : Shows end.day order x updates
   pub is : answer ≡ reading (standing_of end.entries bib updates) 0 []
 
--- a list of revision r on day y: the updates that its terminal (01: line end) sees, in the order of the line_up, each as it was entered
+-- a list of revision r on day y: the updates that its terminal (01: line end) sees, in the order of the line-up, each as it was entered
 pub record ListedBy (end : PlainDay) (order : List ℕ) (y : Day) (r : ℕ) (answer : Answer (List Line)) : Type 0 where
   pub updates : List ℕ
   pub shown : Shows end.day order (y.terminal r) updates

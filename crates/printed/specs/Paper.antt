@@ -1,4 +1,4 @@
--- A day file printed from the day kept on paper: 01, "The plain day and its line_up" and "Day file and printed day". The
+-- A day file printed from the day kept on paper: 01, "The plain day and its line-up" and "Day file and printed day". The
 -- records run on the plain day; no table is kept.
 use Rattle.std.specs.Prelude.{ℕ, zero, suc, false, ◌≡◌, List, [], ◌++◌}
 use Rattle.text.specs.Placed.{ascii}

@@ -157,7 +157,7 @@ module _ (d : List ℕ) (l : length d ≡ lower_bytes) where
       let s = put_name-length (split d names_part) c n ∙ h.sized.of names_part in
       (holds_wrote names_part (λ t. put_name t c n) h₂ e₃ s).eq ∙ rw (set-set (split d state_part) c state_out state_marked)
 
--- a new day: bytes that are all 0, the caught_up flags, then each part put in whole
+-- a new day: bytes that are all 0, the caught-up flags, then each part put in whole
 fresh-revisions_sized : {p : Parts} → Sized p → Sized (fresh_revisions p)
 unfolding size
 fresh-revisions_sized h =

@@ -11,7 +11,7 @@ use Rattle.cells.specs.Decode.{decode}
 use Rattle.lists.specs.Pool.{fork_pool}
 use Rattle.cells.specs.CellSteps.{fork_caught}
 
--- a fresh day's parts, but for the caught_up flags
+-- a fresh day's parts, but for the caught-up flags
 abbrev pub fresh_revisions : Parts → Parts
 fresh_revisions p =
     p

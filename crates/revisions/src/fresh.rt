@@ -37,7 +37,7 @@ fn put_counts(d: &mut [u8])
     put(d, parts::SIGNATURE, &signature);
 }
 
-// The choice of a single_main day (02, U8).
+// The choice of a single-main day (02, U8).
 fn put_choice(d: &mut [u8], single: bool)
     requires { length d.old ≡ lower_bytes }
     ensures { d.new ≡ wrote d.old single_part (cond single 1 0 ∷ []) }

@@ -66,7 +66,7 @@ impl Table {
     // The limit of a cell that says whether a row is in use: 0 or 1.
     pub const USED_LIMIT: usize = 2;
 
-    // The limit of the cell that says whether a day is a single_main day: 0 or 1.
+    // The limit of the cell that says whether a day is a single-main day: 0 or 1.
     pub const SINGLE_LIMIT: usize = 2;
 
     // The limit of a count of updates: 0 to 4,096.
@@ -115,7 +115,7 @@ impl Table {
         [1, 0]
     }
 
-    // A client without events may start anywhere: every caught_up flag, eight to a byte.
+    // A client without events may start anywhere: every caught-up flag, eight to a byte.
     pub fn fresh_caught() -> [[u8; Table::FLAGS]; Table::CLIENTS]
         ensures { result ≡ replicate clients (replicate 8 255) }
     {

@@ -7,7 +7,7 @@ ghost use Rattle.cells.specs.Flags.{pack};
 use places::parts::{CAUGHT, STATE};
 use sizes::table::Table;
 
-// Every caught_up flag.
+// Every caught-up flag.
 pub fn caught(d: &mut [u8])
     requires { length d.old ≡ lower_bytes }
     ensures { d.new ≡ wrote d.old caught_part (pack clients (λ c r. true)) }

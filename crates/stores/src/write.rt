@@ -155,7 +155,7 @@ pub fn join_seen(d: &mut [u8], a: Revision, b: Revision)
     flags::packed::join_seen(&mut d[SEEN..CAUGHT], a, b);
 }
 
-// The parent forked the child: the caught_up flags.
+// The parent forked the child: the caught-up flags.
 pub fn fork_caught(d: &mut [u8], parent: Revision, child: Revision)
     requires { (length d.old ≡ lower_bytes) × (parent.0 < revisions) × (child.0 < revisions) }
     ensures { d.new ≡ wrote d.old caught_part (pack clients (fork_caught (cells d.old).caught parent.0 child.0)) }
@@ -163,7 +163,7 @@ pub fn fork_caught(d: &mut [u8], parent: Revision, child: Revision)
     flags::packed::fork_caught(&mut d[CAUGHT..STATE], parent, child);
 }
 
-// a joined b: the caught_up flags.
+// a joined b: the caught-up flags.
 pub fn join_caught(d: &mut [u8], a: Revision, b: Revision)
     requires { (length d.old ≡ lower_bytes) × (a.0 < revisions) × (b.0 < revisions) }
     ensures { d.new ≡ wrote d.old caught_part (pack clients (join_caught (cells d.old).caught a.0 b.0)) }

@@ -1,4 +1,4 @@
--- The events of a revision and those on a vertex's root_path, and that a path loses none of them.
+-- The events of a revision and those on a vertex's root-path, and that a path loses none of them.
 use Prim.Native.Nat.{◌<◌, ℕ}
 use mathlib.Core.Path.{◌≡◌, refl, sym}
 use mathlib.Core.Logic.{◌⊎◌, inl, inr}

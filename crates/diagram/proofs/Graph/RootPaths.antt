@@ -1,4 +1,4 @@
--- Every vertex of a constructed diagram has its root_path and its revision's path, and the effects along them are its view and its own.
+-- Every vertex of a constructed diagram has its root-path and its revision's path, and the effects along them are its view and its own.
 use Prim.Native.Nat.{◌<◌, ℕ}
 use mathlib.Core.Path.{◌∙◌, ◌≡◌, ap, refl, sym}
 use mathlib.Core.Option.{Option}

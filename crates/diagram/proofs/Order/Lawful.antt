@@ -47,7 +47,7 @@ forked_at (forked K T) = T
 joined_at : {t q : ℕ} {d : Diagram} → Constructed (join t q ∷ d) → Terminal d t × Terminal d q × Joinable d t q
 joined_at (joined K T U J) = (T, U, J)
 
--- an s_edge to the newest vertex is one of its own
+-- an s-edge to the newest vertex is one of its own
 s_edge_in : {v : Vertex} {d : Diagram} {x z : ℕ} → Ordered d → z ≡ length d → Edge s_sources x z (v ∷ d) → Memᴰ x (s_sources v)
 s_edge_in o q (newest e i) = i
 s_edge_in o q (older e) = absurd (omega (arith, edge_bounds o (edge_any s_any e)))

@@ -9,7 +9,6 @@ use native.Mathlib.Omega.{arith}
 use lib.ListN.{length}
 use lib.Dec.{eqb, ltb}
 use borrow.Author.Tests.{eqb-false, eqb-true, ltb-false, ltb-true}
-use Rattle.blocks.proofs.Joining.{low}
 use Rattle.diagram.proofs.Days.Moves.{Moves, drops_of, enters, forks_at, joins_into, yields}
 use Rattle.diagram.proofs.Days.Sound.{some≢none}
 use Rattle.diagram.proofs.Graph.Tables.{number_step, tabulate-newest, tabulate-older}

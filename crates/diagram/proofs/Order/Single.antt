@@ -1,4 +1,4 @@
--- 02, U8: a sync's fork is accepted where its join is; and on single_main days what was on a revision before its sync is visible to every revision
+-- 02, U8: a sync's fork is accepted where its join is; and on single-main days what was on a revision before its sync is visible to every revision
 -- that starts with the sync or later.
 use Prim.Native.Nat.{◌<◌, ◌≤◌, ℕ}
 use mathlib.Core.Bool.{Bool, true, false}
@@ -33,7 +33,7 @@ use Rattle.diagram.proofs.Order.Runs.{accepted_first, accepted_rest, along, fine
 use Rattle.diagram.proofs.Order.Rules.{by_rules}
 use Rattle.diagram.proofs.Order.Since.{seen}
 
--- on a single_main day "boxes only ever come from the main box and go back to it". The choice bars steps and changes none, so that the day of
+-- on a single-main day "boxes only ever come from the main box and go back to it". The choice bars steps and changes none, so that the day of
 -- revisions does not keep it: the plain day does. U9: "Single-main days have no marks"
 abbrev pub OnLine : Step → Type 0
 OnLine (Event c r u) = Unit {0}

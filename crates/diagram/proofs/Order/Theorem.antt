@@ -10,7 +10,6 @@ use mathlib.Core.List.{[], ◌++◌, ◌∷◌, append_assoc}
 use native.Mathlib.Omega.{arith}
 use lib.ListN.{length}
 use Rattle.blocks.proofs.Past.{held-order}
-use Rattle.blocks.specs.Blocks.{seen}
 use Rattle.diagram.proofs.Arranged.Advance.{Linked, contents, may}
 use Rattle.diagram.proofs.Days.Moves.{idle-all, step-moves}
 use Rattle.diagram.proofs.Days.Outside.{idle-past}
@@ -25,7 +24,6 @@ use Rattle.diagram.proofs.Order.Numbered.{number_event}
 use Rattle.diagram.proofs.Order.Runs.{accepted_first, accepted_rest, fine_run, fine_step, numbered-run, older_from, run-append, run_step}
 use Rattle.diagram.specs.Arbitration.{Explains, Extends, IsEvent, Numbered, Sees, SeesTransaction, Shows, WholeAt, events_of}
 use Rattle.diagram.specs.Arbitration.{newest_is, older_is}
-use Rattle.diagram.specs.Construction.{entered}
 use Rattle.diagram.specs.Day.{Day, IsIdle, IsOut, fresh}
 use Rattle.diagram.specs.Diagram.{Diagram, event}
 use Rattle.diagram.specs.Effects.{entry, number, numbers}

@@ -1,4 +1,4 @@
--- On single_main days (02, U8) the main revision may join every other that is out: code 11 arises only with joinee 0.
+-- On single-main days (02, U8) the main revision may join every other that is out: code 11 arises only with joinee 0.
 use Prim.Native.Nat.{◌<◌, ℕ}
 use mathlib.Core.Bool.{false, true}
 use mathlib.Core.Path.{◌≡◌}

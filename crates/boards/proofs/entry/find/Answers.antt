@@ -1,7 +1,6 @@
 -- `boards::entry::find` meets its contract: the entry's five bytes are lent. Assumes nothing.
 use Prim.Native.Nat.{◌*◌}
 use mathlib.Core.Path.{◌∙◌}
-use borrow.Author.Rules.{rules}
 use Rattle.lists.proofs.Replaced.{lent-size}
 use Rattle.boards.proofs.entry.find.Goals as goal
 

@@ -1,5 +1,4 @@
 -- `boards::entry::show` meets its contract: struck, or at a value. Assumes nothing.
-use borrow.Author.Rules.{rules}
 use Rattle.boards.specs.Board.{shown}
 use Rattle.boards.proofs.entry.show.Goals as goal
 

@@ -1,7 +1,6 @@
 -- `boards::entry::store` meets its contract: five bytes written one by one. Assumes nothing.
 use native.Mathlib.Omega.{arith}
 use lib.ListN.{length-set}
-use borrow.Author.Rules.{rules}
 use Rattle.boards.proofs.Entries.{five_set}
 use Rattle.boards.proofs.entry.store.Goals as goal
 

@@ -1,6 +1,5 @@
 -- `boards::entry::write` meets its contract: the entry's five bytes are lent and come back written. Assumes nothing.
 use Prim.Native.Nat.{◌*◌}
-use borrow.Author.Rules.{rules}
 use borrow.Author.Tests.{lt-ltb}
 use Rattle.lists.proofs.Replaced.{lent-replaced}
 use Rattle.boards.specs.Board.{bibs, wrote}

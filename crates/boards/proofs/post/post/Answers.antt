@@ -1,6 +1,5 @@
 -- `boards::post::post` meets its contract: the bib has an entry, or there is nothing to write. Assumes nothing.
 use mathlib.Core.Path.{◌∙◌, ap}
-use borrow.Author.Rules.{rules}
 use borrow.Author.Tests.{le-ltb}
 use Rattle.updates.specs.Effect.{effect}
 use Rattle.boards.specs.Board.{wrote}

@@ -1,12 +1,12 @@
 -- `bundles::pack::pack` meets its contract: entry i's record is put behind the i records before it. Assumes nothing.
 use Prim.Native.Nat.{ℕ}
-use mathlib.Core.Path.{◌≡◌, sym, ◌∙◌, ap}
+use mathlib.Core.Path.{◌≡◌, ◌∙◌, ap}
 use mathlib.Core.List.{List}
 use native.Mathlib.Omega.{arith}
 use lib.ListN.{length, take, get_or}
 use Rattle.bundles.specs.declared.entry.Entry.{Entry}
 use Rattle.bundles.specs.declared.pack.Packed.{Packed}
-use Rattle.bundles.specs.Packed.{at_most, filled, packed_of, with_entry}
+use Rattle.bundles.specs.Packed.{filled, packed_of, with_entry}
 use Rattle.bundles.proofs.Filled.{none_filled, one_more, all_taken, below-most}
 use Rattle.bundles.proofs.pack.pack.Goals as goal
 

@@ -2,7 +2,6 @@
 use native.Mathlib.Omega.{arith}
 use lib.ListN.{drop}
 use Rattle.buffers.proofs.Widths.{part-below}
-use borrow.Author.Rules.{rules}
 use Rattle.bundles.proofs.record.decode.Goals as goal
 
 pub overflow_cast-bib : goal.overflow_cast-bib

@@ -1,6 +1,5 @@
 -- `bundles::record::put` meets its contract: the record's twelve bytes are lent and come back written. Assumes nothing.
 use Prim.Native.Nat.{◌*◌}
-use borrow.Author.Rules.{rules}
 use Rattle.bundles.specs.Packed.{record_of}
 use Rattle.lists.proofs.Replaced.{lent-replaced}
 use Rattle.bundles.proofs.record.put.Goals as goal

@@ -1,7 +1,6 @@
 -- `bundles::record::write` meets its contract: twelve bytes written one by one. Assumes nothing.
 use native.Mathlib.Omega.{arith}
 use lib.ListN.{length-set}
-use borrow.Author.Rules.{rules}
 use Rattle.bundles.proofs.Written.{twelve_set}
 use Rattle.bundles.proofs.record.write.Goals as goal
 

@@ -4,7 +4,6 @@ use lib.ListN.{drop}
 use borrow.Author.Tests.{lt-ltb, le-ltb, eq-eqb, ne_eqb}
 use Rattle.dayfile.specs.File.{file_check}
 use Rattle.buffers.proofs.Widths.{part-below}
-use borrow.Author.Rules.{rules}
 use Rattle.dayfile.proofs.file.check_file.Goals as goal
 
 pub returns-then-f-lt-HEADER : goal.returns-then-f-lt-HEADER

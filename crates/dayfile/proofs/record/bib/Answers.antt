@@ -1,7 +1,6 @@
 -- `dayfile::record::bib` meets its contract: two bytes have 16 bits. Assumes nothing.
 use native.Mathlib.Omega.{arith}
 use lib.ListN.{drop}
-use borrow.Author.Rules.{rules}
 use Rattle.buffers.proofs.Widths.{part-below}
 use Rattle.dayfile.proofs.record.bib.Goals as goal
 

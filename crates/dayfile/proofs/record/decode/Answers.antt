@@ -2,7 +2,6 @@
 use lib.ListN.{get_or}
 use borrow.Author.Tests.{ne_eqb}
 use Rattle.dayfile.specs.Record.{step_of}
-use borrow.Author.Rules.{rules}
 use Rattle.dayfile.proofs.record.decode.Goals as goal
 
 pub returns-in-1 : goal.returns-in-1

@@ -2,7 +2,6 @@
 use native.Mathlib.Omega.{arith}
 use lib.ListN.{drop}
 use Rattle.buffers.proofs.Widths.{part-below}
-use borrow.Author.Rules.{rules}
 use Rattle.dayfile.proofs.record.update.Goals as goal
 
 pub overflow_cast-v : goal.overflow_cast-v

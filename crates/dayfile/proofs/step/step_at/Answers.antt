@@ -8,7 +8,6 @@ use Rattle.dayfile.specs.File.{offset}
 use borrow.Author.Tests.{le-leb, lt-leb}
 use Rattle.dayfile.specs.Record.{step_at, step_of}
 use Rattle.buffers.proofs.Widths.{part-below}
-use borrow.Author.Rules.{rules}
 use Rattle.dayfile.proofs.step.step_at.Goals as goal
 
 pub returns-then-f-lt-HEADER : goal.returns-then-f-lt-HEADER

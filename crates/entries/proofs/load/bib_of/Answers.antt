@@ -1,5 +1,4 @@
 -- `entries::load::bib_of` meets its contract: the low byte, and two bits of the next. Assumes nothing.
-use borrow.Author.Rules.{rules}
 use Rattle.entries.specs.Stored.{decoded}
 use Rattle.entries.proofs.load.bib_of.Goals as goal
 

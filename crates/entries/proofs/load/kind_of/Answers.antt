@@ -1,5 +1,4 @@
 -- `entries::load::kind_of` meets its contract: two bits of the second byte. Assumes nothing.
-use borrow.Author.Rules.{rules}
 use Rattle.entries.specs.Stored.{decoded}
 use Rattle.entries.proofs.load.kind_of.Goals as goal
 

@@ -1,5 +1,4 @@
 -- `entries::load::load` meets its contract: each field is decoded from its bytes. Assumes nothing.
-use borrow.Author.Rules.{rules}
 use Rattle.entries.specs.Stored.{decoded}
 use Rattle.entries.proofs.load.load.Goals as goal
 

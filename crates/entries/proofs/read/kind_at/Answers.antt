@@ -1,7 +1,6 @@
 -- `entries::read::kind_at` meets its contract: the entry's six bytes are lent. Assumes nothing.
 use Prim.Native.Nat.{◌*◌}
 use mathlib.Core.Path.{◌∙◌}
-use borrow.Author.Rules.{rules}
 use Rattle.lists.proofs.Replaced.{lent-size}
 use Rattle.entries.specs.Entries.{entry_at}
 use Rattle.entries.proofs.read.kind_at.Goals as goal

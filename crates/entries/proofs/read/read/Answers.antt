@@ -1,7 +1,6 @@
 -- `entries::read::read` meets its contract: the entry's six bytes are lent, or there are none. Assumes nothing.
 use Prim.Native.Nat.{◌*◌}
 use mathlib.Core.Path.{◌∙◌, sym}
-use borrow.Author.Rules.{rules}
 use Rattle.lists.proofs.Replaced.{lent-size}
 use Rattle.entries.specs.Entries.{entry_at}
 use Rattle.entries.proofs.Entries.{entry_past}

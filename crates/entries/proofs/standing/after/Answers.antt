@@ -1,5 +1,4 @@
 -- `entries::standing::after` meets its contract: the entry is of the bib, or not. Assumes nothing.
-use borrow.Author.Rules.{rules}
 use borrow.Author.Tests.{eq-eqb, ne_eqb}
 use Rattle.updates.specs.Applied.{applied}
 use Rattle.entries.proofs.standing.after.Goals as goal

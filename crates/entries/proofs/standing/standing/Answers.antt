@@ -1,5 +1,4 @@
 -- `entries::standing::standing` meets its contract: from a fresh day on. Assumes nothing.
-use borrow.Author.Rules.{rules}
 use Rattle.entries.proofs.standing.standing.Goals as goal
 
 pub returns : goal.returns

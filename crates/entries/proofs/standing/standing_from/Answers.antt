@@ -1,5 +1,4 @@
 -- `entries::standing::standing_from` meets its contract: the standing after the first i numbers, one more at each turn. Assumes nothing.
-use Prim.Native.Nat.{◌-◌, ◌≤◌}
 use mathlib.Core.Path.{◌≡◌, refl, sym, ◌∙◌, ap}
 use native.Mathlib.Omega.{arith}
 use lib.ListN.{take}

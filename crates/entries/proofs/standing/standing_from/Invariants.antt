@@ -1,13 +1,10 @@
 -- `entries::standing::standing_from` meets its contract: the standing after the first i numbers, one more at each turn. Assumes nothing.
 use Prim.Native.Nat.{◌-◌, ◌≤◌}
-use mathlib.Core.Path.{◌≡◌, refl, sym, ◌∙◌, ap}
-use native.Mathlib.Omega.{arith}
+use mathlib.Core.Path.{◌≡◌}
 use lib.ListN.{take}
-use borrow.Author.Rules.{rules}
 use Rattle.updates.specs.Applied.{applied}
 use Rattle.entries.specs.Entries.{entry_at}
 use Rattle.entries.specs.Folded.{of_bib}
-use Rattle.entries.proofs.Folded.{applied-more}
 use Rattle.entries.proofs.standing.standing_from.Given as goal
 
 abbrev pub invariant-loop-i : goal.invariant-loop-i

@@ -1,7 +1,6 @@
 -- `entries::store::store` meets its contract: six bytes written one by one. Assumes nothing.
 use native.Mathlib.Omega.{arith}
 use lib.ListN.{length-set}
-use borrow.Author.Rules.{rules}
 use Rattle.entries.specs.Stored.{stored}
 use Rattle.entries.proofs.Stored.{six_set}
 use Rattle.entries.proofs.store.store.Goals as goal

@@ -1,7 +1,6 @@
 -- `entries::store::two_bits` meets its contract: the number of a kind is 1 to 4. Assumes nothing.
 use mathlib.Core.Path.{ap}
 use native.Mathlib.Omega.{arith}
-use borrow.Author.Rules.{rules}
 use Prim.Native.Nat.{◌-◌}
 use Rattle.entries.proofs.Stored.{number_bounds}
 use Rattle.entries.proofs.store.two_bits.Goals as goal

@@ -1,6 +1,5 @@
 -- `entries::write::write` meets its contract: the entry's six bytes are lent and come back stored. Assumes nothing.
 use Prim.Native.Nat.{◌*◌}
-use borrow.Author.Rules.{rules}
 use Rattle.lists.proofs.Replaced.{lent-replaced}
 use Rattle.entries.specs.Entries.{wrote}
 use Rattle.entries.proofs.write.write.Goals as goal

@@ -1,6 +1,5 @@
 -- `flags::bits::set` meets its contract: bit by bit. Assumes nothing.
 use native.Mathlib.Omega.{arith}
-use borrow.Author.Rules.{rules}
 use Rattle.flags.proofs.Bytes.{set-byte}
 use Rattle.flags.proofs.bits.set.Goals as goal
 

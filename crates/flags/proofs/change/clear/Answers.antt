@@ -1,12 +1,8 @@
 -- `flags::change::clear` meets its contract: the rows up to `x` are stored. Assumes nothing.
-use Prim.Native.Nat.{◌-◌, ◌≤◌}
-use mathlib.Core.Bool.{◌&&◌, not}
 use mathlib.Core.Path.{◌≡◌}
 use native.Mathlib.Omega.{arith}
-use lib.ListN.{length, take}
 use borrow.Author.Rules.{rules}
-use Rattle.cells.specs.Flags.{flag_at, flag_of, row_bytes, rows}
-use Rattle.cells.specs.Tables.{tab}
+use Rattle.cells.specs.Flags.{rows}
 use Rattle.cells.proofs.Tables.{tab_done, tab-more, tab-none}
 use Rattle.flags.proofs.change.clear.Goals as goal
 

@@ -2,12 +2,9 @@
 use Prim.Native.Nat.{◌-◌, ◌≤◌}
 use mathlib.Core.Bool.{◌&&◌, not}
 use mathlib.Core.Path.{◌≡◌}
-use native.Mathlib.Omega.{arith}
 use lib.ListN.{length, take}
-use borrow.Author.Rules.{rules}
-use Rattle.cells.specs.Flags.{flag_at, flag_of, row_bytes, rows}
+use Rattle.cells.specs.Flags.{flag_at, flag_of, row_bytes}
 use Rattle.cells.specs.Tables.{tab}
-use Rattle.cells.proofs.Tables.{tab_done, tab-more, tab-none}
 use Rattle.flags.proofs.change.clear.Given as goal
 
 abbrev pub invariant-loop-x : goal.invariant-loop-x

@@ -1,7 +1,6 @@
 -- `flags::change::flag` meets its contract: the bit of the row's number. Assumes nothing.
 use mathlib.Core.Path.{◌∙◌, ap}
 use native.Mathlib.Omega.{arith}
-use borrow.Author.Rules.{rules}
 use Rattle.cells.specs.Flags.{flag_at}
 use Rattle.flags.proofs.change.flag.Goals as goal
 

@@ -1,14 +1,10 @@
 -- `flags::change::fork_caught` meets its contract: the rows up to `x` are stored. Assumes nothing.
 use Prim.Native.Nat.{◌-◌, ◌≤◌}
 use mathlib.Core.Bool.{cond}
-use mathlib.Core.Path.{◌∙◌, ◌≡◌}
-use native.Mathlib.Omega.{arith}
+use mathlib.Core.Path.{◌≡◌}
 use lib.ListN.{length, take}
-use borrow.Author.Rules.{rules}
-use Rattle.cells.specs.Flags.{flag_at, flag_of, row_bytes, rows}
+use Rattle.cells.specs.Flags.{flag_at, flag_of, row_bytes}
 use Rattle.cells.specs.Tables.{tab}
-use Rattle.cells.proofs.Tables.{tab_done, tab-more, tab-none}
-use Rattle.flags.proofs.Laws.{column_rows}
 use Rattle.flags.proofs.change.fork_caught.Given as goal
 
 abbrev pub invariant-loop-x : goal.invariant-loop-x

@@ -1,5 +1,4 @@
 -- `flags::change::gain` meets its contract: flag by flag. Assumes nothing.
-use borrow.Author.Rules.{rules}
 use mathlib.Core.Path.{◌∙◌}
 use Rattle.flags.proofs.Laws.{gain_off, gain_on}
 use Rattle.flags.proofs.change.gain.Goals as goal

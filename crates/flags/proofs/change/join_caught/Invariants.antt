@@ -1,15 +1,10 @@
 -- `flags::change::join_caught` meets its contract: the rows up to `x` are stored. Assumes nothing.
 use Prim.Native.Nat.{◌-◌, ◌≤◌}
 use mathlib.Core.Bool.{◌&&◌, ◌||◌}
-use mathlib.Core.Path.{◌∙◌, ◌≡◌}
-use mathlib.Core.List.{[]}
-use native.Mathlib.Omega.{arith}
-use lib.ListN.{get_or, length, take}
-use borrow.Author.Rules.{rules}
-use Rattle.cells.specs.Flags.{flag_at, flag_of, row_bytes, rows}
+use mathlib.Core.Path.{◌≡◌}
+use lib.ListN.{length, take}
+use Rattle.cells.specs.Flags.{flag_at, flag_of, row_bytes}
 use Rattle.cells.specs.Tables.{tab}
-use Rattle.cells.proofs.Tables.{tab_done, tab-more, tab-none, tab_same}
-use Rattle.flags.proofs.Laws.{joined_row}
 use Rattle.flags.proofs.change.join_caught.Given as goal
 
 abbrev pub invariant-loop-x : goal.invariant-loop-x

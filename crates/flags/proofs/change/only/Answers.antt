@@ -2,7 +2,6 @@
 use mathlib.Core.Path.{◌∙◌}
 use native.Mathlib.Omega.{arith}
 use lib.Dec.{eqb}
-use borrow.Author.Rules.{rules}
 use Rattle.cells.proofs.Flags.{row_bytes_same}
 use Rattle.flags.proofs.Digits.{bit-only}
 use Rattle.flags.proofs.change.only.Goals as goal

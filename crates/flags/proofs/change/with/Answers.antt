@@ -1,5 +1,4 @@
 -- `flags::change::with` meets its contract: flag by flag. Assumes nothing.
-use borrow.Author.Rules.{rules}
 use mathlib.Core.Path.{◌∙◌}
 use Rattle.flags.proofs.Laws.{flags_off, flags_on}
 use Rattle.flags.proofs.change.with.Goals as goal

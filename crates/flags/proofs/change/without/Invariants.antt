@@ -1,15 +1,10 @@
 -- `flags::change::without` meets its contract: the bytes up to `k` are stored. Assumes nothing.
 use Prim.Native.Nat.{◌*◌, ◌+◌, ◌-◌, ◌≤◌}
 use mathlib.Core.Bool.{◌&&◌, not}
-use mathlib.Core.Path.{◌∙◌, ◌≡◌}
-use native.Mathlib.Omega.{arith}
+use mathlib.Core.Path.{◌≡◌}
 use lib.ListN.{length, take}
-use borrow.Author.Rules.{rules}
-use Rattle.cells.specs.Flags.{byte_of, flag_at, row_bytes}
+use Rattle.cells.specs.Flags.{byte_of, flag_at}
 use Rattle.cells.specs.Tables.{tab}
-use Rattle.cells.specs.Words.{byte}
-use Rattle.cells.proofs.Tables.{tab_done, tab-more, tab-none}
-use Rattle.flags.proofs.Bytes.{same_bytes}
 use Rattle.flags.proofs.change.without.Given as goal
 
 abbrev pub invariant-loop-k : goal.invariant-loop-k

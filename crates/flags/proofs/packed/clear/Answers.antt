@@ -1,12 +1,8 @@
 -- `flags::packed::clear` meets its contract: `x` rows are done, and the others as they were. Assumes nothing.
-use Prim.Native.Nat.{◌%◌, ◌*◌, ◌-◌, ◌≤◌}
 use mathlib.Core.Path.{◌≡◌}
-use mathlib.Core.List.{◌++◌}
 use native.Mathlib.Omega.{arith}
-use lib.ListN.{drop, length}
 use borrow.Author.Rules.{rules}
-use Rattle.cells.specs.Flags.{pack}
-use Rattle.flags.proofs.InPlace.{all_done, cleared, cleared_more, none_done}
+use Rattle.flags.proofs.InPlace.{all_done, cleared_more, none_done}
 use Rattle.flags.proofs.packed.clear.Goals as goal
 
 pub loop-x-init : goal.loop-x-init

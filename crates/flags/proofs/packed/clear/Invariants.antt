@@ -2,11 +2,9 @@
 use Prim.Native.Nat.{◌%◌, ◌*◌, ◌-◌, ◌≤◌}
 use mathlib.Core.Path.{◌≡◌}
 use mathlib.Core.List.{◌++◌}
-use native.Mathlib.Omega.{arith}
 use lib.ListN.{drop, length}
-use borrow.Author.Rules.{rules}
 use Rattle.cells.specs.Flags.{pack}
-use Rattle.flags.proofs.InPlace.{all_done, cleared, cleared_more, none_done}
+use Rattle.flags.proofs.InPlace.{cleared}
 use Rattle.flags.proofs.packed.clear.Given as goal
 
 abbrev pub invariant-loop-x : goal.invariant-loop-x

@@ -1,6 +1,5 @@
 -- `flags::packed::clear_block` meets its contract: what was loaded, changed and stored. Assumes nothing.
 use mathlib.Core.Path.{◌∙◌}
-use borrow.Author.Rules.{rules}
 use Rattle.flags.proofs.Laws.{clear_stored}
 use Rattle.flags.proofs.packed.clear_block.Goals as goal
 

@@ -1,7 +1,6 @@
 -- `flags::packed::fork_caught` meets its contract: what was loaded, changed and stored. Assumes nothing.
 use mathlib.Core.Path.{◌∙◌}
 use native.Mathlib.Omega.{arith}
-use borrow.Author.Rules.{rules}
 use Rattle.flags.proofs.Laws.{fork-caught-stored}
 use Rattle.flags.proofs.packed.fork_caught.Goals as goal
 

@@ -1,7 +1,6 @@
 -- `flags::packed::fork_seen` meets its contract: the column cleared, and two rows stored. Assumes nothing.
 use mathlib.Core.Path.{◌∙◌, ap}
 use native.Mathlib.Omega.{arith}
-use borrow.Author.Rules.{rules}
 use Rattle.cells.specs.Flags.{flag_at, put_row}
 use Rattle.flags.proofs.InPlace.{fork-stored}
 use Rattle.flags.proofs.packed.fork_seen.Goals as goal

@@ -1,7 +1,6 @@
 -- `flags::packed::join_seen` meets its contract: two rows loaded, one stored. Assumes nothing.
 use mathlib.Core.Path.{◌∙◌, ap}
 use native.Mathlib.Omega.{arith}
-use borrow.Author.Rules.{rules}
 use Rattle.cells.specs.Flags.{flag_at, put_row}
 use Rattle.flags.proofs.Laws.{join_row_stored}
 use Rattle.flags.proofs.packed.join_seen.Goals as goal

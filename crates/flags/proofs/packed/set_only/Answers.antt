@@ -1,7 +1,6 @@
 -- `flags::packed::set_only` meets its contract: the row written has flag r alone. Assumes nothing.
 use mathlib.Core.Path.{◌∙◌, ap}
 use lib.Dec.{eqb}
-use borrow.Author.Rules.{rules}
 use Rattle.cells.specs.Flags.{flag_at, put_row}
 use Rattle.cells.proofs.Flags.{flag_row_bytes, put_row_same}
 use Rattle.flags.proofs.packed.set_only.Goals as goal

@@ -1,11 +1,8 @@
 -- `flags::rows::load16` meets its contract: the rows up to `x` are stored. Assumes nothing.
-use Prim.Native.Nat.{◌-◌, ◌≤◌}
 use mathlib.Core.Path.{◌∙◌, ◌≡◌}
 use native.Mathlib.Omega.{arith}
-use lib.ListN.{length, take}
 use borrow.Author.Rules.{rules}
-use Rattle.cells.specs.Flags.{flag_in, row_bytes, rows}
-use Rattle.cells.specs.Tables.{tab}
+use Rattle.cells.specs.Flags.{rows}
 use Rattle.cells.proofs.Tables.{tab_done, tab-more, tab-none}
 use Rattle.flags.proofs.Laws.{row_loaded}
 use Rattle.flags.proofs.rows.load16.Goals as goal

@@ -1,13 +1,9 @@
 -- `flags::rows::load16` meets its contract: the rows up to `x` are stored. Assumes nothing.
 use Prim.Native.Nat.{◌-◌, ◌≤◌}
-use mathlib.Core.Path.{◌∙◌, ◌≡◌}
-use native.Mathlib.Omega.{arith}
+use mathlib.Core.Path.{◌≡◌}
 use lib.ListN.{length, take}
-use borrow.Author.Rules.{rules}
-use Rattle.cells.specs.Flags.{flag_in, row_bytes, rows}
+use Rattle.cells.specs.Flags.{flag_in, row_bytes}
 use Rattle.cells.specs.Tables.{tab}
-use Rattle.cells.proofs.Tables.{tab_done, tab-more, tab-none}
-use Rattle.flags.proofs.Laws.{row_loaded}
 use Rattle.flags.proofs.rows.load16.Given as goal
 
 abbrev pub invariant-loop-x : goal.invariant-loop-x

@@ -1,11 +1,11 @@
 -- `flags::rows::store16` meets its contract: the rows up to `x` are stored. Assumes nothing.
-use Prim.Native.Nat.{◌*◌, ◌+◌, ◌-◌, ◌≤◌}
+use Prim.Native.Nat.{◌*◌, ◌+◌}
 use mathlib.Core.Path.{◌∙◌, ◌≡◌, ap, sym}
 use native.Mathlib.Omega.{arith}
-use lib.ListN.{length, take}
+use lib.ListN.{take}
 use lib.Seq.{take_all}
 use borrow.Author.Rules.{rules}
-use Rattle.cells.specs.Flags.{flag_of, pack}
+use Rattle.cells.specs.Flags.{flag_of}
 use Rattle.flags.proofs.Laws.{pack-none, pack_put}
 use Rattle.flags.proofs.rows.store16.Goals as goal
 

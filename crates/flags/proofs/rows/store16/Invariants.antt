@@ -1,12 +1,8 @@
 -- `flags::rows::store16` meets its contract: the rows up to `x` are stored. Assumes nothing.
-use Prim.Native.Nat.{◌*◌, ◌+◌, ◌-◌, ◌≤◌}
-use mathlib.Core.Path.{◌∙◌, ◌≡◌, ap, sym}
-use native.Mathlib.Omega.{arith}
+use Prim.Native.Nat.{◌*◌, ◌-◌, ◌≤◌}
+use mathlib.Core.Path.{◌≡◌}
 use lib.ListN.{length, take}
-use lib.Seq.{take_all}
-use borrow.Author.Rules.{rules}
 use Rattle.cells.specs.Flags.{flag_of, pack}
-use Rattle.flags.proofs.Laws.{pack-none, pack_put}
 use Rattle.flags.proofs.rows.store16.Given as goal
 
 abbrev pub invariant-loop-x : goal.invariant-loop-x

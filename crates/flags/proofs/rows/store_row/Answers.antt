@@ -1,11 +1,10 @@
 -- `flags::rows::store_row` meets its contract: the bytes of the row up to `k` are stored. Assumes nothing.
-use Prim.Native.Nat.{◌*◌, ◌+◌, ◌-◌, ◌≤◌, ℕ}
+use Prim.Native.Nat.{◌*◌, ◌+◌}
 use mathlib.Core.Path.{◌∙◌, ◌≡◌, ap}
-use mathlib.Core.List.{List}
 use native.Mathlib.Omega.{arith}
-use lib.ListN.{length, set}
+use lib.ListN.{set}
 use borrow.Author.Rules.{rules}
-use Rattle.cells.specs.Flags.{byte_of, flag_at, put_row, row_bytes}
+use Rattle.cells.specs.Flags.{put_row, row_bytes}
 use Rattle.cells.specs.Words.{byte}
 use Rattle.cells.proofs.Tables.{filled, filled_more, filled_none}
 use Rattle.flags.proofs.Bytes.{same_byte}

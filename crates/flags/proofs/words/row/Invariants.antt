@@ -1,13 +1,9 @@
 -- `flags::words::row` meets its contract: the bytes up to `k` are stored. Assumes nothing.
-use Prim.Native.Nat.{◌%◌, ◌*◌, ◌+◌, ◌/◌, ◌^◌, ◌-◌, ◌≤◌}
-use mathlib.Core.Path.{◌∙◌, ◌≡◌, ap}
-use native.Mathlib.Omega.{arith}
+use Prim.Native.Nat.{◌*◌, ◌+◌, ◌/◌, ◌^◌, ◌-◌, ◌≤◌}
+use mathlib.Core.Path.{◌≡◌}
 use lib.ListN.{length, take}
-use borrow.Author.Rules.{rules}
-use Rattle.cells.specs.Flags.{bit, byte_of, row_bytes}
+use Rattle.cells.specs.Flags.{bit, byte_of}
 use Rattle.cells.specs.Tables.{tab}
-use Rattle.cells.proofs.Tables.{tab_done, tab-more, tab-none}
-use Rattle.flags.proofs.Digits.{byte_at, byte_next}
 use Rattle.flags.proofs.words.row.Given as goal
 
 abbrev pub invariant-loop-k : goal.invariant-loop-k

@@ -1,8 +1,6 @@
 -- `flags::words::word` meets its contract: the bytes from `k` on are in the number. Assumes nothing.
-use Prim.Native.Nat.{◌*◌, ◌^◌, ◌-◌, ◌<◌, ◌≤◌}
 use native.Mathlib.Omega.{arith}
-use borrow.Author.Rules.{rules}
-use Rattle.flags.proofs.Digits.{Told, bound_eight, bound_more, told_all, told_more}
+use Rattle.flags.proofs.Digits.{bound_eight, bound_more, told_all, told_more}
 use Rattle.flags.proofs.words.word.Goals as goal
 
 pub loop-k-init : goal.loop-k-init

@@ -5,7 +5,6 @@ use borrow.Author.Tests.{lt-ltb, le-ltb, eq-eqb, ne_eqb}
 use Rattle.buffers.proofs.Widths.{part-below}
 use Rattle.orderfile.specs.File.{is_bad_list}
 use Rattle.orderfile.specs.Checks.{list_check}
-use borrow.Author.Rules.{rules}
 use Rattle.orderfile.proofs.file.check_list.Goals as goal
 
 pub returns-then-f-lt-HEADER : goal.returns-then-f-lt-HEADER

@@ -1,12 +1,11 @@
 -- `orderfile::places::place_all` meets its contract: the numbers before place i have their places, and no other has one. Assumes nothing.
-use Prim.Native.Nat.{◌≤◌, ◌-◌}
-use mathlib.Core.Path.{◌≡◌, refl}
+use mathlib.Core.Path.{refl}
 use native.Mathlib.Omega.{arith}
-use lib.ListN.{length, length-set}
+use lib.ListN.{length-set}
 use borrow.Author.Rules.{rules}
 use Rattle.orderfile.specs.File.{numbers_of}
 use Rattle.orderfile.proofs.Numbers.{numbers-length}
-use Rattle.orderfile.proofs.Placed.{Placed, placed-none, placed-more, placed-all, too-high, twice, ends}
+use Rattle.orderfile.proofs.Placed.{placed-none, placed-more, placed-all, too-high, twice, ends}
 use Rattle.orderfile.proofs.places.place_all.Goals as goal
 
 pub loop-i-init : goal.loop-i-init

@@ -1,12 +1,9 @@
 -- `orderfile::places::place_all` meets its contract: the numbers before place i have their places, and no other has one. Assumes nothing.
 use Prim.Native.Nat.{◌≤◌, ◌-◌}
-use mathlib.Core.Path.{◌≡◌, refl}
-use native.Mathlib.Omega.{arith}
-use lib.ListN.{length, length-set}
-use borrow.Author.Rules.{rules}
+use mathlib.Core.Path.{◌≡◌}
+use lib.ListN.{length}
 use Rattle.orderfile.specs.File.{numbers_of}
-use Rattle.orderfile.proofs.Numbers.{numbers-length}
-use Rattle.orderfile.proofs.Placed.{Placed, placed-none, placed-more, placed-all, too-high, twice, ends}
+use Rattle.orderfile.proofs.Placed.{Placed}
 use Rattle.orderfile.proofs.places.place_all.Given as goal
 
 abbrev pub invariant-loop-i : goal.invariant-loop-i

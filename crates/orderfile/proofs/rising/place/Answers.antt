@@ -1,7 +1,6 @@
 -- `orderfile::rising::place` meets its contract: past the end there is no place. Assumes nothing.
 use mathlib.Core.Path.{sym}
 use lib.ListN.{get_or-eq_default}
-use borrow.Author.Rules.{rules}
 use Rattle.orderfile.proofs.rising.place.Goals as goal
 
 pub returns : goal.returns

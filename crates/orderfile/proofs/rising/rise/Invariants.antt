@@ -1,12 +1,9 @@
 -- `orderfile::rising::rise` meets its contract: what is left of the list rises above the last place. Assumes nothing.
-use Prim.Native.Nat.{◌+◌, ◌≤◌, ◌-◌}
-use mathlib.Core.Path.{◌≡◌, refl, sym, ◌∙◌, ap}
-use native.Mathlib.Omega.{arith}
+use Prim.Native.Nat.{◌≤◌, ◌-◌}
+use mathlib.Core.Path.{◌≡◌}
 use lib.ListN.{length, drop}
-use borrow.Author.Rules.{rules}
 use Rattle.orderfile.specs.Test.{rises}
 use Rattle.orderfile.specs.Checks.{place_at}
-use Rattle.orderfile.proofs.Rises.{rise-on, rise-stop, rise-end}
 use Rattle.orderfile.proofs.rising.rise.Given as goal
 
 abbrev pub invariant-loop-i : goal.invariant-loop-i

@@ -1,5 +1,4 @@
 -- `sizes::numbers::check_revision` meets its contract: the test decides. Assumes nothing.
-use borrow.Author.Rules.{rules}
 use borrow.Author.Tests.{le-ltb, lt-ltb}
 use Rattle.sizes.specs.Numbers.{revision_check}
 use Rattle.sizes.proofs.numbers.check_revision.Goals as goal

@@ -1,5 +1,4 @@
 -- `sizes::table::Table::fresh_single` meets its contract: the choice decides. Assumes nothing.
-use borrow.Author.Rules.{rules}
 use Rattle.sizes.proofs.table.Table.fresh_single.Goals as goal
 
 pub returns-then-single : goal.returns-then-single
