@@ -11,7 +11,7 @@ use mathlib.Core.List.{List, [], ◌∷◌}
 use native.Mathlib.Omega.{arith}
 use lib.Dec.{eqb}
 use borrow.Author.Tests.{eqb-false, eqb-true, ne_eqb, not-true}
-use Rattle.diagram.proofs.Arranged.Advance.{May, may, true_may}
+use Rattle.diagram.proofs.Arranged.Advance.{May, true_may}
 use Rattle.diagram.proofs.Days.Moves.{CanFork, CanJoin, Moves, dropped_out, drops_of, enters, joined_out, joins_into, joinable, forks_at, yields}
 use Rattle.diagram.proofs.Days.Real.{Real}
 use Rattle.diagram.proofs.Graph.Paths.{leads-self}
@@ -23,7 +23,6 @@ use Rattle.diagram.specs.Checks.{not_joinable}
 use Rattle.lists.specs.Names.{Name}
 use Rattle.diagram.specs.Day.{Day, IsOut, fresh}
 use Rattle.diagram.specs.Diagram.{Diagram, root}
-use Rattle.diagram.specs.Leads.{leads}
 use Rattle.diagram.specs.Steps.{drop_at, enter, fork_at, join_into, yield}
 use Rattle.lists.proofs.Cases.{cases, either, or_cases, or-false, or_left, or_right, same_truth, split}
 use Rattle.lists.proofs.Places.{insert_pair, insert_self, insert_sub, remove_sub}

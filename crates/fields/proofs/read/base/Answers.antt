@@ -1,5 +1,4 @@
 -- `fields::read::base` meets its contract: the part is read in its place. Assumes nothing.
-use borrow.Author.Rules.{rules}
 use Rattle.cells.specs.Decode.{cells}
 use Rattle.cells.specs.Parts.{offset, size, split}
 use Rattle.fields.proofs.read.base.Goals as goal

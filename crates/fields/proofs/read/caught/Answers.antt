@@ -1,7 +1,6 @@
 -- `fields::read::caught` meets its contract: the flag is read in its place. Assumes nothing.
 use mathlib.Core.Path.{◌∙◌, refl}
 use native.Mathlib.Omega.{arith}
-use borrow.Author.Rules.{rules}
 use Rattle.cells.specs.Decode.{cells}
 use Rattle.cells.specs.Parts.{offset, caught_part, size}
 use Rattle.cells.specs.Sizes.{clients}

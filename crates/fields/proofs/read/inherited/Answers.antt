@@ -3,7 +3,6 @@ use Prim.Native.Nat.{◌%◌, ◌*◌, ◌+◌, ◌-◌, ◌/◌}
 use mathlib.Core.Path.{◌∙◌, ap, sym}
 use native.Mathlib.Omega.{arith}
 use lib.ListN.{get_or}
-use borrow.Author.Rules.{rules}
 use Rattle.cells.specs.Flags.{bit}
 use Rattle.fields.proofs.FlagReads.{main-unflagged, flagged-at, unused-unflagged}
 use Rattle.fields.proofs.read.inherited.Goals as goal

@@ -1,6 +1,5 @@
 -- `fields::read::is_named` meets its contract: the part is read in its place. Assumes nothing.
 use mathlib.Core.Path.{◌∙◌, ap}
-use borrow.Author.Rules.{rules}
 use Rattle.lists.specs.Names.{same_name}
 use Rattle.cells.specs.Decode.{cells}
 use Rattle.cells.specs.Parts.{names_part, offset, size, split}

@@ -1,7 +1,6 @@
 -- `fields::read::link` meets its contract: low and high parts are read in their places. Assumes nothing.
 use native.Mathlib.Omega.{arith}
 use lib.ListN.{length-drop, length-take}
-use borrow.Author.Rules.{rules}
 use Rattle.cells.specs.Decode.{cells}
 use Rattle.cells.specs.Parts.{offset, size, split}
 use Rattle.fields.proofs.read.link.Goals as goal

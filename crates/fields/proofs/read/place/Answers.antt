@@ -1,5 +1,4 @@
 -- `fields::read::place` meets its contract: the part is read in its place. Assumes nothing.
-use borrow.Author.Rules.{rules}
 use Rattle.cells.specs.Decode.{cells}
 use Rattle.cells.specs.Parts.{offset, size, split}
 use Rattle.fields.proofs.read.place.Goals as goal

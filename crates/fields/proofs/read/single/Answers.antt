@@ -1,7 +1,6 @@
 -- `fields::read::single` meets its contract: the part is read in its place. Assumes nothing.
 use mathlib.Core.Path.{ap}
 use lib.Dec.{eqb}
-use borrow.Author.Rules.{rules}
 use Rattle.cells.specs.Decode.{cells}
 use Rattle.cells.specs.Parts.{offset, size, split}
 use Rattle.fields.proofs.read.single.Goals as goal

@@ -1,14 +1,10 @@
 -- `fields::row::copy` meets its contract: the bytes up to `i` are copied. Assumes nothing.
 use Prim.Native.Nat.{◌%◌, ◌*◌, ◌+◌, ◌-◌, ◌/◌, ◌≤◌}
-use mathlib.Core.Path.{◌∙◌, ◌≡◌}
-use native.Mathlib.Omega.{arith}
+use mathlib.Core.Path.{◌≡◌}
 use lib.ListN.{length, take}
-use borrow.Author.Rules.{rules}
-use Rattle.cells.specs.Flags.{bit, byte_of, row_bytes}
+use Rattle.cells.specs.Flags.{bit, byte_of}
 use Rattle.cells.specs.Tables.{tab}
 use Rattle.cells.specs.Words.{byte}
-use Rattle.cells.proofs.Tables.{tab_done, tab-more, tab-none}
-use Rattle.flags.proofs.Bytes.{same_byte}
 use Rattle.fields.proofs.row.copy.Given as goal
 
 abbrev pub invariant-loop-i : goal.invariant-loop-i

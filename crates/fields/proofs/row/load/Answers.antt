@@ -1,7 +1,6 @@
 -- `fields::row::load` meets its contract: the row, or no flag where it is not in use. Assumes nothing.
 use mathlib.Core.Path.{◌∙◌, sym}
 use native.Mathlib.Omega.{arith}
-use borrow.Author.Rules.{rules}
 use Rattle.fields.proofs.FlagReads.{row-unused, row-used}
 use Rattle.fields.proofs.row.load.Goals as goal
 

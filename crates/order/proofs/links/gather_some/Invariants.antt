@@ -1,10 +1,8 @@
 -- `order::links::gather_some` meets its contract: after each run what is left to do makes the whole with what is done. Assumes
 -- nothing.
 use Prim.Native.Nat.{◌<◌, ◌-◌, ◌≤◌}
-use mathlib.Core.Path.{◌≡◌, ◌∙◌, refl}
-use native.Mathlib.Omega.{arith}
+use mathlib.Core.Path.{◌≡◌}
 use lib.ListN.{length}
-use borrow.Author.Rules.{rules}
 use Rattle.cells.specs.Sizes.{updates}
 use Rattle.order.specs.Chain.{with_chain}
 use Rattle.order.proofs.links.gather_some.Given as goal

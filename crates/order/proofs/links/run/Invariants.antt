@@ -1,13 +1,9 @@
 -- `order::links::run` meets its contract: at each turn what is left to do makes the whole with what is done. Assumes nothing.
 use Prim.Native.Nat.{◌-◌, ◌<◌, ◌≤◌}
-use mathlib.Core.Path.{◌≡◌, ◌∙◌, refl}
-use native.Mathlib.Omega.{arith}
-use lib.ListN.{length, length-set}
-use borrow.Author.Rules.{rules}
+use mathlib.Core.Path.{◌≡◌}
+use lib.ListN.{length}
 use Rattle.cells.specs.Sizes.{updates}
-use Rattle.cells.specs.Decode.{cells}
 use Rattle.order.specs.Chain.{with_chain}
-use Rattle.order.proofs.Laws.{gather_more}
 use Rattle.order.proofs.links.run.Given as goal
 
 abbrev pub invariant-loop-i : goal.invariant-loop-i

@@ -1,18 +1,16 @@
 -- `order::visible::add_left` meets its contract: what r inherited from the revisions at place `i` and behind is there.
 -- Assumes nothing.
-use Prim.Native.Nat.{◌+◌, ◌-◌, ◌≤◌}
+use Prim.Native.Nat.{◌+◌, ◌-◌}
 use mathlib.Core.Path.{◌∙◌, ◌≡◌, ap, sym}
-use mathlib.Core.Logic.{◌⊎◌, inl, inr, ⊎_elim}
+use mathlib.Core.Logic.{inl, inr, ⊎_elim}
 use native.Mathlib.Omega.{arith}
-use lib.ListN.{drop, length}
+use lib.ListN.{drop}
 use borrow.Author.Rules.{rules}
 use Rattle.lists.specs.Arranged.{flat_back}
 use Rattle.cells.specs.Cells.{flagged, outs, own}
 use Rattle.cells.specs.Decode.{cells}
 use Rattle.cells.specs.Order.{inherited, picks}
-use Rattle.cells.specs.Sizes.{updates}
 use Rattle.cells.proofs.Range.{ranges}
-use Rattle.order.specs.Added.{Added}
 use Rattle.order.proofs.Behind.{block_more, no_block, outs_at, outs-length}
 use Rattle.order.proofs.Laws.{added_as, added-bounds, added_none, added_then}
 use Rattle.order.proofs.visible.add_left.Goals as goal

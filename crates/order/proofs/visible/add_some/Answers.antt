@@ -1,7 +1,6 @@
 -- `order::visible::add_some` meets its contract: what is sifted is the own list. Assumes nothing.
 use mathlib.Core.Path.{◌∙◌, ap}
 use native.Mathlib.Omega.{arith}
-use borrow.Author.Rules.{rules}
 use Rattle.cells.specs.Cells.{flagged}
 use Rattle.cells.specs.Decode.{cells}
 use Rattle.cells.specs.Order.{picks}

@@ -1,7 +1,6 @@
 -- `order::visible::at_place` meets its contract: a place holds a revision's number, by the range of its cell. Assumes nothing.
 use mathlib.Core.Path.{sym, ◌∙◌}
 use native.Mathlib.Omega.{arith}
-use borrow.Author.Rules.{rules}
 use Rattle.cells.proofs.Range.{ranges}
 use Rattle.fields.proofs.InRange.{known-revision, unknown_revision}
 use Rattle.order.proofs.visible.at_place.Goals as goal

@@ -1,5 +1,4 @@
 -- `order::visible::base_in` meets its contract: the main revision's list has a base count. Assumes nothing.
-use borrow.Author.Rules.{rules}
 use borrow.Author.Tests.{eq-eqb, ne_eqb}
 use Rattle.order.proofs.visible.base_in.Goals as goal
 

@@ -1,7 +1,6 @@
 -- `order::visible::list` meets its contract: what r inherited, and behind it its own list. Assumes nothing.
 use mathlib.Core.Path.{◌∙◌, ap, sym}
 use native.Mathlib.Omega.{arith}
-use borrow.Author.Rules.{rules}
 use Rattle.lists.specs.Arranged.{flat_back}
 use Rattle.cells.specs.Cells.{flagged}
 use Rattle.cells.specs.Decode.{cells}

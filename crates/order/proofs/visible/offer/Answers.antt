@@ -1,6 +1,5 @@
 -- `order::visible::offer` meets its contract: the entry goes behind the others, or nothing does. Assumes nothing.
 use mathlib.Core.Path.{◌∙◌, sym}
-use borrow.Author.Rules.{rules}
 use Rattle.order.proofs.Laws.{added_none}
 use Rattle.order.proofs.visible.offer.Goals as goal
 

@@ -1,15 +1,11 @@
 -- `order::visible::place_of` meets its contract: r is in no place before `j`. Assumes nothing.
 use Prim.Native.Nat.{◌-◌, ◌≤◌}
-use mathlib.Core.Path.{◌∙◌, ◌≡◌, refl, sym}
-use native.Mathlib.Omega.{arith}
+use mathlib.Core.Path.{◌≡◌}
 use lib.ListN.{drop}
-use borrow.Author.Rules.{rules}
 use Rattle.lists.specs.Arranged.{behind}
 use Rattle.cells.specs.Cells.{outs}
 use Rattle.cells.specs.Decode.{cells}
 use Rattle.cells.specs.Sizes.{revisions}
-use Rattle.cells.proofs.Range.{ranges}
-use Rattle.order.proofs.Behind.{outs_at, outs-length, sought_end, sought_found, sought_more}
 use Rattle.order.proofs.visible.place_of.Given as goal
 
 abbrev pub invariant-loop-j : goal.invariant-loop-j

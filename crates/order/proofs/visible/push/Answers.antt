@@ -1,6 +1,5 @@
 -- `order::visible::push` meets its contract: the buffer is full, or has room. Assumes nothing.
 use native.Mathlib.Omega.{arith}
-use borrow.Author.Rules.{rules}
 use Rattle.order.proofs.Laws.{push-full, push-room}
 use Rattle.order.proofs.visible.push.Goals as goal
 

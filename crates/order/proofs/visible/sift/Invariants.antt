@@ -1,15 +1,12 @@
 -- `order::visible::sift` meets its contract: of the first `i` entries those that r inherited are there. Assumes nothing.
 use Prim.Native.Nat.{◌-◌, ◌≤◌}
 use mathlib.Core.Path.{◌≡◌}
-use native.Mathlib.Omega.{arith}
 use lib.ListN.{length, take}
-use borrow.Author.Rules.{rules}
 use Rattle.cells.specs.Cells.{flagged}
 use Rattle.cells.specs.Decode.{cells}
 use Rattle.cells.specs.Order.{picks}
 use Rattle.cells.specs.Sizes.{updates}
 use Rattle.order.specs.Added.{Added}
-use Rattle.order.proofs.Laws.{added-bounds, sift-end, sift-more, sift-start}
 use Rattle.order.proofs.visible.sift.Given as goal
 
 abbrev pub invariant-loop-i : goal.invariant-loop-i

@@ -1,5 +1,4 @@
 -- `order::visible::wanted` meets its contract: by count, or by its flag. Assumes nothing.
-use borrow.Author.Rules.{rules}
 use borrow.Author.Tests.{le-ltb, lt-ltb}
 use Rattle.order.proofs.Laws.{past_flags}
 use Rattle.order.proofs.visible.wanted.Goals as goal

@@ -1,9 +1,8 @@
 -- `order::whole::fits` meets its contract: what the lists from place `i` on have is to go into what is left. Assumes nothing.
-use Prim.Native.Nat.{◌+◌, ◌-◌, ◌≤◌}
-use mathlib.Core.Path.{◌≡◌, ap}
+use Prim.Native.Nat.{◌+◌}
+use mathlib.Core.Path.{ap}
 use native.Mathlib.Omega.{arith}
 use lib.ListN.{drop}
-use borrow.Author.Rules.{rules}
 use borrow.Author.Tests.{le-ltb, lt-ltb}
 use Rattle.cells.specs.Cells.{outs}
 use Rattle.cells.specs.Decode.{cells}

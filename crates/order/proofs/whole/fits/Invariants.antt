@@ -1,16 +1,10 @@
 -- `order::whole::fits` meets its contract: what the lists from place `i` on have is to go into what is left. Assumes nothing.
 use Prim.Native.Nat.{◌+◌, ◌-◌, ◌≤◌}
-use mathlib.Core.Path.{◌≡◌, ap}
-use native.Mathlib.Omega.{arith}
+use mathlib.Core.Path.{◌≡◌}
 use lib.ListN.{drop}
-use borrow.Author.Rules.{rules}
-use borrow.Author.Tests.{le-ltb, lt-ltb}
 use Rattle.cells.specs.Cells.{outs}
 use Rattle.cells.specs.Decode.{cells}
-use Rattle.cells.specs.Sizes.{updates}
-use Rattle.cells.proofs.Range.{ranges}
 use Rattle.order.specs.Counts.{counts}
-use Rattle.order.proofs.Behind.{from_place, past-places}
 use Rattle.order.proofs.whole.fits.Given as goal
 
 abbrev pub invariant-loop-i : goal.invariant-loop-i

@@ -1,10 +1,8 @@
 -- `places::gaps::close` meets its contract: the places before `j` are those of the closed gap. Assumes nothing.
-use Prim.Native.Nat.{◌-◌, ◌≤◌}
 use mathlib.Core.Path.{◌≡◌, refl}
 use native.Mathlib.Omega.{arith}
-use lib.ListN.{length}
 use borrow.Author.Rules.{rules}
-use Rattle.places.proofs.PlaceLoops.{Closing, closing_end, closing_more, closing_start}
+use Rattle.places.proofs.PlaceLoops.{closing_end, closing_more, closing_start}
 use Rattle.places.proofs.gaps.close.Goals as goal
 
 pub loop-j-init : goal.loop-j-init

@@ -1,8 +1,8 @@
 -- `places::gaps::open` meets its contract: what stood at `j` and behind has moved. Assumes nothing.
-use Prim.Native.Nat.{◌+◌, ◌-◌, ◌≤◌}
+use Prim.Native.Nat.{◌+◌, ◌-◌}
 use mathlib.Core.Path.{◌∙◌, ◌≡◌, ap, sym}
 use native.Mathlib.Omega.{arith}
-use lib.ListN.{get_or, length, set}
+use lib.ListN.{get_or, set}
 use borrow.Author.Rules.{rules}
 use Rattle.places.proofs.PlaceLoops.{moved, moved_end, moved_more, moved-start}
 use Rattle.places.proofs.gaps.open.Goals as goal

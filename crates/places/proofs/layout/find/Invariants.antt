@@ -1,11 +1,8 @@
 -- `places::layout::find` meets its contract: the places before `i` hold other revisions. Assumes nothing.
 use Prim.Native.Nat.{◌+◌, ◌-◌, ◌≤◌}
 use mathlib.Core.Path.{◌≡◌}
-use native.Mathlib.Omega.{arith}
 use lib.ListN.{drop}
-use borrow.Author.Rules.{rules}
 use Rattle.places.specs.Place.{first_place}
-use Rattle.places.proofs.PlaceLoops.{sought_end, sought_found, sought_more, sought_start}
 use Rattle.places.proofs.layout.find.Given as goal
 
 abbrev pub invariant-loop-i : goal.invariant-loop-i

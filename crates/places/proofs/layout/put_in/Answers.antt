@@ -1,7 +1,6 @@
 -- `places::layout::put_in` meets its contract: where p stands a place is opened. Assumes nothing.
 use mathlib.Core.Path.{◌∙◌}
 use native.Mathlib.Omega.{arith}
-use borrow.Author.Rules.{rules}
 use Rattle.places.proofs.PlaceLoops.{none_in, put_in}
 use Rattle.places.proofs.layout.put_in.Goals as goal
 

@@ -1,7 +1,6 @@
 -- `places::layout::take_out` meets its contract: where b stands its place is closed. Assumes nothing.
 use mathlib.Core.Path.{◌∙◌}
 use native.Mathlib.Omega.{arith}
-use borrow.Author.Rules.{rules}
 use Rattle.places.proofs.PlaceLoops.{none_out, taken_out}
 use Rattle.places.proofs.layout.take_out.Goals as goal
 

@@ -6,7 +6,6 @@ use mathlib.Core.List.{List}
 use native.Mathlib.Omega.{arith}
 use lib.Dec.{eqb}
 use lib.ListN.{length}
-use borrow.Author.Rules.{rules}
 use Rattle.lists.specs.Names.{same_name}
 use Rattle.lists.proofs.Cases.{cases}
 use Rattle.lists.proofs.Names.{same-name}

@@ -1,6 +1,5 @@
 -- `places::numbers::half_at` meets its contract: by the place's parity. Assumes nothing.
 use native.Mathlib.Omega.{arith}
-use borrow.Author.Rules.{rules}
 use borrow.Author.Tests.{eq-eqb, ne_eqb}
 use Rattle.cells.specs.Words.{half}
 use Rattle.places.proofs.numbers.half_at.Goals as goal

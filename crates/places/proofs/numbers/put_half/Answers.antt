@@ -1,5 +1,4 @@
 -- `places::numbers::put_half` meets its contract: by the place's parity. Assumes nothing.
-use borrow.Author.Rules.{rules}
 use borrow.Author.Tests.{eq-eqb, ne_eqb}
 use Rattle.cells.specs.Words.{put_half}
 use Rattle.places.proofs.numbers.put_half.Goals as goal

@@ -1,6 +1,5 @@
 -- `places::numbers::put_word` meets its contract: two bytes written. Assumes nothing.
 use mathlib.Core.Path.{refl}
-use borrow.Author.Rules.{rules}
 use Rattle.cells.specs.Words.{put_word}
 use Rattle.places.proofs.numbers.put_word.Goals as goal
 

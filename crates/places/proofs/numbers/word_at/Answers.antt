@@ -1,6 +1,5 @@
 -- `places::numbers::word_at` meets its contract: two bytes, the low one first. Assumes nothing.
 use native.Mathlib.Omega.{arith}
-use borrow.Author.Rules.{rules}
 use Rattle.cells.specs.Words.{word}
 use Rattle.places.proofs.numbers.word_at.Goals as goal
 

@@ -1,6 +1,5 @@
 -- `places::rows::put` meets its contract: the row's bytes are lent and come back written. Assumes nothing.
 use Prim.Native.Nat.{◌*◌}
-use borrow.Author.Rules.{rules}
 use Rattle.lists.proofs.Replaced.{lent-replaced}
 use Rattle.cells.specs.Flags.{put_row}
 use Rattle.places.proofs.rows.put.Goals as goal

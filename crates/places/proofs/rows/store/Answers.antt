@@ -1,11 +1,8 @@
 -- `places::rows::store` meets its contract: the bytes up to `i` are stored. Assumes nothing.
-use Prim.Native.Nat.{◌*◌, ◌+◌, ◌-◌, ◌≤◌}
 use mathlib.Core.Path.{◌∙◌, ◌≡◌}
 use native.Mathlib.Omega.{arith}
-use lib.ListN.{length, take}
 use borrow.Author.Rules.{rules}
-use Rattle.cells.specs.Flags.{byte_of, flag_at, row_bytes}
-use Rattle.cells.specs.Tables.{tab}
+use Rattle.cells.specs.Flags.{row_bytes}
 use Rattle.cells.specs.Words.{byte}
 use Rattle.cells.proofs.Tables.{tab_done, tab-more, tab-none}
 use Rattle.flags.proofs.Bytes.{same_byte}

@@ -1,8 +1,7 @@
 -- `sheets::lines::lines` meets its contract: one line more at each turn. Assumes nothing.
-use Prim.Native.Nat.{◌-◌, ◌≤◌}
 use mathlib.Core.Path.{◌≡◌, ◌∙◌, ap}
 use native.Mathlib.Omega.{arith}
-use lib.ListN.{length, take}
+use lib.ListN.{take}
 use borrow.Author.Rules.{rules}
 use Rattle.entries.specs.Entries.{entry_at}
 use Rattle.sheets.specs.Sheet.{sheet}

@@ -1,12 +1,9 @@
 -- `sheets::lines::lines` meets its contract: one line more at each turn. Assumes nothing.
 use Prim.Native.Nat.{◌-◌, ◌≤◌}
-use mathlib.Core.Path.{◌≡◌, ◌∙◌, ap}
-use native.Mathlib.Omega.{arith}
+use mathlib.Core.Path.{◌≡◌}
 use lib.ListN.{length, take}
-use borrow.Author.Rules.{rules}
 use Rattle.entries.specs.Entries.{entry_at}
 use Rattle.sheets.specs.Sheet.{sheet}
-use Rattle.sheets.proofs.Written.{no_lines, one_more}
 use Rattle.sheets.proofs.lines.lines.Given as goal
 
 abbrev pub invariant-loop-i : goal.invariant-loop-i

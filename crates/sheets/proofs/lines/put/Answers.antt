@@ -1,7 +1,6 @@
 -- `sheets::lines::put` meets its contract: the line's twelve bytes are lent and come back written. Assumes nothing.
 use Prim.Native.Nat.{◌*◌}
 use mathlib.Core.Path.{◌∙◌}
-use borrow.Author.Rules.{rules}
 use Rattle.lists.proofs.Replaced.{lent-replaced}
 use Rattle.entries.specs.Entries.{entry_at}
 use Rattle.sheets.specs.Lines.{line}

@@ -1,7 +1,6 @@
 -- `stores::fresh::caught` meets its contract. Assumes nothing.
 use mathlib.Core.Path.{◌∙◌, ap}
 use native.Mathlib.Omega.{arith}
-use borrow.Author.Rules.{rules}
 use Rattle.cells.specs.Parts.{caught_part, offset, size, wrote}
 use Rattle.cells.proofs.Parts.{part-wrote}
 use Rattle.stores.proofs.Zeros.{all_flagged}

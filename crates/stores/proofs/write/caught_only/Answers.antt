@@ -1,6 +1,5 @@
 -- `stores::write::caught_only` meets its contract: one part is lent and comes back written. Assumes nothing.
 use native.Mathlib.Omega.{arith}
-use borrow.Author.Rules.{rules}
 use lib.Dec.{eqb}
 use Rattle.cells.specs.Flags.{put_row}
 use Rattle.cells.specs.Parts.{caught_part, offset, size}

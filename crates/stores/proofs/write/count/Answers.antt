@@ -1,6 +1,5 @@
 -- `stores::write::count` meets its contract: one part is lent and comes back written. Assumes nothing.
 use native.Mathlib.Omega.{arith}
-use borrow.Author.Rules.{rules}
 use Rattle.cells.specs.Parts.{count_part, offset, size}
 use Rattle.places.proofs.InPart.{word-lent}
 use Rattle.stores.proofs.write.count.Goals as goal

@@ -1,7 +1,6 @@
 -- `stores::write::enter` meets its contract: one part is lent and comes back written. Assumes nothing.
 use native.Mathlib.Omega.{arith}
 use lib.ListN.{take}
-use borrow.Author.Rules.{rules}
 use Rattle.lists.specs.Arranged.{insert_before}
 use Rattle.cells.specs.Parts.{layout_part, offset, size}
 use Rattle.cells.specs.Sizes.{revisions}

@@ -1,6 +1,5 @@
 -- `stores::write::fork_caught` meets its contract: one part is lent and comes back written. Assumes nothing.
 use native.Mathlib.Omega.{arith}
-use borrow.Author.Rules.{rules}
 use Rattle.cells.specs.Sizes.{clients}
 use Rattle.cells.specs.Flags.{flag_in, pack}
 use Rattle.cells.specs.CellSteps.{fork_caught}

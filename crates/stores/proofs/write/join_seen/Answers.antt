@@ -1,6 +1,5 @@
 -- `stores::write::join_seen` meets its contract: one part is lent and comes back written. Assumes nothing.
 use native.Mathlib.Omega.{arith}
-use borrow.Author.Rules.{rules}
 use Rattle.lists.specs.Pool.{join_pool}
 use Rattle.cells.specs.Sizes.{revisions}
 use Rattle.cells.specs.Flags.{flag_in, put_row}

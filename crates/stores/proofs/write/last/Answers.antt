@@ -1,6 +1,5 @@
 -- `stores::write::last` meets its contract: one part is lent and comes back written. Assumes nothing.
 use native.Mathlib.Omega.{arith}
-use borrow.Author.Rules.{rules}
 use Rattle.cells.specs.Parts.{last_part, offset, size}
 use Rattle.places.proofs.InPart.{word-lent}
 use Rattle.stores.proofs.write.last.Goals as goal

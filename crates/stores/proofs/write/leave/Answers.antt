@@ -2,7 +2,6 @@
 use mathlib.Core.List.{[], ◌++◌, ◌∷◌}
 use native.Mathlib.Omega.{arith}
 use lib.ListN.{take}
-use borrow.Author.Rules.{rules}
 use Rattle.lists.specs.Arranged.{remove}
 use Rattle.cells.specs.Parts.{layout_part, offset, size}
 use Rattle.cells.specs.Sizes.{revisions}

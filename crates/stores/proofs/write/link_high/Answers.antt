@@ -1,6 +1,5 @@
 -- `stores::write::link_high` meets its contract: one part is lent and comes back written. Assumes nothing.
 use native.Mathlib.Omega.{arith}
-use borrow.Author.Rules.{rules}
 use Rattle.cells.specs.Parts.{high_part, offset, size}
 use Rattle.cells.specs.Words.{put_half}
 use Rattle.cells.proofs.Parts.{part-lent}

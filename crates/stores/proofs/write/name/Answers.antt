@@ -1,6 +1,5 @@
 -- `stores::write::name` meets its contract: one part is lent and comes back written. Assumes nothing.
 use native.Mathlib.Omega.{arith}
-use borrow.Author.Rules.{rules}
 use Rattle.cells.specs.Parts.{names_part, offset, size}
 use Rattle.cells.specs.Words.{put_name}
 use Rattle.places.proofs.InPart.{lent_at}

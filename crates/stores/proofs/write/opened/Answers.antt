@@ -1,6 +1,5 @@
 -- `stores::write::opened` meets its contract: one part is lent and comes back written. Assumes nothing.
 use native.Mathlib.Omega.{arith}
-use borrow.Author.Rules.{rules}
 use Rattle.cells.specs.Parts.{offset, opened_part, size}
 use Rattle.places.proofs.InPart.{byte-lent}
 use Rattle.stores.proofs.write.opened.Goals as goal

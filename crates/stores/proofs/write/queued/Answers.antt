@@ -1,7 +1,6 @@
 -- `stores::write::queued` meets its contract: one part is lent and comes back written. Assumes nothing.
 use native.Mathlib.Omega.{arith}
 use lib.ListN.{set}
-use borrow.Author.Rules.{rules}
 use Rattle.cells.specs.Parts.{offset, queue_part, size}
 use Rattle.cells.proofs.Parts.{part-lent}
 use Rattle.stores.proofs.write.queued.Goals as goal

@@ -5,7 +5,6 @@ use mathlib.Core.List.{List}
 use mathlib.Core.Path.{◌≡◌, ◌∙◌, ap}
 use native.Mathlib.Numerals.{sub-one}
 use native.Mathlib.Omega.{arith}
-use borrow.Author.Rules.{rules}
 use Rattle.cells.specs.Flags.{flag_at, put_row}
 use Rattle.cells.specs.Parts.{offset, rows_part, size, split, wrote}
 use Rattle.cells.specs.Steps.{put_row_of}

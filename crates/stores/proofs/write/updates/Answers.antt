@@ -1,7 +1,6 @@
 -- `stores::write::updates` meets its contract: one part is lent and comes back written. Assumes nothing.
 use mathlib.Core.Path.{refl}
 use native.Mathlib.Omega.{arith}
-use borrow.Author.Rules.{rules}
 use Rattle.cells.specs.Parts.{counters_part, offset, size}
 use Rattle.places.proofs.InPart.{word-lent}
 use Rattle.stores.proofs.write.updates.Goals as goal
