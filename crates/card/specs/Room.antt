@@ -6,7 +6,7 @@ use Rattle.table.specs.Halves.{is_table}
 use Rattle.table.specs.Served.{Served, served}
 use Rattle.table.specs.Shared.{above, count_in}
 use Rattle.card.specs.Log.{assured, card, larger}
-use Rattle.card.specs.Courses.{course_served, four, Plain, sharing, Tables, turned_away}
+use Rattle.card.specs.Courses.{course_served, four, Plain, sharing, turned_away}
 
 -- what the sum of the other three leaves of the card; none where that is less than 1,024, as on no day
 unfoldable pub most : ℕ → ℕ

@@ -1,5 +1,5 @@
 -- 02, U11, on a course: joins and syncs are light, as on a table alone.
-use Prim.Native.Nat.{ℕ, ◌≤◌}
+use Prim.Native.Nat.{◌≤◌}
 use native.Mathlib.Omega.{arith}
 use lib.ListN.{length}
 use Rattle.lists.specs.Differences.{differences}
@@ -7,7 +7,7 @@ use Rattle.lists.proofs.Cases.{cond_all}
 use Rattle.lists.proofs.Differences.{differences_same}
 use Rattle.table.specs.Served.{Served}
 use Rattle.table.proofs.Light.{light_joins, light_syncs}
-use Rattle.card.specs.Courses.{Tables, course_served, no_course}
+use Rattle.card.specs.Courses.{course_served, no_course}
 use Rattle.courses.specs.Claims.{LightCourses}
 
 pub light_courses : LightCourses

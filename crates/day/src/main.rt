@@ -1,11 +1,12 @@
 // Runs the day file on standard input and prints the day.
 #![tactic(auto)]
+
+ghost use Rattle.std.specs.Prelude.{◌≤◌, length, IfOk};
+
 use dayfile::file::File;
 use report::output::Output;
 use std::io;
 use std::io::{Read, Write};
-
-ghost use Rattle.std.specs.Prelude.{◌≤◌, length, IfOk};
 
 // Fills the buffer from standard input, up to the input's end; how many bytes were put.
 fn read_full(rt: &impl Input, buffer: &mut [u8]) -> io::Result<usize>

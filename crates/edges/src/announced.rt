@@ -5,7 +5,12 @@ use crate::sent::bundle;
 use std::io;
 
 // A yield, a join and a sync with another reason besides, of a later check: a strange tablet, a box never sent.
-pub fn nineteen(rt: &impl Print, t: &mut [u8], short: &mut [u8], long: &mut [u8]) -> io::Result<()> {
+pub fn nineteen(
+    rt: &impl Print,
+    t: &mut [u8],
+    short: &mut [u8],
+    long: &mut [u8],
+) -> io::Result<()> {
     say::title(rt, b"19 wrong board: 4,999 bytes; 5,001 bytes")?;
     fresh(rt, t, short)?;
     yields(rt, t, long, 16)?;
@@ -14,7 +19,12 @@ pub fn nineteen(rt: &impl Print, t: &mut [u8], short: &mut [u8], long: &mut [u8]
 }
 
 // A bundle of a strange tablet has 19; one of 65 entries has 14.
-pub fn after_fourteen(rt: &impl Print, t: &mut [u8], short: &mut [u8], long: &mut [u8]) -> io::Result<()> {
+pub fn after_fourteen(
+    rt: &impl Print,
+    t: &mut [u8],
+    short: &mut [u8],
+    long: &mut [u8],
+) -> io::Result<()> {
     bundle(rt, t, short, 16, 1, 64)?;
     bundle(rt, t, long, 0, 1, 65)
 }
@@ -39,7 +49,10 @@ pub fn yielded(rt: &impl Print, t: &mut [u8], board: &mut [u8]) -> io::Result<()
 
 // What is closed on another box is shown once that box is joined into box 0.
 pub fn joined(rt: &impl Print, t: &mut [u8], board: &mut [u8]) -> io::Result<()> {
-    say::title(rt, b"bib 7 on the board: a strike closed on box 1; the join into box 0")?;
+    say::title(
+        rt,
+        b"bib 7 on the board: a strike closed on box 1; the join into box 0",
+    )?;
     fork(rt, t, 0)?;
     update(rt, t, 1, 1, 4, 7, 5)?;
     yields(rt, t, board, 1)?;
@@ -50,7 +63,10 @@ pub fn joined(rt: &impl Print, t: &mut [u8], board: &mut [u8]) -> io::Result<()>
 
 // A bundle shows what its client entered singly before, in the same transaction: a Time, which lifts the strike.
 pub fn bundled(rt: &impl Print, t: &mut [u8], board: &mut [u8]) -> io::Result<()> {
-    say::title(rt, b"bib 7 on the board: an update, and a bundle that continues it")?;
+    say::title(
+        rt,
+        b"bib 7 on the board: an update, and a bundle that continues it",
+    )?;
     update(rt, t, 2, 0, 1, 7, 9)?;
     bundle(rt, t, board, 2, 2, 64)?;
     shown(rt, board)

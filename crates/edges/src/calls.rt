@@ -6,13 +6,28 @@ pub fn fresh(rt: &impl Print, t: &mut [u8], board: &mut [u8]) -> io::Result<()> 
     say::answer(rt, b"fresh", announcing::fresh::fresh(t, board, false))
 }
 
-pub fn update(rt: &impl Print, t: &mut [u8], client: u8, revision: u8, kind: u8, bib: u16, v: u32) -> io::Result<()> {
-    say::answer(rt, b"update",
-        updating::update::update(t, client, revision, kind, bib, v))
+pub fn update(
+    rt: &impl Print,
+    t: &mut [u8],
+    client: u8,
+    revision: u8,
+    kind: u8,
+    bib: u16,
+    v: u32,
+) -> io::Result<()> {
+    say::answer(
+        rt,
+        b"update",
+        updating::update::update(t, client, revision, kind, bib, v),
+    )
 }
 
 pub fn query(rt: &impl Print, t: &mut [u8], client: u8, revision: u8, bib: u16) -> io::Result<()> {
-    say::reading(rt, b"query", querying::query::query(t, client, revision, bib))
+    say::reading(
+        rt,
+        b"query",
+        querying::query::query(t, client, revision, bib),
+    )
 }
 
 pub fn yields(rt: &impl Print, t: &mut [u8], board: &mut [u8], client: u8) -> io::Result<()> {
@@ -23,8 +38,18 @@ pub fn fork(rt: &impl Print, t: &mut [u8], revision: u8) -> io::Result<()> {
     say::answer(rt, b"fork", forking::fork::fork(t, revision))
 }
 
-pub fn join(rt: &impl Print, t: &mut [u8], board: &mut [u8], joiner: u8, joinee: u8) -> io::Result<()> {
-    say::answer(rt, b"join", announcing::join::join(t, board, joiner, joinee))
+pub fn join(
+    rt: &impl Print,
+    t: &mut [u8],
+    board: &mut [u8],
+    joiner: u8,
+    joinee: u8,
+) -> io::Result<()> {
+    say::answer(
+        rt,
+        b"join",
+        announcing::join::join(t, board, joiner, joinee),
+    )
 }
 
 // With the sheet's bytes, if there are few.

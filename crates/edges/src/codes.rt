@@ -30,7 +30,12 @@ pub fn five(rt: &impl Print, t: &mut [u8]) -> io::Result<()> {
     update(rt, t, 0, 0, 5, 7, 1)
 }
 
-pub fn six_and_seven(rt: &impl Print, t: &mut [u8], board: &mut [u8], sheet: &mut [u8]) -> io::Result<()> {
+pub fn six_and_seven(
+    rt: &impl Print,
+    t: &mut [u8],
+    board: &mut [u8],
+    sheet: &mut [u8],
+) -> io::Result<()> {
     say::title(rt, b"6 other box open")?;
     fork(rt, t, 0)?;
     update(rt, t, 0, 0, 1, 7, 1)?;
@@ -42,7 +47,12 @@ pub fn six_and_seven(rt: &impl Print, t: &mut [u8], board: &mut [u8], sheet: &mu
     join(rt, t, board, 2, 0)
 }
 
-pub fn eight_to_twelve(rt: &impl Print, t: &mut [u8], board: &mut [u8], sheet: &mut [u8]) -> io::Result<()> {
+pub fn eight_to_twelve(
+    rt: &impl Print,
+    t: &mut [u8],
+    board: &mut [u8],
+    sheet: &mut [u8],
+) -> io::Result<()> {
     say::title(rt, b"8 not caught up")?;
     yields(rt, t, board, 0)?;
     query(rt, t, 0, 2, 7)?;

@@ -25,7 +25,13 @@ pub fn before(rt: &impl Print, t: &mut [u8], sheet: &mut [u8]) -> io::Result<()>
     list(rt, t, 1, sheet)
 }
 
-pub fn after(rt: &impl Print, t: &mut [u8], board: &mut [u8], sheet: &mut [u8], short: &mut [u8]) -> io::Result<()> {
+pub fn after(
+    rt: &impl Print,
+    t: &mut [u8],
+    board: &mut [u8],
+    sheet: &mut [u8],
+    short: &mut [u8],
+) -> io::Result<()> {
     say::title(rt, b"lists after a join")?;
     join(rt, t, board, 0, 1)?;
     list(rt, t, 0, short)?;

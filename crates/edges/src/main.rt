@@ -1,5 +1,6 @@
 // The edges of a race day that are not starred, run on the table: 01, "Edges of a race day"; and those of the board and of bills (02, U10 and U14). What it writes is compared.
 #![tactic(auto)]
+
 mod announced; // announced.rt: the board, and boards of a wrong length
 mod calls; // calls.rt: the calls, each with a line
 mod codes; // codes.rt: each code

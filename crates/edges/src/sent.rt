@@ -5,14 +5,24 @@ use bundles::entry::Entry;
 use lending::lent::bundle_entries;
 use std::io;
 
-pub fn bundle(rt: &impl Print, t: &mut [u8], board: &mut [u8], client: u8, kind: u8, count: usize) -> io::Result<()> {
+pub fn bundle(
+    rt: &impl Print,
+    t: &mut [u8],
+    board: &mut [u8],
+    client: u8,
+    kind: u8,
+    count: usize,
+) -> io::Result<()> {
     let entries = [Entry {
         kind,
         bib: 7,
         v: 61000,
     }; 64];
-    say::answer(rt, b"bundle",
-        bundle_entries(t, board, client, 0, entries, count))
+    say::answer(
+        rt,
+        b"bundle",
+        bundle_entries(t, board, client, 0, entries, count),
+    )
 }
 
 pub fn all(rt: &impl Print, t: &mut [u8], board: &mut [u8]) -> io::Result<()> {

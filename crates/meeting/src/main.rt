@@ -1,6 +1,7 @@
 // A long day: 20,100 forks and as many joins but those of boxes still out, of nested and late boxes, with clients whose last event is on
 // an earlier bearer of a number. What it writes is compared; rust/days has the same day, on the literal replay.
 #![tactic(auto)]
+
 mod probes; // probes.rt: lists, fills and previews on numbers used again
 mod rounds; // rounds.rt: what happens in a round
 mod say; // say.rt: lines on standard output

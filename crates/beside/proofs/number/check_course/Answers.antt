@@ -1,5 +1,4 @@
 -- `beside::number::check_course` meets its contract: the test decides. Assumes nothing.
-use borrow.Author.Rules.{rules}
 use borrow.Author.Tests.{le-ltb, lt-ltb}
 use Rattle.beside.specs.Number.{course_check}
 use Rattle.beside.proofs.number.check_course.Goals as goal

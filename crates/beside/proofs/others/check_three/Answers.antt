@@ -1,6 +1,5 @@
 -- `beside::others::check_three` meets its contract: the first that is no table ends it, and the third decides. Assumes nothing.
 use mathlib.Core.Path.{◌∙◌, sym}
-use borrow.Author.Rules.{rules}
 use Rattle.beside.proofs.Beside.{first-damaged, second-damaged, third-decides}
 use Rattle.table.proofs.Buffer.{is-table, no_table}
 use Rattle.beside.proofs.others.check_three.Goals as goal

@@ -1,5 +1,4 @@
 -- `beside::others::most` meets its contract: the test decides. Assumes nothing.
-use borrow.Author.Rules.{rules}
 use borrow.Author.Tests.{le-ltb, lt-ltb}
 use Rattle.card.specs.Room as Room
 use Rattle.beside.proofs.others.most.Goals as goal

@@ -1,6 +1,5 @@
 -- `beside::others::most_beside` meets its contract: the sum of the three. Assumes nothing.
 use mathlib.Core.Path.{◌∙◌}
-use borrow.Author.Rules.{rules}
 use Rattle.beside.proofs.others.most_beside.Goals as goal
 
 pub returns : goal.returns

@@ -1,6 +1,5 @@
 -- `beside::others::reserved` meets its contract: the larger of the count that was read. Assumes nothing.
 use mathlib.Core.Path.{◌∙◌, ap}
-use borrow.Author.Rules.{rules}
 use Rattle.card.specs.Log as Log
 use Rattle.beside.proofs.others.reserved.Goals as goal
 

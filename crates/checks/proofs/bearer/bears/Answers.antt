@@ -2,7 +2,6 @@
 use mathlib.Core.Bool.{◌&&◌}
 use mathlib.Core.Path.{ap, ap₂}
 use lib.Dec.{eqb}
-use borrow.Author.Rules.{rules}
 use Rattle.cells.specs.Sizes.{state_marked}
 use Rattle.checks.proofs.bearer.bears.Goals as goal
 

@@ -1,6 +1,5 @@
 -- `checks::bearer::check_bearer` meets its contract: the number found is checked. Assumes nothing.
 use mathlib.Core.Path.{sym, ◌∙◌}
-use borrow.Author.Rules.{rules}
 use Rattle.checks.proofs.Numbers.{bearer-found, bearer-missing}
 use Rattle.checks.proofs.bearer.check_bearer.Goals as goal
 

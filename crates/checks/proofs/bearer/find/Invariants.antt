@@ -1,11 +1,8 @@
 -- `checks::bearer::find` meets its contract: no mark above `r` bears the name. Assumes nothing.
 use Prim.Native.Nat.{◌≤◌}
-use mathlib.Core.Path.{◌∙◌, ◌≡◌, ap, refl, sym}
-use native.Mathlib.Omega.{arith}
-use borrow.Author.Rules.{rules}
+use mathlib.Core.Path.{◌≡◌}
 use Rattle.cells.specs.Decode.{cells}
 use Rattle.cells.specs.Checks.{bearer, bearer_below}
-use Rattle.cells.proofs.Bearer.{bearer-below, bearer-here}
 use Rattle.checks.proofs.bearer.find.Given as goal
 
 abbrev pub invariant-loop-r : goal.invariant-loop-r

@@ -1,5 +1,4 @@
 -- `checks::busy::check_use` meets its contract: the test decides. Assumes nothing.
-use borrow.Author.Rules.{rules}
 use Rattle.checks.specs.Answers.{use_check}
 use Rattle.checks.proofs.busy.check_use.Goals as goal
 

@@ -1,13 +1,10 @@
 -- `checks::busy::is_busy` meets its contract: no client below `x` has r open. Assumes nothing.
 use Prim.Native.Nat.{◌-◌, ◌≤◌, ℕ}
 use mathlib.Core.Bool.{Bool, false}
-use mathlib.Core.Path.{◌∙◌, ◌≡◌, ap, refl, sym}
+use mathlib.Core.Path.{◌≡◌}
 use mathlib.Core.List.{List}
-use native.Mathlib.Omega.{arith}
 use lib.Dec.{eqb}
-use borrow.Author.Rules.{rules}
 use Rattle.lists.specs.Sums.{any_below}
-use Rattle.lists.proofs.Sums.{any_at, any_more}
 use Rattle.cells.specs.Decode.{cells}
 use Rattle.checks.proofs.busy.is_busy.Given as goal
 

@@ -1,14 +1,9 @@
 -- `checks::busy::is_busy_by_other` meets its contract: no other client below `x` has r open. Assumes nothing.
-use Prim.Native.Nat.{◌-◌, ◌≤◌, ℕ}
-use mathlib.Core.Bool.{Bool, false, not, ◌&&◌}
 use mathlib.Core.Path.{◌∙◌, ◌≡◌, ap, refl, sym}
-use mathlib.Core.List.{List}
 use native.Mathlib.Omega.{arith}
-use lib.Dec.{eqb}
 use borrow.Author.Rules.{rules}
 use Rattle.lists.specs.Sums.{any_below}
 use Rattle.lists.proofs.Sums.{any_at, any_more}
-use Rattle.cells.specs.Decode.{cells}
 use Rattle.checks.proofs.busy.is_busy_by_other.Invariants.{other}
 use Rattle.checks.proofs.busy.is_busy_by_other.Goals as goal
 

@@ -1,7 +1,6 @@
 -- `checks::busy::is_on` meets its contract: the test decides. Assumes nothing.
 use mathlib.Core.Path.{◌∙◌, ap}
 use lib.Dec.{eqb}
-use borrow.Author.Rules.{rules}
 use Rattle.checks.proofs.busy.is_on.Goals as goal
 
 pub returns : goal.returns

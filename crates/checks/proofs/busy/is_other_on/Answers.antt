@@ -1,5 +1,4 @@
 -- `checks::busy::is_other_on` meets its contract: the tests decide. Assumes nothing.
-use borrow.Author.Rules.{rules}
 use borrow.Author.Tests.{eq-eqb, ne_eqb}
 use Rattle.checks.proofs.busy.is_other_on.Goals as goal
 

@@ -1,5 +1,4 @@
 -- `checks::client::check_client` meets its contract: the test decides. Assumes nothing.
-use borrow.Author.Rules.{rules}
 use borrow.Author.Tests.{le-ltb, lt-ltb}
 use Rattle.checks.specs.Answers.{client_check}
 use Rattle.checks.proofs.client.check_client.Goals as goal

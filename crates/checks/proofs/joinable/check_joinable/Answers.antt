@@ -1,5 +1,4 @@
 -- `checks::joinable::check_joinable` meets its contract: the tests and the flag decide. Assumes nothing.
-use borrow.Author.Rules.{rules}
 use borrow.Author.Tests.{eq-eqb, ne_eqb}
 use Rattle.checks.specs.Answers.{joinable_check}
 use Rattle.checks.proofs.joinable.check_joinable.Goals as goal

@@ -1,5 +1,4 @@
 -- `checks::joined::check_joined` meets its contract: the test decides. Assumes nothing.
-use borrow.Author.Rules.{rules}
 use borrow.Author.Tests.{eq-eqb, ne_eqb}
 use Rattle.cells.specs.Sizes.{state_joined}
 use Rattle.checks.specs.Answers.{joined_check}

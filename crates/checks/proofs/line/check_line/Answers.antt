@@ -1,6 +1,5 @@
 -- `checks::line::check_line` meets its contract: the main revision is on the line, and any other as a mark is. Assumes nothing.
 use mathlib.Core.Path.{◌∙◌}
-use borrow.Author.Rules.{rules}
 use Rattle.checks.proofs.Numbers.{main-on, other-line}
 use Rattle.checks.proofs.line.check_line.Goals as goal
 

@@ -1,5 +1,4 @@
 -- `checks::line::check_line_of_mark` meets its contract: the test decides. Assumes nothing.
-use borrow.Author.Rules.{rules}
 use Rattle.checks.specs.Answers.{mark_line_check}
 use Rattle.checks.proofs.line.check_line_of_mark.Goals as goal
 

@@ -1,5 +1,4 @@
 -- `checks::log::check_log` meets its contract: the count decides. Assumes nothing.
-use borrow.Author.Rules.{rules}
 use borrow.Author.Tests.{le-ltb, lt-ltb}
 use Rattle.cells.specs.Sizes.{updates}
 use Rattle.checks.specs.Answers.{log_check}

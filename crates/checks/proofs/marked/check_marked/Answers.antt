@@ -1,5 +1,4 @@
 -- `checks::marked::check_marked` meets its contract: the test decides. Assumes nothing.
-use borrow.Author.Rules.{rules}
 use borrow.Author.Tests.{eq-eqb, ne_eqb}
 use Rattle.cells.specs.Sizes.{state_marked}
 use Rattle.checks.specs.Answers.{marked_check}

@@ -1,6 +1,5 @@
 -- `checks::name::check_name` meets its contract: the tests decide. Assumes nothing.
 use mathlib.Core.Path.{sym, ◌∙◌}
-use borrow.Author.Rules.{rules}
 use Rattle.checks.proofs.Numbers.{name-fit, name-used, not-letters}
 use Rattle.checks.proofs.name.check_name.Goals as goal
 

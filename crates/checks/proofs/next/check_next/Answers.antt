@@ -1,6 +1,5 @@
 -- `checks::next::check_next` meets its contract: the count of revisions out decides. Assumes nothing.
 use native.Mathlib.Omega.{arith}
-use borrow.Author.Rules.{rules}
 use Rattle.checks.proofs.Numbers.{next-left, none_left}
 use Rattle.checks.proofs.next.check_next.Goals as goal
 

@@ -1,5 +1,4 @@
 -- `checks::next::next` meets its contract: the count of numbers given out decides. Assumes nothing.
-use borrow.Author.Rules.{rules}
 use borrow.Author.Tests.{le-ltb, lt-ltb}
 use Rattle.cells.proofs.Range.{first_byte}
 use Rattle.checks.proofs.next.next.Goals as goal

@@ -1,6 +1,5 @@
 -- `checks::open::check_open` meets its contract: the tests decide. Assumes nothing.
 use mathlib.Core.Path.{◌∙◌, sym}
-use borrow.Author.Rules.{rules}
 use borrow.Author.Tests.{eq-eqb, ne_eqb}
 use Rattle.checks.specs.Answers.{open_check}
 use Rattle.checks.proofs.open.check_open.Goals as goal

@@ -1,5 +1,4 @@
 -- `checks::stale::check_stale` meets its contract: the flag decides. Assumes nothing.
-use borrow.Author.Rules.{rules}
 use Rattle.checks.specs.Answers.{stale_check}
 use Rattle.checks.proofs.stale.check_stale.Goals as goal
 

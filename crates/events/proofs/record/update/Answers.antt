@@ -1,5 +1,4 @@
 -- `events::record::update` meets its contract: the update is appended, and its transaction is open. Assumes nothing.
-use borrow.Author.Rules.{rules}
 use Rattle.events.proofs.Writes.{update-done}
 use Rattle.events.proofs.record.update.Goals as goal
 

@@ -1,5 +1,4 @@
 -- `events::transactions::close` meets its contract: the writes in a row. Assumes nothing.
-use borrow.Author.Rules.{rules}
 use Rattle.cells.specs.Decode.{cells}
 use Rattle.events.proofs.Writes.{close-done}
 use Rattle.events.proofs.transactions.close.Goals as goal

@@ -1,5 +1,4 @@
 -- `events::transactions::open` meets its contract: two parts are written. Assumes nothing.
-use borrow.Author.Rules.{rules}
 use Rattle.events.proofs.Writes.{query-done}
 use Rattle.events.proofs.transactions.open.Goals as goal
 

@@ -1,6 +1,5 @@
 -- `events::transactions::settled_after` meets its contract: where the transaction is decides. Assumes nothing.
 use mathlib.Core.Path.{◌∙◌, ap, sym}
-use borrow.Author.Rules.{rules}
 use borrow.Author.Tests.{eq-eqb, ne_eqb}
 use Rattle.cells.specs.Decode.{cells}
 use Rattle.events.proofs.transactions.settled_after.Goals as goal

@@ -1,6 +1,5 @@
 -- `handing::drop::drop` meets its contract: the writes in a row. Assumes nothing.
 use mathlib.Core.Path.{◌∙◌, ap}
-use borrow.Author.Rules.{rules}
 use Rattle.cells.specs.CellSteps.{one_fewer}
 use Rattle.cells.specs.Decode.{cells}
 use Rattle.handing.proofs.Writes.{drop-done}

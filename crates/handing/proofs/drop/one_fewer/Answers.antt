@@ -1,6 +1,5 @@
 -- `handing::drop::one_fewer` meets its contract: the test decides. Assumes nothing.
 use native.Mathlib.Omega.{arith}
-use borrow.Author.Rules.{rules}
 use borrow.Author.Tests.{lt-ltb, le-ltb}
 use Rattle.cells.specs.CellSteps.{one_fewer}
 use Rattle.handing.proofs.drop.one_fewer.Goals as goal

@@ -1,6 +1,5 @@
 -- `handing::drop::queue_end` meets its contract: both counts are in range. Assumes nothing.
 use native.Mathlib.Omega.{arith}
-use borrow.Author.Rules.{rules}
 use Rattle.cells.proofs.Range.{ranges}
 use Rattle.handing.proofs.drop.queue_end.Goals as goal
 

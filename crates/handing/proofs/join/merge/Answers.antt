@@ -1,5 +1,4 @@
 -- `handing::join::merge` meets its contract: the writes in a row. Assumes nothing.
-use borrow.Author.Rules.{rules}
 use Rattle.cells.specs.Decode.{cells}
 use Rattle.handing.proofs.Writes.{merge-done}
 use Rattle.handing.proofs.join.merge.Goals as goal

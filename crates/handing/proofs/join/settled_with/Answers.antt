@@ -1,5 +1,4 @@
 -- `handing::join::settled_with` meets its contract: the joiner's number decides. Assumes nothing.
-use borrow.Author.Rules.{rules}
 use borrow.Author.Tests.{eq-eqb, ne_eqb}
 use Rattle.handing.proofs.join.settled_with.Goals as goal
 

@@ -1,7 +1,6 @@
 -- `linking::own::append` meets its contract: the writes in a row. Assumes nothing.
 use Prim.Native.Nat.{◌+◌}
 use mathlib.Core.Path.{◌∙◌, ap}
-use borrow.Author.Rules.{rules}
 use Rattle.cells.specs.Decode.{cells}
 use Rattle.cells.specs.CellSteps.{counted}
 use Rattle.cells.proofs.Range.{ranges}

@@ -1,7 +1,6 @@
 -- `linking::own::first_or` meets its contract: the count decides. Assumes nothing.
 use mathlib.Core.Path.{◌∙◌, sym}
 use native.Mathlib.Omega.{arith}
-use borrow.Author.Rules.{rules}
 use borrow.Author.Tests.{eq-eqb, ne_eqb}
 use Rattle.linking.proofs.own.first_or.Goals as goal
 

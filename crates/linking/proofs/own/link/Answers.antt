@@ -1,5 +1,4 @@
 -- `linking::own::link` meets its contract: two parts are written. Assumes nothing.
-use borrow.Author.Rules.{rules}
 use Rattle.linking.proofs.Writes.{link-done}
 use Rattle.linking.proofs.own.link.Goals as goal
 

@@ -1,5 +1,4 @@
 -- `linking::own::splice` meets its contract: nothing to splice, or the writes in a row. Assumes nothing.
-use borrow.Author.Rules.{rules}
 use Rattle.cells.specs.Decode.{cells}
 use Rattle.cells.proofs.Range.{ranges}
 use Rattle.linking.proofs.Writes.{splice-done, splice-none}

@@ -1,7 +1,6 @@
 -- `listing::fill::tell` meets its contract: two cells are read. Assumes nothing.
 use Prim.Native.Nat.{ℕ}
 use mathlib.Core.Path.{◌≡◌}
-use borrow.Author.Rules.{rules}
 use Rattle.cells.specs.Cells.{Cells}
 use Rattle.cells.specs.Decode.{cells}
 use Rattle.table.specs.Calls.{told}

@@ -1,5 +1,4 @@
 -- `listing::list::check_sheet` meets its contract: the test decides. Assumes nothing.
-use borrow.Author.Rules.{rules}
 use borrow.Author.Tests.{lt-ltb, le-ltb}
 use Rattle.listing.specs.Checks.{sheet_check}
 use Rattle.listing.proofs.list.check_sheet.Goals as goal

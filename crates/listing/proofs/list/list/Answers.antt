@@ -1,6 +1,5 @@
 -- `listing::list::list` meets its contract: code 1, then the other checks and the work. Assumes nothing.
 use mathlib.Core.Path.{◌∙◌, sym}
-use borrow.Author.Rules.{rules}
 use Rattle.table.proofs.Buffer.{is-table, no_table}
 use Rattle.listing.proofs.Calls.{no-list}
 use Rattle.listing.proofs.list.list.Goals as goal

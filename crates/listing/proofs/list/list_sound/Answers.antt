@@ -1,6 +1,5 @@
 -- `listing::list::list_sound` meets its contract: the checks, then the end. Assumes nothing.
 use mathlib.Core.Path.{sym, ◌∙◌, ap}
-use borrow.Author.Rules.{rules}
 use Rattle.table.specs.Halves.{low}
 use Rattle.table.specs.Found.{idle_code, on_idle}
 use Rattle.table.proofs.Checks.{idle_in}

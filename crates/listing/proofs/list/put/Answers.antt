@@ -1,6 +1,5 @@
 -- `listing::list::put` meets its contract: the check of the sheet, then the lines. Assumes nothing.
 use mathlib.Core.Path.{sym, ◌∙◌}
-use borrow.Author.Rules.{rules}
 use Rattle.table.specs.Halves.{high}
 use Rattle.table.proofs.Halves.{high-length}
 use Rattle.listing.proofs.Listed.{has_room, put_done, put_short}

@@ -1,5 +1,4 @@
 -- `listing::list::show` meets its contract: the order of r, then its lines. Assumes nothing.
-use borrow.Author.Rules.{rules}
 use Rattle.listing.proofs.Listed.{shown}
 use Rattle.listing.proofs.list.show.Goals as goal
 

@@ -1,8 +1,6 @@
 -- `marking::drop::drop_sound` meets its contract: the check, then the work. Assumes nothing.
-use mathlib.Core.Path.{◌∙◌, refl, sym, subst}
-use borrow.Author.Rules.{rules}
-use Rattle.cells.specs.Steps.{drop_bytes}
-use Rattle.table.specs.Halves.{high, low}
+use mathlib.Core.Path.{◌∙◌, refl, sym}
+use Rattle.table.specs.Halves.{low}
 use Rattle.forking.proofs.Calls.{same_taken}
 use Rattle.marking.proofs.Calls.{drop-found, drop-missing}
 use Rattle.marking.proofs.Checks.{found, missing}

@@ -1,6 +1,5 @@
 -- `marking::mark::mark` meets its contract: code 1, then the other checks and the work. Assumes nothing.
 use mathlib.Core.Path.{◌∙◌, sym}
-use borrow.Author.Rules.{rules}
 use Rattle.table.proofs.Buffer.{is-table, no_table}
 use Rattle.marking.proofs.Calls.{no-mark}
 use Rattle.marking.proofs.mark.mark.Goals as goal

@@ -1,5 +1,4 @@
 -- `packing::pack::pack_reply` meets its contract: the parts of the answer, each in its place. Assumes nothing.
-use borrow.Author.Rules.{rules}
 use Rattle.packing.specs.Packed.{packed_reply}
 use Rattle.packing.proofs.pack.pack_reply.Goals as goal
 

@@ -1,6 +1,5 @@
 -- `packing::pack::state_number` meets its contract: each arm knows its state. Assumes nothing.
 use native.Mathlib.Omega.{arith}
-use borrow.Author.Rules.{rules}
 use Rattle.packing.specs.Packed.{state_number}
 use Rattle.packing.proofs.pack.state_number.Goals as goal
 

@@ -1,10 +1,8 @@
 -- `posting::brought::post_all` meets its contract: one entry more at each turn. Assumes nothing.
-use Prim.Native.Nat.{◌-◌, ◌≤◌}
 use mathlib.Core.Path.{◌≡◌, ◌∙◌, ap}
 use native.Mathlib.Omega.{arith}
-use lib.ListN.{length, take}
+use lib.ListN.{take}
 use borrow.Author.Rules.{rules}
-use Rattle.boards.specs.Board.{board_bytes}
 use Rattle.posting.specs.Brought.{entries_posted, entry_posted}
 use Rattle.posting.proofs.Posted.{none-posted, one_more}
 use Rattle.posting.proofs.brought.post_all.Goals as goal

@@ -4,7 +4,6 @@ use mathlib.Core.Bool.{true}
 use mathlib.Core.Path.{◌≡◌, ◌∙◌, ap, sym}
 use mathlib.Core.List.{List}
 use native.Mathlib.Omega.{arith}
-use borrow.Author.Rules.{rules}
 use Rattle.boards.specs.Board.{posted_all}
 use Rattle.cells.specs.Sizes.{main, updates}
 use Rattle.cells.specs.Cells.{Settles, chain, settled_since}

@@ -1,6 +1,5 @@
 -- `posting::brought::post_entry` meets its contract: the entry is read and posted. Assumes nothing.
 use mathlib.Core.Path.{◌∙◌}
-use borrow.Author.Rules.{rules}
 use Rattle.posting.proofs.brought.post_entry.Goals as goal
 
 pub returns : goal.returns

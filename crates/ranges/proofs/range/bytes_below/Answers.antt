@@ -1,11 +1,9 @@
 -- `ranges::range::bytes_below` meets its contract: the flag says whether the bytes before `i` are below the limit. Assumes nothing.
-use Prim.Native.Nat.{◌-◌, ◌≤◌}
 use mathlib.Core.Path.{◌≡◌, ap, refl}
 use native.Mathlib.Omega.{arith}
 use lib.Dec.{ltb}
 use borrow.Author.Rules.{rules}
 use borrow.Rule.Slice.PartMut.{mid_of}
-use Rattle.cells.specs.Range.{bytes_below}
 use Rattle.cells.specs.Tables.{every}
 use Rattle.cells.specs.Words.{byte}
 use Rattle.cells.proofs.Parts.{mid_byte}

@@ -1,5 +1,4 @@
 -- `ranges::range::check_range` meets its contract: the test decides. Assumes nothing.
-use borrow.Author.Rules.{rules}
 use Rattle.ranges.specs.Answers.{range_check}
 use Rattle.ranges.proofs.range.check_range.Goals as goal
 

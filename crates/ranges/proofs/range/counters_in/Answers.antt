@@ -1,5 +1,4 @@
 -- `ranges::range::counters_in` meets its contract: the tests of the three counters. Assumes nothing.
-use borrow.Author.Rules.{rules}
 use Rattle.cells.specs.Decode.{cells}
 use Rattle.ranges.proofs.range.counters_in.Goals as goal
 

@@ -1,7 +1,6 @@
 -- `ranges::range::in_range` meets its contract: all pieces. Assumes nothing.
 use mathlib.Core.Bool.{◌&&◌}
 use mathlib.Core.Path.{ap₂}
-use borrow.Author.Rules.{rules}
 use Rattle.cells.specs.Range.{in_range}
 use Rattle.ranges.proofs.range.in_range.Goals as goal
 

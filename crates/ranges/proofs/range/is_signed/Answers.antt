@@ -1,5 +1,4 @@
 -- `ranges::range::is_signed` meets its contract: the flag says whether the bytes before `i` are the signature's. Assumes nothing.
-use Prim.Native.Nat.{◌-◌, ◌≤◌}
 use mathlib.Core.Path.{◌≡◌, refl}
 use native.Mathlib.Omega.{arith}
 use lib.Dec.{eqb}

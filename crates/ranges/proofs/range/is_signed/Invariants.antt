@@ -1,15 +1,11 @@
 -- `ranges::range::is_signed` meets its contract: the flag says whether the bytes before `i` are the signature's. Assumes nothing.
 use Prim.Native.Nat.{◌-◌, ◌≤◌}
-use mathlib.Core.Path.{◌≡◌, refl}
-use native.Mathlib.Omega.{arith}
+use mathlib.Core.Path.{◌≡◌}
 use lib.Dec.{eqb}
-use borrow.Author.Rules.{rules}
-use Rattle.cells.specs.Parts.{offset, signature_part, size, split}
+use Rattle.cells.specs.Parts.{signature_part, split}
 use Rattle.cells.specs.Range.{signature}
 use Rattle.cells.specs.Tables.{every}
 use Rattle.cells.specs.Words.{byte}
-use Rattle.cells.proofs.Parts.{part-byte}
-use Rattle.ranges.proofs.Flags.{every-next}
 use Rattle.ranges.proofs.range.is_signed.Given as goal
 
 abbrev pub invariant-loop-i : goal.invariant-loop-i

@@ -1,5 +1,4 @@
 -- `ranges::range::queue_in` meets its contract: the flag says whether the places before `i` are in range. Assumes nothing.
-use Prim.Native.Nat.{◌-◌, ◌≤◌}
 use mathlib.Core.Bool.{◌&&◌}
 use mathlib.Core.Path.{◌≡◌, ap, refl}
 use native.Mathlib.Omega.{arith}

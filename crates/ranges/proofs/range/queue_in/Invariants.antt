@@ -1,15 +1,11 @@
 -- `ranges::range::queue_in` meets its contract: the flag says whether the places before `i` are in range. Assumes nothing.
 use Prim.Native.Nat.{◌-◌, ◌≤◌}
 use mathlib.Core.Bool.{◌&&◌}
-use mathlib.Core.Path.{◌≡◌, ap, refl}
-use native.Mathlib.Omega.{arith}
+use mathlib.Core.Path.{◌≡◌}
 use lib.Dec.{ltb}
-use borrow.Author.Rules.{rules}
-use Rattle.cells.specs.Parts.{offset, queue_part, size, split}
+use Rattle.cells.specs.Parts.{queue_part, split}
 use Rattle.cells.specs.Tables.{every}
 use Rattle.cells.specs.Words.{byte}
-use Rattle.cells.proofs.Parts.{part-byte}
-use Rattle.ranges.proofs.Flags.{every-next}
 use Rattle.ranges.proofs.range.queue_in.Given as goal
 
 abbrev pub invariant-loop-i : goal.invariant-loop-i

@@ -1,7 +1,6 @@
 -- `ranges::range::records_in` meets its contract: each part in its place. Assumes nothing.
 use mathlib.Core.Bool.{◌&&◌}
 use mathlib.Core.Path.{ap₂}
-use borrow.Author.Rules.{rules}
 use Rattle.cells.specs.Parts.{offset, size, split}
 use Rattle.ranges.proofs.range.records_in.Goals as goal
 

@@ -1,15 +1,8 @@
 -- `ranges::range::words_below` meets its contract: the flag says whether the words before `i` are below the limit. Assumes nothing.
-use Prim.Native.Nat.{◌*◌, ◌+◌, ◌-◌, ◌≤◌}
-use mathlib.Core.Path.{◌≡◌, ap, refl}
-use native.Mathlib.Omega.{arith}
-use lib.Dec.{ltb}
-use borrow.Author.Rules.{rules}
+use Prim.Native.Nat.{◌*◌, ◌-◌, ◌≤◌}
+use mathlib.Core.Path.{◌≡◌}
 use borrow.Rule.Slice.PartMut.{mid_of}
 use Rattle.cells.specs.Range.{words_below}
-use Rattle.cells.specs.Tables.{every}
-use Rattle.cells.specs.Words.{word}
-use Rattle.cells.proofs.Parts.{mid_byte}
-use Rattle.ranges.proofs.Flags.{every-next}
 use Rattle.ranges.proofs.range.words_below.Given as goal
 
 abbrev pub invariant-loop-i : goal.invariant-loop-i

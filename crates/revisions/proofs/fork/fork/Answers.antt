@@ -3,7 +3,6 @@ use Prim.Native.Nat.{suc}
 use mathlib.Core.Bool.{cond}
 use mathlib.Core.Path.{◌∙◌, ap}
 use lib.Dec.{ltb}
-use borrow.Author.Rules.{rules}
 use Rattle.cells.specs.Decode.{cells}
 use Rattle.revisions.proofs.Writes.{fork-done}
 use Rattle.revisions.proofs.fork.fork.Goals as goal

@@ -1,7 +1,6 @@
 -- `revisions::fork::one_more` meets its contract: by the test. Assumes nothing.
 use native.Mathlib.Omega.{arith}
 use native.Mathlib.Numerals.{add-one}
-use borrow.Author.Rules.{rules}
 use borrow.Author.Tests.{le-ltb, lt-ltb}
 use Rattle.revisions.proofs.fork.one_more.Goals as goal
 

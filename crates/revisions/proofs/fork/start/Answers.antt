@@ -1,5 +1,4 @@
 -- `revisions::fork::start` meets its contract: the writes in a row. Assumes nothing.
-use borrow.Author.Rules.{rules}
 use Rattle.cells.specs.Decode.{cells}
 use Rattle.revisions.proofs.Writes.{start-done}
 use Rattle.revisions.proofs.fork.start.Goals as goal

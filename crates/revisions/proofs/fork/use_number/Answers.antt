@@ -1,5 +1,4 @@
 -- `revisions::fork::use_number` meets its contract: one of two writes. Assumes nothing.
-use borrow.Author.Rules.{rules}
 use Rattle.revisions.proofs.Writes.{again-done, number-done}
 use Rattle.revisions.proofs.fork.use_number.Goals as goal
 

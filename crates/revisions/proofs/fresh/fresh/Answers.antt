@@ -1,6 +1,5 @@
 -- `revisions::fresh::fresh` meets its contract: the writes in a row. Assumes nothing.
 use mathlib.Core.Path.{◌∙◌}
-use borrow.Author.Rules.{rules}
 use Rattle.stores.proofs.Zeros.{zeros}
 use Rattle.revisions.proofs.Writes.{fresh_done}
 use Rattle.revisions.proofs.fresh.fresh.Goals as goal

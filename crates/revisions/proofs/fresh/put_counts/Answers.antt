@@ -1,7 +1,6 @@
 -- `revisions::fresh::put_counts` meets its contract: three parts put in whole. Assumes nothing.
-use mathlib.Core.Path.{◌∙◌, ap, refl}
+use mathlib.Core.Path.{refl}
 use native.Mathlib.Omega.{arith}
-use borrow.Author.Rules.{rules}
 use Rattle.cells.specs.Parts.{counters_part, offset, opened_part, signature_part, size}
 use Rattle.cells.specs.Range.{signature}
 use Rattle.revisions.proofs.Writes.{put_as, three_put}

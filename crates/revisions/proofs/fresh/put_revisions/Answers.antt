@@ -1,7 +1,6 @@
 -- `revisions::fresh::put_revisions` meets its contract: three parts put in whole. Assumes nothing.
-use mathlib.Core.Path.{◌∙◌, ap, refl}
+use mathlib.Core.Path.{refl}
 use native.Mathlib.Omega.{arith}
-use borrow.Author.Rules.{rules}
 use Rattle.cells.specs.Parts.{layout_part, offset, queue_part, size, state_part}
 use Rattle.revisions.proofs.Writes.{put_as, three_put}
 use Rattle.revisions.proofs.fresh.put_revisions.Goals as goal

@@ -1,7 +1,6 @@
 -- `revisions::fresh::put_started` meets its contract: one part put in whole. Assumes nothing.
-use mathlib.Core.Path.{◌∙◌, refl}
+use mathlib.Core.Path.{◌∙◌}
 use native.Mathlib.Omega.{arith}
-use borrow.Author.Rules.{rules}
 use Rattle.cells.specs.Parts.{offset, started_part, size}
 use Rattle.cells.proofs.Parts.{part_put}
 use Rattle.revisions.proofs.Writes.{put_as}

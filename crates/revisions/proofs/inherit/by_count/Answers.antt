@@ -1,6 +1,5 @@
 -- `revisions::inherit::by_count` meets its contract: the writes in a row. Assumes nothing.
 use mathlib.Core.Path.{◌∙◌, ap}
-use borrow.Author.Rules.{rules}
 use Rattle.cells.specs.Decode.{cells}
 use Rattle.revisions.proofs.Writes.{by-count-done}
 use Rattle.revisions.proofs.inherit.by_count.Goals as goal

@@ -2,7 +2,6 @@
 use Prim.Native.Nat.{ℕ}
 use mathlib.Core.Bool.{Bool}
 use native.Mathlib.Omega.{arith}
-use borrow.Author.Rules.{rules}
 use Rattle.cells.specs.CellSteps.{fork_row}
 use Rattle.cells.specs.Decode.{cells}
 use Rattle.cells.specs.Flags.{flag_at}

@@ -1,15 +1,9 @@
 -- `revisions::inherit::forked_row` meets its contract: the first `i` updates of the own list are flagged. Assumes nothing.
-use Prim.Native.Nat.{◌-◌, ◌≤◌, ℕ}
-use mathlib.Core.Bool.{Bool}
-use mathlib.Core.Path.{◌∙◌, ◌≡◌, ap}
-use mathlib.Core.Logic.{⊎_elim}
-use native.Mathlib.Omega.{arith}
+use Prim.Native.Nat.{◌-◌, ◌≤◌}
+use mathlib.Core.Path.{◌≡◌}
 use lib.ListN.{length}
-use borrow.Author.Rules.{rules}
-use Rattle.cells.specs.Decode.{cells}
 use Rattle.cells.specs.Flags.{flag_at, row_bytes}
-use Rattle.order.proofs.Laws.{gathered}
-use Rattle.revisions.proofs.Rows.{row_done, row_more, row-skip, row_start, with_first}
+use Rattle.revisions.proofs.Rows.{with_first}
 use Rattle.revisions.proofs.inherit.forked_row.Given as goal
 
 abbrev pub invariant-loop-i : goal.invariant-loop-i

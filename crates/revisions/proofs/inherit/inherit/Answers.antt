@@ -1,6 +1,5 @@
 -- `revisions::inherit::inherit` meets its contract: by the revision forked from. Assumes nothing.
 use mathlib.Core.Path.{◌∙◌, ap, sym}
-use borrow.Author.Rules.{rules}
 use Rattle.cells.specs.Parts.{glue, split}
 use Rattle.cells.specs.Steps.{inherit_parts}
 use Rattle.revisions.proofs.inherit.inherit.Goals as goal

@@ -1,5 +1,4 @@
 -- `revisions::mark::mark` meets its contract: the branch, then state and name. Assumes nothing.
-use borrow.Author.Rules.{rules}
 use Rattle.revisions.proofs.Writes.{mark-done}
 use Rattle.revisions.proofs.mark.mark.Goals as goal
 

@@ -1,6 +1,5 @@
 -- `table::board::bring` meets its contract: the halves of the table are lent. Assumes nothing.
 use mathlib.Core.Path.{◌∙◌, ap}
-use borrow.Author.Rules.{rules}
 use Rattle.cells.specs.Cells.{settled_since}
 use Rattle.posting.specs.Brought.{entries_posted}
 use Rattle.table.specs.Halves.{cells_of, high, low}

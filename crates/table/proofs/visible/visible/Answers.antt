@@ -1,6 +1,5 @@
 -- `table::visible::visible` meets its contract: the order in the lower half. Assumes nothing.
 use native.Mathlib.Omega.{arith}
-use borrow.Author.Rules.{rules}
 use Rattle.cells.specs.Order.{order}
 use Rattle.order.proofs.Laws.{fits}
 use Rattle.table.specs.Halves.{low, cells_of}

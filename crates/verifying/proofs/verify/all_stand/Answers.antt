@@ -1,15 +1,8 @@
 -- `verifying::verify::all_stand` meets its contract: no number passed is out of order. Assumes nothing.
-use Prim.Native.Nat.{◌≤◌, ◌-◌}
-use mathlib.Core.Bool.{false}
-use mathlib.Core.Path.{◌≡◌, sym, ◌∙◌}
+use mathlib.Core.Path.{sym, ◌∙◌}
 use native.Mathlib.Omega.{arith}
-use lib.ListN.{length}
-use borrow.Author.Tests.{not-true, not-false}
-use borrow.Author.Rules.{rules}
-use Rattle.lists.specs.Sums.{any_below}
-use Rattle.cells.specs.Sizes.{revisions, updates}
+use Rattle.cells.specs.Sizes.{revisions}
 use Rattle.cells.specs.Order.{order}
-use Rattle.orderfile.specs.Test.{wrong}
 use Rattle.orderfile.specs.Checks.{place_at}
 use Rattle.table.specs.Halves.{cells_of}
 use Rattle.table.specs.Calls.{is_out}

@@ -1,11 +1,8 @@
 -- `verifying::verify::all_stand` meets its contract: no number passed is out of order. Assumes nothing.
 use Prim.Native.Nat.{◌≤◌, ◌-◌}
 use mathlib.Core.Bool.{false}
-use mathlib.Core.Path.{◌≡◌, sym, ◌∙◌}
-use native.Mathlib.Omega.{arith}
+use mathlib.Core.Path.{◌≡◌}
 use lib.ListN.{length}
-use borrow.Author.Tests.{not-true, not-false}
-use borrow.Author.Rules.{rules}
 use Rattle.lists.specs.Sums.{any_below}
 use Rattle.cells.specs.Sizes.{revisions, updates}
 use Rattle.cells.specs.Order.{order}
@@ -13,7 +10,6 @@ use Rattle.orderfile.specs.Test.{wrong}
 use Rattle.orderfile.specs.Checks.{place_at}
 use Rattle.table.specs.Halves.{cells_of}
 use Rattle.table.specs.Calls.{is_out}
-use Rattle.verifying.proofs.Stands.{none_yet, none_more, one_found, none_found}
 use Rattle.verifying.proofs.verify.all_stand.Given as goal
 
 abbrev pub invariant-loop-n : goal.invariant-loop-n

@@ -1,6 +1,5 @@
 -- `verifying::verify::fits` meets its contract: with another count it fits nothing. Assumes nothing.
 use mathlib.Core.Path.{◌∙◌, sym}
-use borrow.Author.Rules.{rules}
 use Rattle.cells.specs.Sizes.{revisions}
 use Rattle.cells.specs.Order.{order}
 use Rattle.orderfile.specs.File.{numbers_of}

@@ -3,8 +3,6 @@ use Prim.Native.Nat.{ℕ}
 use mathlib.Core.Path.{◌∙◌, ap}
 use lib.ListN.{length, length-replicate}
 use native.Mathlib.Omega.{arith}
-use borrow.Author.Tests.{not-true, not-false}
-use borrow.Author.Rules.{rules}
 use Rattle.cells.specs.Sizes.{revisions, updates}
 use Rattle.cells.specs.Order.{order}
 use Rattle.cells.proofs.Range.{ranges}

@@ -1,7 +1,6 @@
 -- `verifying::verify::in_order` meets its contract: the order of r, and whether it rises. Assumes nothing.
 use mathlib.Core.Path.{sym, ◌∙◌, ap}
 use lib.Seq.{length-take-le}
-use borrow.Author.Rules.{rules}
 use Rattle.orderfile.specs.Test.{rises}
 use Rattle.orderfile.specs.Checks.{place_at}
 use Rattle.verifying.proofs.verify.in_order.Goals as goal

@@ -1,6 +1,5 @@
 -- `verifying::verify::stands` meets its contract: the checks of the number, then its list. Assumes nothing.
 use mathlib.Core.Path.{sym, ◌∙◌}
-use borrow.Author.Rules.{rules}
 use Rattle.orderfile.specs.Checks.{place_at}
 use Rattle.table.specs.Halves.{low}
 use Rattle.table.proofs.Checks.{was-given}

@@ -1,6 +1,5 @@
 -- `verifying::verify::verify` meets its contract: code 1, then the other check and the work. Assumes nothing.
 use mathlib.Core.Path.{sym, ◌∙◌}
-use borrow.Author.Rules.{rules}
 use Rattle.table.proofs.Buffer.{is-table, no_table}
 use Rattle.verifying.proofs.Calls.{no_verify}
 use Rattle.verifying.proofs.verify.verify.Goals as goal
