@@ -40,7 +40,7 @@ fn with(p: Packed, i: usize, e: Entry) -> Packed
     }
 }
 
-// The first 64 entries as records: of more the count alone is needed. Its proof is a walk by hand, so it does no more than read and call.
+// The first 64 entries as records: of more the count alone is needed.
 pub fn pack(es: &[Entry]) -> Packed
     ensures { result ≡ packed_of es.now }
 {

@@ -27,8 +27,7 @@ pub fn bundle_packed(t: &mut [u8], board: &mut [u8], client: u8, revision: u8, p
     bundle(t, board, client, revision, &all[..end])
 }
 
-// The call on a lent list of entries. It is the bundle of their records (`records_are`, proofs/Packed.antt). Its proof is a walk by hand, so it does no
-// more than call.
+// The call on a lent list of entries. It is the bundle of their records (`records_are`, proofs/Packed.antt).
 pub fn bundle_of(t: &mut [u8], board: &mut [u8], client: u8, revision: u8, es: &[Entry]) -> Answer
     ensures { (left result t.new ≡ entries_out t.old client revision es.now (length board.old)) × (board.new ≡ board_out t.old t.new board.old) }
 {
@@ -36,7 +35,7 @@ pub fn bundle_of(t: &mut [u8], board: &mut [u8], client: u8, revision: u8, es: &
     bundle_packed(t, board, client, revision, p)
 }
 
-// The first n entries of an array, lent. Its proof is a walk by hand too.
+// The first n entries of an array, lent.
 fn bundle_first(
     t: &mut [u8],
     board: &mut [u8],

@@ -1,6 +1,6 @@
 -- No claim rests on this file: it serves the code.
 -- What a walk back along an own list still has in front of it.
-use Rattle.std.specs.Prelude.{ℕ, Bool, List}
+use Rattle.std.specs.Prelude.{ℕ, List}
 use Rattle.cells.specs.Cells.{chain}
 use Rattle.cells.specs.Decode.{cells}
 use Rattle.cells.specs.Cells.{flagged}

@@ -2,7 +2,6 @@
 use mathlib.Core.Path.{◌∙◌, ap}
 use native.Mathlib.Omega.{arith}
 use lib.ListN.{length, take}
-use borrow.Author.Rules.{rules}
 use Rattle.table.specs.Calls.{entries_out}
 use Rattle.lending.proofs.Packed.{among-most}
 use Rattle.lending.proofs.lent.bundle_entries.Goals as goal

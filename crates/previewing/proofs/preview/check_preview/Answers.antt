@@ -1,7 +1,6 @@
 -- `previewing::preview::check_preview` meets its contract: what the checks of the join find, then 5. Assumes nothing.
 use Prim.{tt}
 use mathlib.Core.Path.{sym, ◌∙◌}
-use borrow.Author.Rules.{rules}
 use Rattle.table.specs.Found.{on_pair}
 use Rattle.table.proofs.Checks.{bib-known, bib_unknown}
 use Rattle.table.proofs.Calls.{pair_ends}

@@ -1,7 +1,6 @@
 -- `previewing::preview::foresee` meets its contract: the join on a copy, and what is read there. Assumes nothing.
 use mathlib.Core.Path.{◌∙◌, ap}
 use mathlib.Core.List.{◌++◌}
-use borrow.Author.Rules.{rules}
 use lib.ListN.{length}
 use Rattle.cells.specs.Range.{in_range}
 use Rattle.cells.specs.Steps.{join_bytes}

@@ -1,7 +1,6 @@
 -- `previewing::preview::join_copy` meets its contract: the lower half is copied, and joined there. Assumes nothing.
 use mathlib.Core.Bool.{true}
 use mathlib.Core.Path.{◌≡◌, sym, subst, ◌∙◌, ap}
-use borrow.Author.Rules.{rules}
 use Rattle.cells.specs.Range.{in_range}
 use Rattle.cells.specs.Steps.{join_bytes}
 use Rattle.table.specs.Halves.{low}

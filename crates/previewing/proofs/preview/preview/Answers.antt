@@ -1,6 +1,5 @@
 -- `previewing::preview::preview` meets its contract: code 1, then the other checks and the end. Assumes nothing.
 use mathlib.Core.Path.{◌∙◌, sym}
-use borrow.Author.Rules.{rules}
 use Rattle.table.proofs.Buffer.{is-table, no_table}
 use Rattle.previewing.proofs.Foreseen.{no_preview}
 use Rattle.previewing.proofs.preview.preview.Goals as goal

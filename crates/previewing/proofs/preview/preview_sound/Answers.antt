@@ -1,6 +1,5 @@
 -- `previewing::preview::preview_sound` meets its contract: the checks, then the end. Assumes nothing.
 use mathlib.Core.Path.{sym, ◌∙◌, ap}
-use borrow.Author.Rules.{rules}
 use Rattle.table.specs.Halves.{low}
 use Rattle.table.specs.Found.{on_pair, pair_code}
 use Rattle.table.specs.Calls.{no_prospect}

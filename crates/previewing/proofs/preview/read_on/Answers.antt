@@ -1,5 +1,4 @@
 -- `previewing::preview::read_on` meets its contract: what is told of the standing. Assumes nothing.
-use borrow.Author.Rules.{rules}
 use Rattle.cells.specs.Decode.{cells}
 use Rattle.cells.specs.Order.{order}
 use Rattle.table.specs.Halves.{high}

@@ -1,15 +1,10 @@
 -- `querying::back::run` meets its contract: those kept, with those left, stand for all. Assumes nothing.
-use Prim.Native.Nat.{◌+◌, ◌-◌, ◌<◌, ◌≤◌}
-use mathlib.Core.Bool.{false}
+use Prim.Native.Nat.{◌-◌}
 use mathlib.Core.Path.{◌≡◌, ◌∙◌, refl}
-use mathlib.Core.List.{◌++◌}
 use native.Mathlib.Omega.{arith}
-use borrow.Author.Rules.{rules}
-use lib.ListN.{drop, length}
-use Rattle.cells.specs.Sizes.{updates}
+use lib.ListN.{drop}
 use Rattle.cells.specs.Decode.{cells}
 use Rattle.entries.specs.Entries.{entry_at}
-use Rattle.entries.specs.Walked.{StandsFor}
 use Rattle.entries.proofs.Walked.{stands-first, stands-going, stands-done}
 use Rattle.querying.specs.Left.{left}
 use Rattle.querying.proofs.Walks.{left-more}

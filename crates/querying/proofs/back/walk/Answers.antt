@@ -3,7 +3,6 @@ use Prim.Native.Nat.{◌+◌}
 use mathlib.Core.List.{[]}
 use native.Mathlib.Omega.{arith}
 use lib.ListN.{drop, drop_of_length-le}
-use borrow.Author.Rules.{rules}
 use Rattle.lists.specs.Arranged.{flat_back}
 use Rattle.cells.specs.Sizes.{updates}
 use Rattle.cells.specs.Cells.{outs, own}

@@ -1,12 +1,10 @@
 -- `querying::back::walk_behind` meets its contract: those kept, with what the lists from place `i` on have, stand for all. Assumes
 -- nothing.
-use Prim.Native.Nat.{◌+◌, ◌-◌, ◌≤◌}
-use mathlib.Core.Bool.{false}
-use mathlib.Core.Path.{◌≡◌, ◌∙◌, ap, refl, subst}
-use mathlib.Core.List.{[], ◌++◌}
+use Prim.Native.Nat.{◌+◌}
+use mathlib.Core.Path.{◌∙◌, ap, refl}
+use mathlib.Core.List.{[]}
 use native.Mathlib.Omega.{arith}
-use borrow.Author.Rules.{rules}
-use lib.ListN.{drop, length}
+use lib.ListN.{drop}
 use Rattle.lists.specs.Arranged.{flat_back}
 use Rattle.cells.specs.Cells.{outs}
 use Rattle.cells.specs.Decode.{cells}
@@ -15,7 +13,6 @@ use Rattle.cells.proofs.Range.{ranges}
 use Rattle.order.specs.Counts.{counts}
 use Rattle.order.proofs.Behind.{from_place, past-places}
 use Rattle.entries.specs.Entries.{entry_at}
-use Rattle.entries.specs.Walked.{StandsFor}
 use Rattle.entries.proofs.Walked.{stands-first, stands-going, stands-done}
 use Rattle.querying.proofs.Walks.{lists-more}
 use Rattle.querying.proofs.back.walk_behind.Goals as goal

@@ -2,22 +2,16 @@
 -- nothing.
 use Prim.Native.Nat.{◌+◌, ◌-◌, ◌≤◌}
 use mathlib.Core.Bool.{false}
-use mathlib.Core.Path.{◌≡◌, ◌∙◌, ap, refl, subst}
-use mathlib.Core.List.{[], ◌++◌}
-use native.Mathlib.Omega.{arith}
-use borrow.Author.Rules.{rules}
+use mathlib.Core.Path.{◌≡◌}
+use mathlib.Core.List.{◌++◌}
 use lib.ListN.{drop, length}
 use Rattle.lists.specs.Arranged.{flat_back}
 use Rattle.cells.specs.Cells.{outs}
 use Rattle.cells.specs.Decode.{cells}
 use Rattle.cells.specs.Order.{inherited}
-use Rattle.cells.proofs.Range.{ranges}
 use Rattle.order.specs.Counts.{counts}
-use Rattle.order.proofs.Behind.{from_place, past-places}
 use Rattle.entries.specs.Entries.{entry_at}
 use Rattle.entries.specs.Walked.{StandsFor}
-use Rattle.entries.proofs.Walked.{stands-first, stands-going, stands-done}
-use Rattle.querying.proofs.Walks.{lists-more}
 use Rattle.querying.proofs.back.walk_behind.Given as goal
 
 abbrev pub invariant-loop-i : goal.invariant-loop-i

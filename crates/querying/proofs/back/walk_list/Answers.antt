@@ -1,16 +1,10 @@
 -- `querying::back::walk_list` meets its contract: after each run those kept, with those left, stand for all. Assumes nothing.
-use Prim.Native.Nat.{◌+◌, ◌<◌, ◌≤◌}
-use mathlib.Core.Bool.{false, true}
-use mathlib.Core.Path.{◌≡◌, ◌∙◌, ap, refl, subst}
-use mathlib.Core.List.{[], ◌++◌}
+use mathlib.Core.Path.{◌∙◌, refl}
+use mathlib.Core.List.{[]}
 use native.Mathlib.Omega.{arith}
-use borrow.Author.Rules.{rules}
-use lib.ListN.{drop, length}
-use Rattle.cells.specs.Sizes.{updates}
-use Rattle.cells.specs.Decode.{cells}
+use lib.ListN.{drop}
 use Rattle.cells.proofs.Range.{ranges}
 use Rattle.entries.specs.Entries.{entry_at}
-use Rattle.entries.specs.Walked.{StandsFor}
 use Rattle.entries.proofs.Walked.{stands-first, stands_on, stands-going, stands-done}
 use Rattle.querying.specs.Left.{left}
 use Rattle.querying.proofs.Walks.{left-none, left-own}

@@ -1,19 +1,13 @@
 -- `querying::back::walk_list` meets its contract: after each run those kept, with those left, stand for all. Assumes nothing.
 use Prim.Native.Nat.{◌+◌, ◌<◌, ◌≤◌}
-use mathlib.Core.Bool.{false, true}
-use mathlib.Core.Path.{◌≡◌, ◌∙◌, ap, refl, subst}
-use mathlib.Core.List.{[], ◌++◌}
-use native.Mathlib.Omega.{arith}
-use borrow.Author.Rules.{rules}
+use mathlib.Core.Bool.{false}
+use mathlib.Core.Path.{◌≡◌}
+use mathlib.Core.List.{◌++◌}
 use lib.ListN.{drop, length}
 use Rattle.cells.specs.Sizes.{updates}
-use Rattle.cells.specs.Decode.{cells}
-use Rattle.cells.proofs.Range.{ranges}
 use Rattle.entries.specs.Entries.{entry_at}
 use Rattle.entries.specs.Walked.{StandsFor}
-use Rattle.entries.proofs.Walked.{stands-first, stands_on, stands-going, stands-done}
 use Rattle.querying.specs.Left.{left}
-use Rattle.querying.proofs.Walks.{left-none, left-own}
 use Rattle.querying.proofs.back.walk_list.Given as goal
 
 abbrev pub invariant-loop-i : goal.invariant-loop-i

@@ -1,6 +1,5 @@
 -- `querying::query::query` meets its contract: code 1, then the other checks and the work. Assumes nothing.
 use mathlib.Core.Path.{◌∙◌, sym}
-use borrow.Author.Rules.{rules}
 use Rattle.table.proofs.Buffer.{is-table, no_table}
 use Rattle.querying.proofs.Calls.{no_query}
 use Rattle.querying.proofs.query.query.Goals as goal

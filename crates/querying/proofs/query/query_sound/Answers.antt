@@ -1,6 +1,5 @@
 -- `querying::query::query_sound` meets its contract: the checks, then the work. Assumes nothing.
 use mathlib.Core.Path.{◌∙◌, ap}
-use borrow.Author.Rules.{rules}
 use Rattle.table.specs.Found.{event_code}
 use Rattle.querying.proofs.Calls.{query-refused, query-answered}
 use Rattle.querying.proofs.query.query_sound.Goals as goal

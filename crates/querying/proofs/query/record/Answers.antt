@@ -1,5 +1,4 @@
 -- `querying::query::record` meets its contract: the lower half is lent and comes back written. Assumes nothing.
-use borrow.Author.Rules.{rules}
 use Rattle.cells.specs.Steps.{query_bytes}
 use Rattle.table.proofs.Halves.{low-lent}
 use Rattle.querying.proofs.query.record.Goals as goal

@@ -1,6 +1,5 @@
 -- `querying::standing::standing_along` meets its contract: the order of r, then the standing along it. Assumes nothing.
 use mathlib.Core.Path.{◌∙◌, ap}
-use borrow.Author.Rules.{rules}
 use Rattle.cells.specs.Decode.{cells}
 use Rattle.cells.specs.Order.{order}
 use Rattle.order.proofs.Laws.{fits}

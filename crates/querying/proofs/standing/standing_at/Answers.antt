@@ -1,5 +1,4 @@
 -- `querying::standing::standing_at` meets its contract: the halves of the table are lent. Assumes nothing.
-use borrow.Author.Rules.{rules}
 use Rattle.table.specs.Halves.{high, low}
 use Rattle.table.proofs.Halves.{high-length, low-length}
 use Rattle.querying.proofs.Along.{standing-along}

@@ -2,7 +2,6 @@
 use Prim.Native.Nat.{◌-◌}
 use mathlib.Core.Path.{◌∙◌, ap}
 use native.Mathlib.Omega.{arith}
-use borrow.Author.Rules.{rules}
 use Rattle.cells.specs.Sizes.{updates}
 use Rattle.cells.specs.Decode.{cells}
 use Rattle.entries.specs.Entries.{entry_at}

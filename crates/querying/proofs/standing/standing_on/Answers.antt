@@ -1,6 +1,5 @@
 -- `querying::standing::standing_on` meets its contract: by the walk back where the lists have room, or else along the order. Assumes
 -- nothing.
-use borrow.Author.Rules.{rules}
 use Rattle.querying.proofs.Walks.{has_room}
 use Rattle.querying.proofs.standing.standing_on.Goals as goal
 

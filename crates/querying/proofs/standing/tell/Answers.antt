@@ -1,5 +1,4 @@
 -- `querying::standing::tell` meets its contract: struck, or else by the value. Assumes nothing.
-use borrow.Author.Rules.{rules}
 use borrow.Author.Tests.{ne_eqb}
 use Rattle.updates.specs.Effect.{state_of, value_in}
 use Rattle.querying.proofs.standing.tell.Goals as goal

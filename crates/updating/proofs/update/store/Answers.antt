@@ -1,7 +1,6 @@
 -- `updating::update::store` meets its contract: the high half is lent and comes back. Assumes nothing.
 use Rattle.table.specs.Halves.{low, high}
 use Rattle.updating.proofs.Stored.{store_done}
-use borrow.Author.Rules.{rules}
 use Rattle.updating.proofs.update.store.Goals as goal
 
 pub returns : goal.returns

@@ -1,6 +1,5 @@
 -- `updating::update::update` meets its contract: of 4,096 at most, a table is as alone. Assumes nothing.
 use mathlib.Core.Path.{◌∙◌}
-use borrow.Author.Rules.{rules}
 use Rattle.table.proofs.Shared.{update-alone}
 use Rattle.updating.proofs.update.update.Goals as goal
 

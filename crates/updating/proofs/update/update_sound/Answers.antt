@@ -1,6 +1,5 @@
 -- `updating::update::update_sound` meets its contract: the checks, 20 last, then the work. Assumes nothing.
 use mathlib.Core.Path.{◌∙◌, ap}
-use borrow.Author.Rules.{rules}
 use Rattle.table.specs.Shared.{above}
 use Rattle.updating.specs.Checks.{update_code}
 use Rattle.updating.proofs.Calls.{update-full, update-refused, update-taken}

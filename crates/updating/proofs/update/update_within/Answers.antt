@@ -1,6 +1,5 @@
 -- `updating::update::update_within` meets its contract: code 1, then the other checks and the work. Assumes nothing.
 use mathlib.Core.Path.{◌∙◌, sym}
-use borrow.Author.Rules.{rules}
 use Rattle.table.proofs.Buffer.{is-table, no_table}
 use Rattle.updating.proofs.Calls.{no-update}
 use Rattle.updating.proofs.update.update_within.Goals as goal

@@ -1,5 +1,4 @@
 -- `updating::yields::close` meets its contract: the lower half is lent and comes back written. Assumes nothing.
-use borrow.Author.Rules.{rules}
 use Rattle.cells.specs.Steps.{close_bytes}
 use Rattle.table.proofs.Halves.{low-lent}
 use Rattle.updating.proofs.yields.close.Goals as goal

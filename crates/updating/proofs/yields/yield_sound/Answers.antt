@@ -1,6 +1,5 @@
 -- `updating::yields::yield_sound` meets its contract: code 2, then the work. Assumes nothing.
 use mathlib.Core.Path.{◌∙◌, ap, sym}
-use borrow.Author.Rules.{rules}
 use Rattle.table.specs.Answers.{taken}
 use Rattle.table.specs.Found.{on_client}
 use Rattle.table.proofs.Checks.{known}
