@@ -1,6 +1,5 @@
 -- `exports::silttongs_bill` meets its contract: it returns the code and the value of `table`. Assumes nothing.
 use mathlib.Core.Path.{◌∙◌, ap}
-use borrow.Author.Rules.{rules}
 use Rattle.packing.specs.Packed.{exported_answer}
 use Rattle.exports.proofs.silttongs_bill.Goals as goal
 

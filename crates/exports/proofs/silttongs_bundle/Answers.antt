@@ -1,5 +1,4 @@
 -- `exports::silttongs_bundle` meets its contract: it returns the answer of `table`. Assumes nothing.
-use borrow.Author.Rules.{rules}
 use Rattle.exports.proofs.Returned.{gives}
 use Rattle.exports.proofs.silttongs_bundle.Goals as goal
 

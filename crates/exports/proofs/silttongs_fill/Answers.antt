@@ -1,6 +1,5 @@
 -- `exports::silttongs_fill` meets its contract: it returns the two numbers of `table`. Assumes nothing.
 use mathlib.Core.Path.{◌∙◌, ap}
-use borrow.Author.Rules.{rules}
 use Rattle.packing.specs.Packed.{exported_level}
 use Rattle.exports.proofs.silttongs_fill.Goals as goal
 

@@ -1,5 +1,4 @@
 -- `exports::silttongs_fork` meets its contract: it returns the answer of `table`. Assumes nothing.
-use borrow.Author.Rules.{rules}
 use Rattle.exports.proofs.Returned.{gives}
 use Rattle.exports.proofs.silttongs_fork.Goals as goal
 

@@ -1,6 +1,5 @@
 -- `exports::silttongs_preview` meets its contract: it returns the numbers of `previewing`. Assumes nothing.
 use mathlib.Core.Path.{◌∙◌, ap}
-use borrow.Author.Rules.{rules}
 use Rattle.packing.specs.Packed.{exported_prospect}
 use Rattle.exports.proofs.silttongs_preview.Goals as goal
 

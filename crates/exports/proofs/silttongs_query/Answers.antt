@@ -1,5 +1,4 @@
 -- `exports::silttongs_query` meets its contract: it returns the answer of `table`. Assumes nothing.
-use borrow.Author.Rules.{rules}
 use Rattle.exports.proofs.Returned.{gives_state}
 use Rattle.exports.proofs.silttongs_query.Goals as goal
 

@@ -1,6 +1,5 @@
 -- `announcing::bundle::bundle` meets its contract: of 4,096 at most, a table is as alone. Assumes nothing.
 use mathlib.Core.Path.{◌∙◌}
-use borrow.Author.Rules.{rules}
 use Rattle.table.specs.Calls.{bundle_out}
 use Rattle.table.proofs.Shared.{batch_alone}
 use Rattle.announcing.proofs.bundle.bundle.Goals as goal

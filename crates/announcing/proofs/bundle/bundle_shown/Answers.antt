@@ -1,5 +1,4 @@
 -- `announcing::bundle::bundle_shown` meets its contract: the updates and the yield, then what they brought. Assumes nothing.
-use borrow.Author.Rules.{rules}
 use Rattle.bundles.specs.Records.{entries_from}
 use Rattle.table.specs.Shared.{above}
 use Rattle.table.proofs.Brings.{brought-out, can-bring}

@@ -1,6 +1,5 @@
 -- `announcing::bundle::bundle_within` meets its contract: 1, 14, 19, then the entries. Assumes nothing.
 use mathlib.Core.Path.{◌∙◌, sym}
-use borrow.Author.Rules.{rules}
 use Rattle.bundles.proofs.First.{counted}
 use Rattle.table.proofs.Brings.{brings-nothing}
 use Rattle.table.proofs.Buffer.{board-long, board-wrong, is-table, no_table}

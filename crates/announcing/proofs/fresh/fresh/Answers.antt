@@ -1,6 +1,5 @@
 -- `announcing::fresh::fresh` meets its contract: codes 1 and 19, then the work. Assumes nothing.
 use mathlib.Core.Path.{◌∙◌, sym}
-use borrow.Author.Rules.{rules}
 use Rattle.table.proofs.Buffer.{board-long, board-wrong, length-told, long}
 use Rattle.announcing.proofs.Calls.{fresh-begun, no-fresh, wrong-fresh}
 use Rattle.announcing.proofs.fresh.fresh.Goals as goal

@@ -2,7 +2,6 @@
 use mathlib.Core.Path.{◌∙◌, ap, sym}
 use native.Mathlib.Omega.{arith}
 use lib.ListN.{length}
-use borrow.Author.Rules.{rules}
 use Rattle.table.specs.Calls.{join_out}
 use Rattle.table.proofs.Buffer.{board-long, board-wrong, is-table, no_table}
 use Rattle.table.proofs.Light.{light_joins}

@@ -1,5 +1,4 @@
 -- `announcing::join::join_shown` meets its contract: what is settled before the join is read, and what the join brought is posted. Assumes nothing.
-use borrow.Author.Rules.{rules}
 use Rattle.boards.specs.Board.{board_bytes}
 use Rattle.table.proofs.Brings.{brought-out, can-bring, join-shows}
 use Rattle.announcing.proofs.join.join_shown.Goals as goal

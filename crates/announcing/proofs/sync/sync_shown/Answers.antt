@@ -1,5 +1,4 @@
 -- `announcing::sync::sync_shown` meets its contract: what is settled before the sync is read, and what the sync brought is posted. Assumes nothing.
-use borrow.Author.Rules.{rules}
 use Rattle.boards.specs.Board.{board_bytes}
 use Rattle.table.proofs.Brings.{brought-out, can-bring, sync-shows}
 use Rattle.announcing.proofs.sync.sync_shown.Goals as goal

@@ -1,5 +1,4 @@
 -- `announcing::yields::yield_shown` meets its contract: the yield, then what it brought. Assumes nothing.
-use borrow.Author.Rules.{rules}
 use Rattle.boards.specs.Board.{board_bytes}
 use Rattle.table.proofs.Brings.{brought-out, can-bring, yield-shows}
 use Rattle.announcing.proofs.yields.yield_shown.Goals as goal

@@ -1,6 +1,5 @@
 -- `announcing::yields::yields` meets its contract: 1, then 19, then the rest. Assumes nothing.
 use mathlib.Core.Path.{◌∙◌, ap, sym}
-use borrow.Author.Rules.{rules}
 use Rattle.table.specs.Calls.{yield_out}
 use Rattle.table.proofs.Brings.{brings-nothing}
 use Rattle.table.proofs.Buffer.{board-long, board-wrong, is-table, no_table}

@@ -1,6 +1,5 @@
 -- `bundling::bundle::bundle_sound` meets its contract: the first update's checks, then the rest. Assumes nothing.
 use mathlib.Core.Path.{◌∙◌, ap}
-use borrow.Author.Rules.{rules}
 use Rattle.bundles.specs.Records.{entries_from}
 use Rattle.table.specs.Shared.{above}
 use Rattle.updating.specs.Checks.{update_code}

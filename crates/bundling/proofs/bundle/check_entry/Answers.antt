@@ -1,6 +1,5 @@
 -- `bundling::bundle::check_entry` meets its contract: the bib, then the kind. Assumes nothing.
 use mathlib.Core.Path.{sym, ◌∙◌}
-use borrow.Author.Rules.{rules}
 use Rattle.table.proofs.Checks.{bib-known, bib_unknown}
 use Rattle.bundling.specs.Bundles.{entry_check}
 use Rattle.bundling.proofs.bundle.check_entry.Goals as goal

@@ -1,6 +1,5 @@
 -- `bundling::bundle::check_first` meets its contract: the first entry is read, then checked. Assumes nothing.
 use mathlib.Core.Path.{◌∙◌, ap}
-use borrow.Author.Rules.{rules}
 use Rattle.updating.specs.Checks.{update_check}
 use Rattle.table.specs.Halves.{low}
 use Rattle.bundling.proofs.bundle.check_first.Goals as goal

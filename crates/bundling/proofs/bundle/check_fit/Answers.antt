@@ -1,6 +1,5 @@
 -- `bundling::bundle::check_fit` meets its contract: 5, 9 and 20 in their order. Assumes nothing.
 use mathlib.Core.Path.{sym, ◌∙◌}
-use borrow.Author.Rules.{rules}
 use Rattle.table.specs.Found.{on_kind}
 use Rattle.updating.proofs.Checks.{room-told}
 use Rattle.bundling.specs.Bundles.{fit_check}

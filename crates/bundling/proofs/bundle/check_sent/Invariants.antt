@@ -1,11 +1,8 @@
 -- `bundling::bundle::check_sent` meets its contract: no entry before `i` is refused. Assumes nothing.
 use Prim.Native.Nat.{◌+◌, ◌-◌, ◌≤◌}
-use mathlib.Core.Path.{◌≡◌, sym, ◌∙◌, ap}
-use native.Mathlib.Omega.{arith}
-use borrow.Author.Rules.{rules}
+use mathlib.Core.Path.{◌≡◌}
 use Rattle.bundles.specs.Records.{entries_from}
-use Rattle.bundling.specs.Bundles.{fit_check, sent_check}
-use Rattle.bundling.proofs.Records.{check-ends, check-goes-on, check_last, check-start}
+use Rattle.bundling.specs.Bundles.{sent_check}
 use Rattle.bundling.proofs.bundle.check_sent.Given as goal
 
 abbrev pub invariant-loop-i : goal.invariant-loop-i

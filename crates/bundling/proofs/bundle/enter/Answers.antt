@@ -1,7 +1,6 @@
 -- `bundling::bundle::enter` meets its contract: the kind is known, and the update is put in. Assumes nothing.
 use mathlib.Core.Path.{sym, ◌∙◌}
 use native.Mathlib.Omega.{arith}
-use borrow.Author.Rules.{rules}
 use Rattle.table.specs.Found.{on_kind}
 use Rattle.bundling.specs.Bundles.{entered}
 use Rattle.bundling.proofs.Going.{client-in, in-range, long, revision-in}

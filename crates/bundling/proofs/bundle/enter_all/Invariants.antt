@@ -1,16 +1,11 @@
 -- `bundling::bundle::enter_all` meets its contract: the entries before `i` are in, and the others fit. Assumes nothing.
-use Prim.Native.Nat.{◌+◌, ◌-◌, ◌≤◌}
-use mathlib.Core.Path.{◌≡◌, sym, ◌∙◌, ap, subst}
-use native.Mathlib.Omega.{arith}
-use borrow.Author.Rules.{rules}
+use Prim.Native.Nat.{◌-◌, ◌≤◌}
+use mathlib.Core.Path.{◌≡◌}
 use Rattle.bundles.specs.Records.{entries_from}
 use Rattle.cells.specs.Sizes.{updates}
 use Rattle.table.specs.Halves.{cells_of}
-use Rattle.bundling.specs.Bundles.{Going, entered, entered_all, sent_check}
+use Rattle.bundling.specs.Bundles.{Going, entered_all, sent_check}
 use Rattle.bundling.specs.declared.bundle.FitCheck.TheVariants as fit
-use Rattle.bundles.proofs.First.{entries_all}
-use Rattle.bundling.proofs.Going.{long}
-use Rattle.bundling.proofs.Records.{bib-below, entered-next, entered-none, fits_on}
 use Rattle.bundling.proofs.bundle.enter_all.Given as goal
 
 abbrev pub invariant-loop-i : goal.invariant-loop-i

@@ -2,7 +2,6 @@
 use Prim.Native.Nat.{◌≤◌}
 use mathlib.Core.Path.{sym, subst, ◌∙◌, ap}
 use mathlib.Core.List.{◌++◌}
-use borrow.Author.Rules.{rules}
 use Rattle.bundles.specs.Records.{entries_from}
 use Rattle.cells.specs.Sizes.{updates}
 use Rattle.cells.specs.Steps.{close_bytes}

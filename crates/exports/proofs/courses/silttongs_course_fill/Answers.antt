@@ -1,6 +1,5 @@
 -- `exports::courses::silttongs_course_fill` meets its contract: it returns the answer of the call on four tables. Assumes nothing.
 use mathlib.Core.Path.{◌∙◌, ap}
-use borrow.Author.Rules.{rules}
 use Rattle.packing.specs.Packed.{packed_reply}
 use Rattle.exports.proofs.courses.silttongs_course_fill.Goals as goal
 

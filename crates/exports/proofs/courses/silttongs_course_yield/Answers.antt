@@ -1,5 +1,4 @@
 -- `exports::courses::silttongs_course_yield` meets its contract: it returns the answer of the call on four tables. Assumes nothing.
-use borrow.Author.Rules.{rules}
 use Rattle.exports.proofs.Four.{gives-four}
 use Rattle.exports.proofs.courses.silttongs_course_yield.Goals as goal
 

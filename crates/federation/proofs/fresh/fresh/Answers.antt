@@ -2,7 +2,6 @@
 use mathlib.Core.List.{[]}
 use mathlib.Core.Path.{◌∙◌, ap, sym}
 use native.Mathlib.Omega.{arith}
-use borrow.Author.Rules.{rules}
 use Rattle.beside.proofs.Numbers.{known_course, unknown_course}
 use Rattle.card.proofs.Courses.{fresh-by_number}
 use Rattle.card.specs.Courses.{four}

@@ -1,9 +1,5 @@
 -- `federation::fresh::make` meets its contract: the table's own fresh, as its caller has it. Assumes nothing.
-use mathlib.Core.List.{[]}
-use mathlib.Core.Path.{◌∙◌, ap}
-use borrow.Author.Rules.{rules}
 use Rattle.federation.proofs.Answers.{made}
-use Rattle.federation.specs.Out.{served_as}
 use Rattle.federation.proofs.fresh.make.Goals as goal
 
 pub returns : goal.returns

@@ -1,6 +1,5 @@
 -- `federation::list::list_beside` meets its contract: 1 of the other three, then the call. Assumes nothing.
 use mathlib.Core.Path.{◌∙◌, ap, sym}
-use borrow.Author.Rules.{rules}
 use Rattle.beside.proofs.Beside.{beside_none, beside-tables}
 use Rattle.beside.specs.Replies.{replied}
 use Rattle.federation.proofs.Answers.{shows}

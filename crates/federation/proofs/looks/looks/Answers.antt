@@ -1,7 +1,6 @@
 -- `federation::looks::looks` meets its contract: the course's table, beside the other three. Assumes nothing.
 use mathlib.Core.List.{[]}
 use mathlib.Core.Path.{◌∙◌, ap, sym}
-use borrow.Author.Rules.{rules}
 use Rattle.beside.proofs.Numbers.{known_course, unknown_course}
 use Rattle.card.proofs.Courses.{no-such-course}
 use Rattle.card.proofs.Room.{by_number}

@@ -1,7 +1,6 @@
 -- `federation::looks::on_beside` meets its contract: 1 of the other three, then the call. Assumes nothing.
 use mathlib.Core.List.{[]}
 use mathlib.Core.Path.{◌∙◌, ap, sym}
-use borrow.Author.Rules.{rules}
 use Rattle.beside.proofs.Beside.{beside_none, beside-tables}
 use Rattle.beside.specs.Replies.{replied}
 use Rattle.federation.proofs.Blank.{look_turned}

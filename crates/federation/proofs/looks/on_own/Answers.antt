@@ -1,6 +1,5 @@
 -- `federation::looks::on_own` meets its contract: each look is its call. Assumes nothing.
 use mathlib.Core.Path.{◌∙◌, ap}
-use borrow.Author.Rules.{rules}
 use Rattle.beside.specs.Replies.{of_answer, of_level, of_prospect, replied}
 use Rattle.federation.proofs.looks.on_own.Goals as goal
 

@@ -1,7 +1,6 @@
 -- `federation::on_board::on_beside` meets its contract: 1 of the other three, the room that they leave, then the call. Assumes nothing.
 use mathlib.Core.List.{[]}
 use mathlib.Core.Path.{◌∙◌, ap, sym}
-use borrow.Author.Rules.{rules}
 use Rattle.card.specs.Courses.{sharing}
 use Rattle.beside.proofs.Beside.{beside_none, beside-tables, long-tables}
 use Rattle.federation.proofs.Blank.{board-turned}

@@ -1,5 +1,4 @@
 -- `federation::on_board::on_own` meets its contract: each call is its table's. Assumes nothing.
-use borrow.Author.Rules.{rules}
 use Rattle.federation.proofs.Answers.{posts}
 use Rattle.federation.proofs.on_board.on_own.Goals as goal
 

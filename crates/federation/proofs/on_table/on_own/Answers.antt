@@ -1,5 +1,4 @@
 -- `federation::on_table::on_own` meets its contract: each call is its table's. Assumes nothing.
-use borrow.Author.Rules.{rules}
 use Rattle.federation.proofs.Answers.{answers, reads}
 use Rattle.federation.proofs.on_table.on_own.Goals as goal
 

@@ -1,6 +1,5 @@
 -- `forking::fork::fork` meets its contract: code 1, then the other checks and the work. Assumes nothing.
 use mathlib.Core.Path.{◌∙◌, sym}
-use borrow.Author.Rules.{rules}
 use Rattle.table.proofs.Buffer.{is-table, no_table}
 use Rattle.forking.proofs.Calls.{no_fork}
 use Rattle.forking.proofs.fork.fork.Goals as goal

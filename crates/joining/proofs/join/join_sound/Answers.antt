@@ -1,6 +1,5 @@
 -- `joining::join::join_sound` meets its contract: the checks, then the work. Assumes nothing.
 use mathlib.Core.Path.{sym, ◌∙◌, ap}
-use borrow.Author.Rules.{rules}
 use Rattle.table.specs.Halves.{low}
 use Rattle.table.specs.Found.{on_pair, pair_code}
 use Rattle.table.proofs.Halves.{low-length}

@@ -1,6 +1,5 @@
 -- `joining::sync::sync_sound` meets its contract: the join's checks, the join, and the fork of what it left. Assumes nothing.
 use mathlib.Core.Path.{◌∙◌, ap, sym}
-use borrow.Author.Rules.{rules}
 use Rattle.table.specs.Halves.{low}
 use Rattle.table.specs.Found.{on_pair, pair_code}
 use Rattle.table.proofs.Halves.{low-length}

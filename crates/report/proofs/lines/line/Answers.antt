@@ -4,7 +4,7 @@ use mathlib.Core.List.{List, ◌++◌}
 use native.Mathlib.Omega.{arith}
 use lib.ListN.{length}
 use Rattle.text.specs.Decimal.{ended}
-use Rattle.text.proofs.Places.{Put, first_fits, next_fits, both-put}
+use Rattle.text.proofs.Places.{first_fits, next_fits, both-put}
 use Rattle.updates.specs.declared.standing.State.{State}
 use Rattle.report.specs.Printed.{blank, line, value_text}
 use Rattle.report.proofs.Bounds.{line-length}

@@ -1,16 +1,15 @@
 -- `report::lines::lines` meets its contract: the lines of the first i records are in place, and the table is as they leave it. Assumes nothing.
-use Prim.Native.Nat.{◌+◌, ◌*◌, ◌-◌, ◌≤◌}
+use Prim.Native.Nat.{◌+◌, ◌*◌, ◌≤◌}
 use mathlib.Core.Path.{◌≡◌, refl, sym, ◌∙◌, ap, subst}
 use mathlib.Core.List.{◌++◌}
 use native.Mathlib.Omega.{arith}
 use lib.ListN.{length, length-append}
-use borrow.Author.Rules.{rules}
 use Rattle.text.specs.Placed.{placed}
 use Rattle.text.proofs.Places.{Put, placed-none, both-put}
 use Rattle.report.proofs.Grown.{table_none, lines_none, table_more, lines_more}
 use Rattle.dayfile.specs.Record.{step_at}
 use Rattle.table.specs.Answers.{left_read}
-use Rattle.report.specs.Run.{out_at, step_out, table_after}
+use Rattle.report.specs.Run.{out_at, step_out}
 use Rattle.report.specs.Printed.{line as line_of, lines as lines_of}
 use Rattle.report.proofs.lines.lines.Goals as goal
 

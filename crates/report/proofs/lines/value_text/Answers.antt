@@ -1,6 +1,5 @@
 -- `report::lines::value_text` meets its contract: each arm knows its state. Assumes nothing.
 use native.Mathlib.Omega.{arith}
-use borrow.Author.Rules.{rules}
 use Rattle.report.specs.Printed.{value_text}
 use Rattle.report.proofs.lines.value_text.Goals as goal
 

@@ -3,7 +3,6 @@ use Prim.Native.Nat.{ℕ}
 use mathlib.Core.Path.{sym, ◌∙◌, ap}
 use native.Mathlib.Omega.{arith}
 use lib.ListN.{length}
-use borrow.Author.Rules.{rules}
 use Rattle.text.specs.Placed.{placed}
 use Rattle.text.proofs.Places.{placed-none}
 use Rattle.dayfile.proofs.Good.{count-bound}
