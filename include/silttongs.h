@@ -1,6 +1,6 @@
 /* The revision table for timing boxes: its calls, for C and C++.
  *
- * Link target/staticlib/libexports.a, which `rt staticlib exports` writes for x86-64 Linux.
+ * Link target/staticlib/libexports.a, which `tools/build` writes for x86-64 Linux.
  *
  * A table is a buffer of SILTTONGS_BYTES bytes that the caller lends for each call; nothing else
  * is kept. `table` points to `length` bytes that no one else reads or writes during the call, and

@@ -1,7 +1,7 @@
 /* A club day: single-main, with two boxes that are synced with the main box now and then, and one
  * that is sent off later. From the repository's folder:
  *
- *     rt staticlib exports
+ *     bash tools/build
  *     cc -Iinclude examples/c/club.c target/staticlib/libexports.a -o target/club
  *     target/club
  */

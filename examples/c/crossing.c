@@ -2,7 +2,7 @@
  * then a strike, a bundle and more boxes than there are numbers, called from C. From the repository's
  * folder:
  *
- *     rt staticlib exports
+ *     bash tools/build
  *     cc -Iinclude examples/c/crossing.c target/staticlib/libexports.a -o target/crossing
  *     target/crossing
  */

@@ -1,7 +1,7 @@
 /* Four courses, one log: four tables share a card of 8,192 updates. Course 1 runs into it, and course 2
  * still takes its 1,024th update. From the repository's folder:
  *
- *     rt staticlib exports
+ *     bash tools/build
  *     cc -Iinclude examples/c/federation.c target/staticlib/libexports.a -o target/federation
  *     target/federation
  */

@@ -1,7 +1,7 @@
 /* Before the protest: the main box is marked and goes on, and the jury comes back to the mark by a
  * fork. Both are listed. From the repository's folder:
  *
- *     rt staticlib exports
+ *     bash tools/build
  *     cc -Iinclude examples/c/protest.c target/staticlib/libexports.a -o target/protest
  *     target/protest
  */

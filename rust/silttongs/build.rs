@@ -14,7 +14,7 @@ fn main() {
     println!("cargo:rerun-if-changed={}", archive.display());
     if !archive.is_file() {
         eprintln!(
-            "{} is missing: run `rt staticlib exports` in the repository's folder, or set \
+            "{} is missing: run `tools/build` in the repository's folder, or set \
              SILTTONGS_LIB_DIR to the folder that has libexports.a",
             archive.display()
         );

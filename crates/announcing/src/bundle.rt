@@ -1,28 +1,23 @@
 // The call bundle (02, U4): updates of one client on one revision, then its yield. Of a bundle on the main revision the board is shown the whole
 // transaction, also what was entered singly before. It is of a table alone, or of one that shares its log (U12).
-ghost use mathlib.Core.Bool.{true};
-ghost use mathlib.Core.Path.{_≡_};
-ghost use Prim.Native.Nat.{_*_, _<_, _≤_};
-ghost use lib.ListN.{length};
-ghost use Rattle·boards.specs.Board.{boardBytes};
-ghost use Rattle·bundles.specs.Records.{entriesFrom};
-ghost use Rattle·cells.specs.Range.{inRange};
-ghost use Rattle·desk.specs.Calls.{Records};
-ghost use Rattle·table.specs.Halves.{isTable, low};
-ghost use Rattle·table.specs.Out.{tableBytes};
-ghost use Rattle·table.specs.Answers.{left};
-ghost use Rattle·table.specs.Calls.{boardOut, bundleOut};
-ghost use Rattle·table.specs.Calls.{bundled as bundledOut};
-ghost use Rattle·table.specs.Shared.{above, batchShared, sentShared};
-use boards::check::BoardCheck;
-use boards::check::check_board;
-use bundles::check::BundleCheck;
-use bundles::check::check_bundle;
+ghost use Rattle.std.specs.Prelude.{true, ◌≡◌, ◌*◌, ◌<◌, ◌≤◌, length};
+ghost use Rattle.boards.specs.Board.{board_bytes};
+ghost use Rattle.bundles.specs.Records.{entries_from};
+ghost use Rattle.cells.specs.Range.{in_range};
+ghost use Rattle.desk.specs.Calls.{Records};
+ghost use Rattle.table.specs.Halves.{is_table, low};
+ghost use Rattle.table.specs.Out.{table_bytes};
+ghost use Rattle.table.specs.Answers.{left};
+ghost use Rattle.table.specs.Calls.{board_out, bundle_out};
+ghost use Rattle.table.specs.Calls.{bundled as bundledOut};
+ghost use Rattle.table.specs.Shared.{above, batch_shared, sent_shared};
+
+use boards::check::{BoardCheck, check_board};
+use bundles::check::{BundleCheck, check_bundle};
 use bundling::bundle::bundle_sound;
 use sizes::table::Table;
 use table::answer::Answer;
-use table::board::bring;
-use table::board::settled;
+use table::board::{bring, settled};
 use table::sound;
 use table::sound::TableCheck;
 
@@ -36,8 +31,8 @@ fn bundle_shown(
     b: &[u8],
     n: usize,
 ) -> Answer
-    requires { ⌜ (isTable (now t) ≡ true) × (length (now t) ≡ tableBytes) × (inRange (low (now t)) ≡ true) × (length (now board) ≡ boardBytes) × (12 * n ≤ length (now b)) × (0 < n) × (n ≤ 64) ⌝ }
-    ensures { λ a. ⌜ (left a (now (t .exit)) ≡ bundledOut (now (t .entry)) (sentShared (above most) (now (t .entry)) client revision (entriesFrom (now (b .entry)) 0 n))) × (now (board .exit) ≡ boardOut (now (t .entry)) (now (t .exit)) (now (board .entry))) ⌝ }
+    requires { (is_table t.old ≡ true) × (length t.old ≡ table_bytes) × (in_range (low t.old) ≡ true) × (length board.old ≡ board_bytes) × (12 * n ≤ length b.now) × (0 < n) × (n ≤ 64) }
+    ensures { (left result t.new ≡ bundledOut t.old (sent_shared (above most) t.old client revision (entries_from b.now 0 n))) × (board.new ≡ board_out t.old t.new board.old) }
 {
     let before = settled(t);
     let a = bundle_sound(t, most, client, revision, b, n);
@@ -54,7 +49,7 @@ pub fn bundle_within(
     revision: u8,
     records: &[u8],
 ) -> Answer
-    ensures { λ a. ⌜ (left a (now (t .exit)) ≡ batchShared (above most) (now (t .entry)) client revision (Records (now (records .entry))) (length (now (board .entry)))) × (now (board .exit) ≡ boardOut (now (t .entry)) (now (t .exit)) (now (board .entry))) ⌝ }
+    ensures { (left result t.new ≡ batch_shared (above most) t.old client revision (Records records.now) (length board.old)) × (board.new ≡ board_out t.old t.new board.old) }
 {
     let TableCheck::Sound = sound::check_table(t) else {
         return Answer { code: 1, value: 0 };
@@ -70,7 +65,7 @@ pub fn bundle_within(
 
 // The call on a table alone.
 pub fn bundle(t: &mut [u8], board: &mut [u8], client: u8, revision: u8, records: &[u8]) -> Answer
-    ensures { λ a. ⌜ (left a (now (t .exit)) ≡ bundleOut (now (t .entry)) client revision (now (records .entry)) (length (now (board .entry)))) × (now (board .exit) ≡ boardOut (now (t .entry)) (now (t .exit)) (now (board .entry))) ⌝ }
+    ensures { (left result t.new ≡ bundle_out t.old client revision records.now (length board.old)) × (board.new ≡ board_out t.old t.new board.old) }
 {
     bundle_within(t, board, Table::UPDATES, client, revision, records)
 }

@@ -1,10 +1,9 @@
 // The call fresh: a new day, whatever the bytes were, and a board that is cleared.
-ghost use mathlib.Core.Path.{_≡_};
-ghost use lib.ListN.{length};
-ghost use Rattle·table.specs.Answers.{left};
-ghost use Rattle·table.specs.Calls.{freshBoard, freshOut};
-use boards::check::BoardCheck;
-use boards::check::check_board;
+ghost use Rattle.std.specs.Prelude.{◌≡◌, length};
+ghost use Rattle.table.specs.Answers.{left};
+ghost use Rattle.table.specs.Calls.{fresh_board, fresh_out};
+
+use boards::check::{BoardCheck, check_board};
 use buffers::clear::clear;
 use forking::fresh::start;
 use table::answer::Answer;
@@ -13,7 +12,7 @@ use table::sound::LengthCheck;
 
 // `single` is the choice of a single-main day (02, U8).
 pub fn fresh(t: &mut [u8], board: &mut [u8], single: bool) -> Answer
-    ensures { λ a. ⌜ (left a (now (t .exit)) ≡ freshOut (now (t .entry)) single (length (now (board .entry)))) × (now (board .exit) ≡ freshBoard (now (t .entry)) single (now (board .entry))) ⌝ }
+    ensures { (left result t.new ≡ fresh_out t.old single (length board.old)) × (board.new ≡ fresh_board t.old single board.old) }
 {
     let LengthCheck::Right = sound::check_length(t) else {
         return Answer { code: 1, value: 0 };

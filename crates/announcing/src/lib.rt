@@ -1,4 +1,6 @@
 // The calls that a board is lent to (02, U10): the call on the table, then what it brought to the main revision.
+#![tactic(auto)]
+
 pub mod bundle; // bundle.rt: the call bundle
 pub mod fresh; // fresh.rt: the call fresh
 pub mod join; // join.rt: the call join

@@ -1,26 +1,25 @@
 -- What a call on four tables answers, by what its table's call answers.
-use Prim.Native.Nat.{ℕ}
-use mathlib.Core.List.{List}
-use Rattle·desk.specs.Calls as Desk
-use Rattle·updates.specs.declared.standing.State.the-variants.{Neither}
-use Rattle·table.specs.declared.answer.Answer.{Answer}
-use Rattle·table.specs.declared.answer.Level.{Level}
-use Rattle·table.specs.declared.answer.Prospect.{Prospect}
-use Rattle·table.specs.declared.answer.Reading.{Reading}
-use Rattle·beside·specs.specs.declared.reply.Reply.{Reply}
+use Rattle.std.specs.Prelude.{ℕ, List}
+use Rattle.desk.specs.Calls as Desk
+use Rattle.updates.specs.declared.standing.State.TheVariants.{Neither}
+use Rattle.table.specs.declared.answer.Answer.{Answer}
+use Rattle.table.specs.declared.answer.Level.{Level}
+use Rattle.table.specs.declared.answer.Prospect.{Prospect}
+use Rattle.table.specs.declared.answer.Reading.{Reading}
+use Rattle.beside.specs.declared.reply.Reply.{Reply}
 
-abbrev pub ofAnswer : Answer → Reply
-ofAnswer a = record { code = a .code; state = Neither; value = a .value; total = 0; gain = 0 }
+abbrev pub of_answer : Answer → Reply
+of_answer a = record { code = a.code; state = Neither; value = a.value; total = 0; gain = 0 }
 
-abbrev pub ofReading : Reading → Reply
-ofReading a = record { code = a .code; state = a .state; value = a .value; total = 0; gain = 0 }
+abbrev pub of_reading : Reading → Reply
+of_reading a = record { code = a.code; state = a.state; value = a.value; total = 0; gain = 0 }
 
-abbrev pub ofLevel : Level → Reply
-ofLevel f = record { code = f .code; state = Neither; value = f .own; total = f .total; gain = 0 }
+abbrev pub of_level : Level → Reply
+of_level f = record { code = f.code; state = Neither; value = f.own; total = f.total; gain = 0 }
 
-abbrev pub ofProspect : Prospect → Reply
-ofProspect p = record { code = p .code; state = p .state; value = p .value; total = 0; gain = p .gain }
+abbrev pub of_prospect : Prospect → Reply
+of_prospect p = record { code = p.code; state = p.state; value = p.value; total = 0; gain = p.gain }
 
 -- with the sheet, where one was lent
 abbrev pub replied : Reply → List ℕ → Desk.Answer (List ℕ)
-replied r sheet = record { code = r .code; state = r .state; value = r .value; total = r .total; gain = r .gain; sheet = sheet }
+replied r sheet = record { code = r.code; state = r.state; value = r.value; total = r.total; gain = r.gain; sheet = sheet }

@@ -1,10 +1,8 @@
 -- No claim rests on this file: it serves the code. What the check of the other three tables finds.
-use Prim.Native.Nat.{ℕ}
-use mathlib.Core.Bool.{cond, _&&_}
-use mathlib.Core.List.{List}
-use Rattle·table.specs.Halves.{isTable}
-use Rattle·table.specs.declared.sound.TableCheck.{TableCheck}
-use Rattle·table.specs.declared.sound.TableCheck.the-variants.{Damaged, Sound}
+use Rattle.std.specs.Prelude.{ℕ, cond, ◌&&◌, List}
+use Rattle.table.specs.Halves.{is_table}
+use Rattle.table.specs.declared.sound.TableCheck.{TableCheck}
+use Rattle.table.specs.declared.sound.TableCheck.TheVariants.{Damaged, Sound}
 
-unfoldable pub threeCheck : List ℕ → List ℕ → List ℕ → TableCheck
-threeCheck a b c = cond (isTable a && isTable b && isTable c) Sound Damaged
+unfoldable pub three_check : List ℕ → List ℕ → List ℕ → TableCheck
+three_check a b c = cond (is_table a && is_table b && is_table c) Sound Damaged

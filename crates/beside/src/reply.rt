@@ -1,12 +1,11 @@
 // What a call on four tables answers: 01's code, 0 if taken, and all that its table's call answers with.
-ghost use mathlib.Core.Path.{_≡_};
-ghost use Rattle·beside·specs.specs.Replies.{ofAnswer, ofLevel, ofProspect, ofReading};
-use table::answer::Answer;
-use table::answer::Level;
-use table::answer::Prospect;
-use table::answer::Reading;
+ghost use Rattle.std.specs.Prelude.{◌≡◌};
+ghost use Rattle.beside.specs.Replies.{of_answer, of_level, of_prospect, of_reading};
+
+use table::answer::{Answer, Level, Prospect, Reading};
 use updates::standing::State;
 
+#[derive(Drop)]
 pub struct Reply {
     pub code: u8,
     pub state: State,
@@ -16,7 +15,7 @@ pub struct Reply {
 }
 
 pub fn of_answer(a: Answer) -> Reply
-    ensures { λ r. ⌜ r ≡ ofAnswer a ⌝ }
+    ensures { result ≡ of_answer a }
 {
     Reply {
         code: a.code,
@@ -28,7 +27,7 @@ pub fn of_answer(a: Answer) -> Reply
 }
 
 pub fn of_reading(a: Reading) -> Reply
-    ensures { λ r. ⌜ r ≡ ofReading a ⌝ }
+    ensures { result ≡ of_reading a }
 {
     let state = a.state;
     Reply {
@@ -41,7 +40,7 @@ pub fn of_reading(a: Reading) -> Reply
 }
 
 pub fn of_level(f: Level) -> Reply
-    ensures { λ r. ⌜ r ≡ ofLevel f ⌝ }
+    ensures { result ≡ of_level f }
 {
     Reply {
         code: f.code,
@@ -53,7 +52,7 @@ pub fn of_level(f: Level) -> Reply
 }
 
 pub fn of_prospect(p: Prospect) -> Reply
-    ensures { λ r. ⌜ r ≡ ofProspect p ⌝ }
+    ensures { result ≡ of_prospect p }
 {
     let state = p.state;
     Reply {
@@ -67,7 +66,7 @@ pub fn of_prospect(p: Prospect) -> Reply
 
 // Code 1: another number than 0 to 3, or a buffer that is no table.
 pub fn no_course() -> Reply
-    ensures { λ r. ⌜ r ≡ ofAnswer (record { code = 1; value = 0 }) ⌝ }
+    ensures { result ≡ of_answer (record { code = 1; value = 0 }) }
 {
     of_answer(Answer { code: 1, value: 0 })
 }

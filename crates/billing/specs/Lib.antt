@@ -1,1 +1,1 @@
--- The call has no definition of its own: `billOut` stands in `table` specs/Calls.
+-- The call has no definition of its own: `bill_out` stands in `table` specs/Calls.

@@ -1,2 +1,4 @@
 // The call bill, above the table.
+#![tactic(auto)]
+
 pub mod bill; // bill.rt: the call bill

@@ -1,8 +1,8 @@
 // Code 19: a board has 5,000 bytes. Every content is a board's.
-ghost use mathlib.Core.Path.{_≡_};
-ghost use lib.ListN.{length};
-ghost use Rattle·boards·specs.specs.Board.{boardCheck};
+ghost use Rattle.std.specs.Prelude.{◌≡◌, length};
+ghost use Rattle.boards.specs.Board.{board_check};
 
+#[derive(Drop)]
 pub struct Board;
 
 impl Board {
@@ -17,13 +17,14 @@ impl Board {
     pub const STRUCK: u8 = 1;
 }
 
+#[derive(Drop)]
 pub enum BoardCheck {
     Sound,
     Wrong,
 }
 
 pub fn check_board(board: &[u8]) -> BoardCheck
-    ensures { λ r. ⌜ r ≡ boardCheck (length (now (board .entry))) ⌝ }
+    ensures { result ≡ board_check (length board.now) }
 {
     if board.len() == Board::BYTES {
         return BoardCheck::Sound;

@@ -1,18 +1,16 @@
 // A bib's entry on the board, found and written anew.
-ghost use mathlib.Core.Path.{_≡_};
-ghost use mathlib.Core.List.{_∷_};
-ghost use Prim.Native.Nat.{_<_};
-ghost use lib.ListN.{length};
-ghost use Rattle·buffers.specs.Numbers.{word};
-ghost use Rattle·boards·specs.specs.Board.{boardBytes, bibs, found, shown, standingIn, wrote};
+ghost use Rattle.std.specs.Prelude.{◌≡◌, ◌∷◌, ◌<◌, length};
+ghost use Rattle.buffers.specs.Numbers.{word};
+ghost use Rattle.boards.specs.Board.{board_bytes, bibs, found, shown, standing_in, wrote};
+
 use crate::check::Board;
 use buffers::numbers::read;
 use updates::standing::Standing;
 
 // Five bytes read: struck if the first is 1, else the value.
 fn load(p: &[u8]) -> Standing
-    requires { ⌜ length (now p) ≡ 5 ⌝ }
-    ensures { λ s. ⌜ s ≡ standingIn (now (p .entry)) ⌝ }
+    requires { length p.now ≡ 5 }
+    ensures { result ≡ standing_in p.now }
 {
     if p[0] == Board::STRUCK {
         return Standing::Struck;
@@ -21,8 +19,8 @@ fn load(p: &[u8]) -> Standing
 }
 
 pub fn find(board: &[u8], bib: u16) -> Standing
-    requires { ⌜ (length (now board) ≡ boardBytes) × (bib < bibs) ⌝ }
-    ensures { λ s. ⌜ s ≡ found (now (board .entry)) bib ⌝ }
+    requires { (length board.now ≡ board_bytes) × (bib < bibs) }
+    ensures { result ≡ found board.now bib }
 {
     let at = Board::ENTRY * (bib as usize);
     let end = at + Board::ENTRY;
@@ -31,8 +29,8 @@ pub fn find(board: &[u8], bib: u16) -> Standing
 
 // Five bytes: the first, then the value.
 fn store(p: &mut [u8], first: u8, v: u32)
-    requires { ⌜ length (now p) ≡ 5 ⌝ }
-    ensures { λ _. ⌜ now (p .exit) ≡ first ∷ word v ⌝ }
+    requires { length p.old ≡ 5 }
+    ensures { p.new ≡ first ∷ word v }
 {
     p[0] = first;
     p[1] = (v % 256) as u8;
@@ -43,8 +41,8 @@ fn store(p: &mut [u8], first: u8, v: u32)
 
 // The entry of a standing; a struck bib's value is 0.
 fn show(p: &mut [u8], s: Standing)
-    requires { ⌜ length (now p) ≡ 5 ⌝ }
-    ensures { λ _. ⌜ now (p .exit) ≡ shown s ⌝ }
+    requires { length p.old ≡ 5 }
+    ensures { p.new ≡ shown s }
 {
     match s {
         Standing::Struck => store(p, Board::STRUCK, 0),
@@ -53,8 +51,8 @@ fn show(p: &mut [u8], s: Standing)
 }
 
 pub fn write(board: &mut [u8], bib: u16, s: Standing)
-    requires { ⌜ (length (now board) ≡ boardBytes) × (bib < bibs) ⌝ }
-    ensures { λ _. ⌜ now (board .exit) ≡ wrote (now (board .entry)) bib s ⌝ }
+    requires { (length board.old ≡ board_bytes) × (bib < bibs) }
+    ensures { board.new ≡ wrote board.old bib s }
 {
     let at = Board::ENTRY * (bib as usize);
     let end = at + Board::ENTRY;

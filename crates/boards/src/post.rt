@@ -1,7 +1,7 @@
 // An update applied to the board.
-ghost use mathlib.Core.Path.{_≡_};
-ghost use lib.ListN.{length};
-ghost use Rattle·boards·specs.specs.Board.{boardBytes, posted};
+ghost use Rattle.std.specs.Prelude.{◌≡◌, length};
+ghost use Rattle.boards.specs.Board.{board_bytes, posted};
+
 use crate::check::Board;
 use crate::entry;
 use updates::kind::Kind;
@@ -9,8 +9,8 @@ use updates::standing::apply;
 
 // Applied to the entry found, which is written anew. A bib above 999 has none: no call takes an update of such a bib.
 pub fn post(board: &mut [u8], bib: u16, kind: Kind, v: u32)
-    requires { ⌜ length (now board) ≡ boardBytes ⌝ }
-    ensures { λ _. ⌜ now (board .exit) ≡ posted (now (board .entry)) bib (record { kind = kind; v = v }) ⌝ }
+    requires { length board.old ≡ board_bytes }
+    ensures { board.new ≡ posted board.old bib (record { kind = kind; v = v }) }
 {
     if bib < Board::BIBS {
         let before = entry::find(board, bib);

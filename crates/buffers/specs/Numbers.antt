@@ -1,15 +1,13 @@
 -- Numbers of several bytes, "least significant first", of any width.
-use Prim.Native.Nat.{ℕ, _+_, _*_, _/_, _%_}
-use mathlib.Core.List.{List, [], _∷_}
-use lib.ListN.{take, drop}
+use Rattle.std.specs.Prelude.{ℕ, ◌+◌, ◌*◌, ◌/◌, ◌%◌, List, [], ◌∷◌, take, drop}
 
 unfoldable pub number : List ℕ → ℕ
 number [] = 0
 number (b ∷ bytes) = b + 256 * number bytes
 
 -- the number of `width` bytes from place `at` on
-abbrev pub numberAt : List ℕ → ℕ → ℕ → ℕ
-numberAt bytes at width = number (take width (drop at bytes))
+abbrev pub number_at : List ℕ → ℕ → ℕ → ℕ
+number_at bytes at width = number (take width (drop at bytes))
 
 -- the four bytes of a number, the other way round
 abbrev pub word : ℕ → List ℕ

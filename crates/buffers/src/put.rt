@@ -1,21 +1,19 @@
 // Bytes copied to a place.
-ghost use mathlib.Core.Path.{_≡_};
-ghost use Prim.Native.Nat.{_+_, _≤_};
-ghost use lib.ListN.{length};
-ghost use Rattle·lists.specs.Arranged.{replaced};
+ghost use Rattle.std.specs.Prelude.{◌≡◌, ◌+◌, ◌≤◌, length};
+ghost use Rattle.lists.specs.Arranged.{replaced};
 
 pub fn put(t: &mut [u8], at: usize, from: &[u8])
-    requires { ⌜ at + length (now from) ≤ length (now t) ⌝ }
-    ensures { λ _. ⌜ now (t .exit) ≡ replaced (now (t .entry)) at (length (now (from .entry))) (now (from .entry)) ⌝ }
+    requires { at + length from.now ≤ length t.old }
+    ensures { t.new ≡ replaced t.old at (length from.now) from.now }
 {
     let end = at + from.len();
-    bytes::copy(from, &mut t[at..end]);
+    t[at..end].copy_from_slice(from);
 }
 
 // All of t replaced.
 pub fn copy(t: &mut [u8], from: &[u8])
-    requires { ⌜ length (now t) ≡ length (now from) ⌝ }
-    ensures { λ _. ⌜ now (t .exit) ≡ now (from .entry) ⌝ }
+    requires { length t.old ≡ length from.now }
+    ensures { t.new ≡ from.now }
 {
-    bytes::copy(from, t);
+    t.copy_from_slice(from);
 }

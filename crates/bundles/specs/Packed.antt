@@ -1,54 +1,50 @@
 -- No claim rests on this file: it serves the code. 02, U4: ".. then as a lent list of entries": the entries as records in room for 64, and how many entries
 -- there are.
-use Prim.Native.Nat.{ℕ, _*_, _-_, _/_}
-use mathlib.Core.Bool.{cond}
-use mathlib.Core.List.{List, [], _∷_, _++_}
-use lib.Dec.{ltb}
-use lib.ListN.{length, replicate, take}
-use Rattle·lists.specs.Arranged.{replaced}
-use Rattle·bundles·specs.specs.Records.{isWrong, laid}
-use Rattle·bundles·specs.specs.declared.entry.Entry.{Entry}
-use Rattle·bundles·specs.specs.declared.check.BundleCheck.{BundleCheck}
-use Rattle·bundles·specs.specs.declared.check.BundleCheck.the-variants.{Count, Wrong}
-use Rattle·bundles·specs.specs.declared.pack.Packed.{Packed}
+use Rattle.std.specs.Prelude.{ℕ, ◌*◌, ◌-◌, ◌/◌, cond, List, [], ◌∷◌, ◌++◌, ltb, length, replicate, take}
+use Rattle.lists.specs.Arranged.{replaced}
+use Rattle.bundles.specs.Records.{is_wrong, laid}
+use Rattle.bundles.specs.declared.entry.Entry.{Entry}
+use Rattle.bundles.specs.declared.check.BundleCheck.{BundleCheck}
+use Rattle.bundles.specs.declared.check.BundleCheck.TheVariants.{Count, Wrong}
+use Rattle.bundles.specs.declared.pack.Packed.{Packed}
 
-unfoldable pub bundleCheck : List ℕ → BundleCheck
-bundleCheck b = cond (isWrong b) Wrong (Count (length b / 12))
+unfoldable pub bundle_check : List ℕ → BundleCheck
+bundle_check b = cond (is_wrong b) Wrong (Count (length b / 12))
 
 -- an entry as a record: what is not looked at is 0
-unfoldable pub recordOf : Entry → List ℕ
-recordOf e = laid (e .kind) 0 (e .bib) (e .v) 0
+unfoldable pub record_of : Entry → List ℕ
+record_of e = laid e.kind 0 e.bib e.v 0
 
-unfoldable pub recordsOf : List Entry → List ℕ
-recordsOf [] = []
-recordsOf (e ∷ es) = recordOf e ++ recordsOf es
+unfoldable pub records_of : List Entry → List ℕ
+records_of [] = []
+records_of (e ∷ es) = record_of e ++ records_of es
 
 -- record i is the entry's, and the other bytes stay
-abbrev pub withRecord : List ℕ → ℕ → Entry → List ℕ
-withRecord b i e = replaced b (12 * i) 12 (recordOf e)
+abbrev pub with_record : List ℕ → ℕ → Entry → List ℕ
+with_record b i e = replaced b (12 * i) 12 (record_of e)
 
 -- "Accept 1 to 64 updates"
-abbrev pub atMost : ℕ → ℕ
-atMost n = cond (ltb n 64) n 64
+abbrev pub at_most : ℕ → ℕ
+at_most n = cond (ltb n 64) n 64
 
 abbrev pub blank : ℕ → Packed
 blank n = record { bytes = replicate 768 0; count = n }
 
-abbrev pub withEntry : Packed → ℕ → Entry → Packed
-withEntry p i e = record { bytes = withRecord (p .bytes) i e; count = p .count }
+abbrev pub with_entry : Packed → ℕ → Entry → Packed
+with_entry p i e = record { bytes = with_record p.bytes i e; count = p.count }
 
 -- no more than 64 entries as records, and zeros behind them
 unfoldable pub filled : List Entry → List ℕ
-filled es = recordsOf es ++ replicate (768 - 12 * length es) 0
+filled es = records_of es ++ replicate (768 - 12 * length es) 0
 
 -- of more than 64 entries the count alone decides: the bundle is wrong
-unfoldable pub packedOf : List Entry → Packed
-packedOf es = record { bytes = filled (take 64 es); count = length es }
+unfoldable pub packed_of : List Entry → Packed
+packed_of es = record { bytes = filled (take 64 es); count = length es }
 
 -- how many of so many entries are passed on. Above 64 none are: a bundle of none is wrong as one of more than 64 is, 14
 abbrev pub among : ℕ → ℕ
 among n = cond (ltb 64 n) 0 n
 
 -- the bytes that are passed on: the records of all entries
-unfoldable pub recordsIn : Packed → List ℕ
-recordsIn p = take (12 * among (p .count)) (p .bytes)
+unfoldable pub records_in : Packed → List ℕ
+records_in p = take (12 * among p.count) p.bytes

@@ -1,16 +1,17 @@
 // The check of a bundle's bytes: how many records they are, or that they are none.
-ghost use mathlib.Core.Path.{_≡_};
-ghost use Rattle·bundles·specs.specs.Packed.{bundleCheck};
-use crate::sizes::Bundle;
-use crate::sizes::Record;
+ghost use Rattle.std.specs.Prelude.{◌≡◌};
+ghost use Rattle.bundles.specs.Packed.{bundle_check};
 
+use crate::sizes::{Bundle, Record};
+
+#[derive(Drop)]
 pub enum BundleCheck {
     Count(usize),
     Wrong,
 }
 
 pub fn check_bundle(b: &[u8]) -> BundleCheck
-    ensures { λ r. ⌜ r ≡ bundleCheck (now (b .entry)) ⌝ }
+    ensures { result ≡ bundle_check b.now }
 {
     if b.len() % Record::BYTES != 0 {
         return BundleCheck::Wrong;

@@ -1,25 +1,26 @@
 // A lent list of entries put as records, so that all else is said of a bundle's bytes.
-ghost use mathlib.Core.Path.{_≡_};
-ghost use Prim.Native.Nat.{_<_};
-ghost use Rattle·bundles·specs.specs.Packed.{atMost, blank, packedOf, withEntry};
+ghost use Rattle.std.specs.Prelude.{◌≡◌, ◌<◌};
+ghost use Rattle.bundles.specs.Packed.{at_most, blank, packed_of, with_entry};
+
 use crate::entry::Entry;
 use crate::record::put;
 use crate::sizes::Bundle;
 
 // Room for 64 records, and the count of entries, which may be above 64.
+#[derive(Drop)]
 pub struct Packed {
     pub bytes: [u8; Bundle::BYTES],
     pub count: usize,
 }
 
 fn at_most(n: usize) -> usize
-    ensures { λ r. ⌜ r ≡ atMost n ⌝ }
+    ensures { result ≡ at_most n }
 {
     if n < Bundle::MOST { n } else { Bundle::MOST }
 }
 
 fn room(count: usize) -> Packed
-    ensures { λ p. ⌜ p ≡ blank count ⌝ }
+    ensures { result ≡ blank count }
 {
     Packed {
         bytes: [0; Bundle::BYTES],
@@ -28,8 +29,8 @@ fn room(count: usize) -> Packed
 }
 
 fn with(p: Packed, i: usize, e: Entry) -> Packed
-    requires { ⌜ i < 64 ⌝ }
-    ensures { λ r. ⌜ r ≡ withEntry p i e ⌝ }
+    requires { i < 64 }
+    ensures { result ≡ with_entry p i e }
 {
     let mut bytes = p.bytes;
     put(&mut bytes, i, e);
@@ -39,9 +40,9 @@ fn with(p: Packed, i: usize, e: Entry) -> Packed
     }
 }
 
-// The first 64 entries as records: of more the count alone is needed. Its proof is a walk by hand, so it does no more than read and call.
+// The first 64 entries as records: of more the count alone is needed.
 pub fn pack(es: &[Entry]) -> Packed
-    ensures { λ p. ⌜ p ≡ packedOf (now (es .entry)) ⌝ }
+    ensures { result ≡ packed_of es.now }
 {
     let n = at_most(es.len());
     let mut p = room(es.len());

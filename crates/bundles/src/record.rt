@@ -1,17 +1,16 @@
 // A record of a bundle read as an entry, and an entry put as a record.
-ghost use mathlib.Core.Path.{_≡_};
-ghost use Prim.Native.Nat.{_*_, _+_, _≤_};
-ghost use lib.ListN.{length};
-ghost use Rattle·bundles·specs.specs.Records.{entryAt, entryIn, laid};
-ghost use Rattle·bundles·specs.specs.Packed.{withRecord};
+ghost use Rattle.std.specs.Prelude.{◌≡◌, ◌*◌, ◌+◌, ◌≤◌, length};
+ghost use Rattle.bundles.specs.Records.{entry_at, entry_in, laid};
+ghost use Rattle.bundles.specs.Packed.{with_record};
+
 use crate::entry::Entry;
 use crate::sizes::Record;
 use buffers::numbers::read;
 
 // The record's client and number are not looked at.
 fn decode(p: &[u8]) -> Entry
-    requires { ⌜ length (now p) ≡ 12 ⌝ }
-    ensures { λ e. ⌜ e ≡ entryIn (now (p .entry)) ⌝ }
+    requires { length p.now ≡ 12 }
+    ensures { result ≡ entry_in p.now }
 {
     let bib = read(&p[2..4]) as u16;
     let v = read(&p[4..8]) as u32;
@@ -19,8 +18,8 @@ fn decode(p: &[u8]) -> Entry
 }
 
 pub fn entry_at(b: &[u8], i: usize) -> Entry
-    requires { ⌜ 12 * i + 12 ≤ length (now b) ⌝ }
-    ensures { λ e. ⌜ e ≡ entryAt (now (b .entry)) i ⌝ }
+    requires { 12 * i + 12 ≤ length b.now }
+    ensures { result ≡ entry_at b.now i }
 {
     let at = Record::BYTES * i;
     let end = at + Record::BYTES;
@@ -29,8 +28,8 @@ pub fn entry_at(b: &[u8], i: usize) -> Entry
 
 // A record's twelve bytes. A line of the listing is laid out so too.
 pub fn write(p: &mut [u8], kind: u8, client: u8, bib: u16, v: u32, number: u32)
-    requires { ⌜ length (now p) ≡ 12 ⌝ }
-    ensures { λ _. ⌜ now (p .exit) ≡ laid kind client bib v number ⌝ }
+    requires { length p.old ≡ 12 }
+    ensures { p.new ≡ laid kind client bib v number }
 {
     p[0] = kind;
     p[1] = client;
@@ -48,8 +47,8 @@ pub fn write(p: &mut [u8], kind: u8, client: u8, bib: u16, v: u32, number: u32)
 
 // Record i becomes the entry's; the other bytes stay.
 pub fn put(b: &mut [u8], i: usize, e: Entry)
-    requires { ⌜ 12 * i + 12 ≤ length (now b) ⌝ }
-    ensures { λ _. ⌜ now (b .exit) ≡ withRecord (now (b .entry)) i e ⌝ }
+    requires { 12 * i + 12 ≤ length b.old }
+    ensures { b.new ≡ with_record b.old i e }
 {
     let at = Record::BYTES * i;
     let end = at + Record::BYTES;

@@ -1,5 +1,6 @@
 // The sizes of a bundle and of its records: 02, U4.
 
+#[derive(Drop)]
 pub struct Record;
 
 impl Record {
@@ -7,6 +8,7 @@ impl Record {
     pub const BYTES: usize = 12;
 }
 
+#[derive(Drop)]
 pub struct Bundle;
 
 impl Bundle {

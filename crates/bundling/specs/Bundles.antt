@@ -1,61 +1,57 @@
 -- No claim rests on this file: it serves the code.
 -- What is known of a bundle before anything is written, and what its updates leave: 02, U4, U12.
-use Prim.Native.Nat.{ℕ, suc}
-use mathlib.Core.Bool.{true, false, cond}
-use mathlib.Core.Path.{_≡_}
-use mathlib.Core.List.{List, [], _∷_, _++_}
-use lib.Dec.{ltb}
-use Rattle·updates.specs.Kinds.{kindCheck, badBib}
-use Rattle·updates.specs.declared.kind.KindCheck.{KindCheck}
-use Rattle·updates.specs.declared.kind.KindCheck.the-variants as kinds
-use Rattle·bundles.specs.declared.entry.Entry.{Entry}
-use Rattle·cells.specs.Sizes.{updates}
-use Rattle·cells.specs.Checks.{isClient, givenOut, joined, isMark, openElsewhere, busyByOther, stale}
-use Rattle·cells.specs.Steps.{updateBytes}
-use Rattle·entries.specs.Stored.{entry}
-use Rattle·entries.specs.Entries.{wrote}
-use Rattle·table.specs.Halves.{low, high, cellsOf, isTable}
-use Rattle·table.specs.Found.{onKind}
-use Rattle·bundling·specs.specs.declared.bundle.FitCheck.{FitCheck}
-use Rattle·bundling·specs.specs.declared.bundle.FitCheck.the-variants.{Fits, Refused}
+use Rattle.std.specs.Prelude.{ℕ, suc, true, false, cond, ◌≡◌, List, [], ◌∷◌, ◌++◌, ltb}
+use Rattle.updates.specs.Kinds.{kind_check, bad_bib}
+use Rattle.updates.specs.declared.kind.KindCheck.{KindCheck}
+use Rattle.updates.specs.declared.kind.KindCheck.TheVariants as kinds
+use Rattle.bundles.specs.declared.entry.Entry.{Entry}
+use Rattle.cells.specs.Sizes.{updates}
+use Rattle.cells.specs.Checks.{is_client, given_out, joined, is_mark, open_elsewhere, busy_by_other, stale}
+use Rattle.cells.specs.Steps.{update_bytes}
+use Rattle.entries.specs.Stored.{entry}
+use Rattle.entries.specs.Entries.{wrote}
+use Rattle.table.specs.Halves.{low, high, cells_of, is_table}
+use Rattle.table.specs.Found.{on_kind}
+use Rattle.bundling.specs.declared.bundle.FitCheck.{FitCheck}
+use Rattle.bundling.specs.declared.bundle.FitCheck.TheVariants.{Fits, Refused}
 
 -- 2, 3, 4, 16, 6, 7, 8 do not apply: they do not change while one client enters updates on one revision
 pub record Going (t : List ℕ) (c n : ℕ) : Type 0 where
-  pub sound : isTable t ≡ true
-  pub client : isClient c ≡ true
-  pub given : givenOut (cellsOf t) n ≡ true
-  pub out : joined (cellsOf t) n ≡ false
-  pub unmarked : isMark (cellsOf t) n ≡ false
-  pub here : openElsewhere (cellsOf t) c n ≡ false
-  pub alone : busyByOther (cellsOf t) c n ≡ false
-  pub seen : stale (cellsOf t) c n ≡ false
+  pub sound : is_table t ≡ true
+  pub client : is_client c ≡ true
+  pub given : given_out (cells_of t) n ≡ true
+  pub out : joined (cells_of t) n ≡ false
+  pub unmarked : is_mark (cells_of t) n ≡ false
+  pub here : open_elsewhere (cells_of t) c n ≡ false
+  pub alone : busy_by_other (cells_of t) c n ≡ false
+  pub seen : stale (cells_of t) c n ≡ false
 
 -- 5 of an entry
-unfoldable pub entryCheck : ℕ → ℕ → KindCheck
-entryCheck k bib = cond (badBib bib) kinds.Unknown (kindCheck k)
+unfoldable pub entry_check : ℕ → ℕ → KindCheck
+entry_check k bib = cond (bad_bib bib) kinds.Unknown (kind_check k)
 
-abbrev pub onFit : FitCheck → FitCheck → FitCheck
-onFit Fits rest = rest
-onFit (Refused code) rest = Refused code
+abbrev pub on_fit : FitCheck → FitCheck → FitCheck
+on_fit Fits rest = rest
+on_fit (Refused code) rest = Refused code
 
 -- the code of a check that ends the call, 0 where none does
-abbrev pub fitCode : FitCheck → ℕ
-fitCode Fits = 0
-fitCode (Refused code) = code
+abbrev pub fit_code : FitCheck → ℕ
+fit_code Fits = 0
+fit_code (Refused code) = code
 
 -- 5, 9, 20 of an entry, where so many updates are taken, of so many at most
-unfoldable pub fitCheck : ℕ → ℕ → ℕ → ℕ → FitCheck
-fitCheck k bib taken most = onKind (entryCheck k bib) (Refused 5) (λ kind. cond (ltb taken updates) (cond (ltb taken most) Fits (Refused 20)) (Refused 9))
+unfoldable pub fit_check : ℕ → ℕ → ℕ → ℕ → FitCheck
+fit_check k bib taken most = on_kind (entry_check k bib) (Refused 5) (λ kind. cond (ltb taken updates) (cond (ltb taken most) Fits (Refused 20)) (Refused 9))
 
 -- the earliest refusal of the updates, each with one taken more than the one before it; the yield behind them is taken
-unfoldable pub sentCheck : List Entry → ℕ → ℕ → FitCheck
-sentCheck [] taken most = Fits
-sentCheck (e ∷ es) taken most = onFit (fitCheck (e .kind) (e .bib) taken most) (sentCheck es (suc taken) most)
+unfoldable pub sent_check : List Entry → ℕ → ℕ → FitCheck
+sent_check [] taken most = Fits
+sent_check (e ∷ es) taken most = on_fit (fit_check e.kind e.bib taken most) (sent_check es (suc taken) most)
 
 -- the table after an update that is taken, and after several
 unfoldable pub entered : List ℕ → ℕ → ℕ → Entry → List ℕ
-entered t c n e = onKind (kindCheck (e .kind)) t (λ kind. updateBytes (low t) c n ++ wrote (high t) (cellsOf t .updates) (entry kind c (e .bib) (e .v)))
+entered t c n e = on_kind (kind_check e.kind) t (λ kind. update_bytes (low t) c n ++ wrote (high t) (cells_of t).updates (entry kind c e.bib e.v))
 
-unfoldable pub enteredAll : List ℕ → ℕ → ℕ → List Entry → List ℕ
-enteredAll t c n [] = t
-enteredAll t c n (e ∷ es) = enteredAll (entered t c n e) c n es
+unfoldable pub entered_all : List ℕ → ℕ → ℕ → List Entry → List ℕ
+entered_all t c n [] = t
+entered_all t c n (e ∷ es) = entered_all (entered t c n e) c n es

@@ -1,8 +1,8 @@
 -- The worked examples, by computation.
 use mathlib.Core.Path.{refl}
-use Rattle·card·specs.specs.Log.{larger, logged, passes}
-use Rattle·card·specs.specs.Examples.{ExamplesHold}
+use Rattle.card.specs.Log.{larger, logged, passes}
+use Rattle.card.specs.Examples.{ExamplesHold}
 
-pub examples-hold : ExamplesHold
+pub examples_hold : ExamplesHold
 unfolding larger logged passes
-examples-hold = refl
+examples_hold = refl

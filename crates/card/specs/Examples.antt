@@ -1,11 +1,7 @@
 -- 02, U12, worked by numbers: whether the next update of a course would have 20, where nothing else refuses it.
-use Prim.Native.Nat.{ℕ, suc}
-use mathlib.Core.Bool.{Bool, true, false}
-use mathlib.Core.Path.{_≡_}
-use mathlib.Core.List.{List, [], _∷_}
-use lib.ListN.{getD}
-use Rattle·lists.specs.Lists.{changed}
-use Rattle·card·specs.specs.Log.{logged, passes}
+use Rattle.std.specs.Prelude.{ℕ, suc, Bool, true, false, ◌≡◌, List, [], ◌∷◌, get_or}
+use Rattle.lists.specs.Lists.{changed}
+use Rattle.card.specs.Log.{logged, passes}
 
 -- the four counts before an update of a course, the sum after it, and whether it has 20
 pub record Example : Type 0 where
@@ -14,11 +10,11 @@ pub record Example : Type 0 where
   pub sum : ℕ
   pub twenty : Bool
 
-abbrev pub countOf : List ℕ → ℕ → ℕ
-countOf counts i = getD counts i 0
+abbrev pub count_of : List ℕ → ℕ → ℕ
+count_of counts i = get_or counts i 0
 
-abbrev pub afterOne : List ℕ → ℕ → ℕ → ℕ
-afterOne counts i = changed (countOf counts) i (suc (countOf counts i))
+abbrev pub after_one : List ℕ → ℕ → ℕ → ℕ
+after_one counts i = changed (count_of counts) i (suc (count_of counts i))
 
 pub record Found : Type 0 where
   pub sum : ℕ
@@ -26,11 +22,11 @@ pub record Found : Type 0 where
 
 abbrev pub computed : List Example → List Found
 computed [] = []
-computed (e ∷ es) = record { sum = logged (afterOne (e .counts) (e .course)); twenty = passes (afterOne (e .counts) (e .course)) } ∷ computed es
+computed (e ∷ es) = record { sum = logged (after_one e.counts e.course); twenty = passes (after_one e.counts e.course) } ∷ computed es
 
 abbrev pub expected : List Example → List Found
 expected [] = []
-expected (e ∷ es) = record { sum = e .sum; twenty = e .twenty } ∷ expected es
+expected (e ∷ es) = record { sum = e.sum; twenty = e.twenty } ∷ expected es
 
 abbrev pub examples : List Example
 examples =

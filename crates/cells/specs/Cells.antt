@@ -1,15 +1,9 @@
 -- Of the claims only `VerdictsFit` (crate consistency, a verify on any buffer) rests on this file; else it serves the code.
 -- The cells as functions of a revision, a client or an update: docs/CELLS.md, "What the cells mean".
-use Prim.Native.Nat.{ℕ, zero, suc, _-_}
-use mathlib.Core.Bool.{Bool, cond, _&&_}
-use mathlib.Core.Path.{_≡_}
-use mathlib.Core.Logic.{_⊎_}
-use mathlib.Core.List.{List, [], _∷_, _++_}
-use lib.Dec.{ltb}
-use lib.ListN.{take, drop}
-use Rattle·lists.specs.Lists.{firstOf}
-use Rattle·lists.specs.Names.{Name}
-use Rattle·cells·specs.specs.Sizes.{revisions, main}
+use Rattle.std.specs.Prelude.{ℕ, zero, suc, ◌-◌, Bool, cond, ◌&&◌, ◌≡◌, ◌⊎◌, List, [], ◌∷◌, ◌++◌, ltb, take, drop}
+use Rattle.lists.specs.Lists.{head_of}
+use Rattle.lists.specs.Names.{Name}
+use Rattle.cells.specs.Sizes.{revisions, main}
 
 pub record Cells : Type 0 where
   -- 0 never given out, 1 out, 2 joined or dropped, 3 marked, and out
@@ -56,34 +50,34 @@ chain link at (suc n) = chain link (link at) n ++ (at ∷ [])
 
 -- the revision's own updates: taken on it or joined into it
 abbrev pub own : Cells → ℕ → List ℕ
-own k r = chain (k .link) (k .last r) (k .count r)
+own k r = chain k.link (k.last r) (k.count r)
 
 -- 02, U10: "It shows box 0 by closed transactions only": the main revision's own updates that are of closed transactions
-abbrev pub settledOwn : Cells → List ℕ
-settledOwn k = take (k .settled) (own k main)
+abbrev pub settled_own : Cells → List ℕ
+settled_own k = take k.settled (own k main)
 
 -- of these all but the first n, and so what a step brings there: what is settled after it, without as many as were before it
-abbrev pub settledSince : ℕ → Cells → List ℕ
-settledSince n k = drop n (settledOwn k)
+abbrev pub settled_since : ℕ → Cells → List ℕ
+settled_since n k = drop n (settled_own k)
 
 abbrev pub brought : Cells → Cells → List ℕ
-brought k k′ = settledSince (k .settled) k′
+brought k k' = settled_since k.settled k'
 
 -- a step settles all of the main revision's own updates, or none besides the n that were
 abbrev pub Settles : ℕ → Cells → Type 0
-Settles n k = (k .settled ≡ n) ⊎ (k .settled ≡ k .count main)
+Settles n k = (k.settled ≡ n) ⊎ (k.settled ≡ k.count main)
 
 -- the revisions that are out, right to left
 abbrev pub outs : Cells → List ℕ
-outs k = take (k .out) (k .layout)
+outs k = take k.out k.layout
 
 -- the numbers that may be used again
 abbrev pub freed : Cells → List ℕ
-freed k = take (k .given - k .out) (k .queue)
+freed k = take (k.given - k.out) k.queue
 
 -- 02, U7: "A fork now takes a never-used number while there is one, else the number handed in longest ago."
-abbrev pub nextNumber : Cells → ℕ
-nextNumber k = cond (ltb (k .given) revisions) (k .given) (firstOf (k .queue))
+abbrev pub next_number : Cells → ℕ
+next_number k = cond (ltb k.given revisions) k.given (head_of k.queue)
 
 abbrev pub flagged : Cells → ℕ → ℕ → Bool
-flagged k r u = k .used r && k .row r u
+flagged k r u = k.used r && k.row r u

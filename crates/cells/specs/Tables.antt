@@ -1,8 +1,6 @@
 -- Of the claims only `StaysTable` (crate consistency) rests on this file; else it serves the code.
 -- A function's values in a row, and a test of every number from 0 on.
-use Prim.Native.Nat.{ℕ, zero, suc}
-use mathlib.Core.Bool.{Bool, true, _&&_}
-use mathlib.Core.List.{List, [], _∷_, _++_}
+use Rattle.std.specs.Prelude.{ℕ, zero, suc, Bool, true, ◌&&◌, List, [], ◌∷◌, ◌++◌}
 
 -- f 0, f 1, .., f (n - 1)
 unfoldable pub tab : {A : Type 0} → (ℕ → A) → ℕ → List A

@@ -1,22 +1,18 @@
 // Code 7: whether the revision is in use, that is, whether some client has an open transaction on it (01: busy).
-ghost use mathlib.Core.Path.{_≡_};
-ghost use mathlib.Core.Bool.{not, _&&_};
-ghost use Prim.Native.Nat.{_<_};
-ghost use lib.Dec.{eqb};
-ghost use lib.ListN.{length};
-ghost use Rattle·cells.specs.Sizes.{lowerBytes, clients};
-ghost use Rattle·cells.specs.Decode.{cells};
-ghost use Rattle·cells.specs.Checks.{busy, busyByOther};
-ghost use Rattle·checks·specs.specs.Answers.{otherUseCheck, useCheck};
+ghost use Rattle.std.specs.Prelude.{◌≡◌, not, ◌&&◌, ◌<◌, eqb, length};
+ghost use Rattle.cells.specs.Sizes.{lower_bytes, clients};
+ghost use Rattle.cells.specs.Decode.{cells};
+ghost use Rattle.cells.specs.Checks.{busy, busy_by_other};
+ghost use Rattle.checks.specs.Answers.{other_use_check, use_check};
+
 use fields::read;
-use sizes::numbers::Client;
-use sizes::numbers::Revision;
-use sizes::numbers::wide;
+use sizes::numbers::{Client, Revision, wide};
 use sizes::table::Table;
 
 // How many clients there are, of the type of a client number: each number below it is a client.
 const CLIENTS: u8 = Table::CLIENTS as u8;
 
+#[derive(Drop)]
 pub enum UseCheck {
     Free,
     Busy,
@@ -24,16 +20,16 @@ pub enum UseCheck {
 
 // Whether x has an open transaction on r.
 fn is_on(d: &[u8], x: Client, r: Revision) -> bool
-    requires { ⌜ (length (now d) ≡ lowerBytes) × (x .0 < clients) ⌝ }
-    ensures { λ b. ⌜ b ≡ eqb (cells (now (d .entry)) .opened (x .0)) (r .0) ⌝ }
+    requires { (length d.now ≡ lower_bytes) × (x.0 < clients) }
+    ensures { result ≡ eqb ((cells d.now).opened x.0) r.0 }
 {
     read::opened(d, x) == wide(r.0)
 }
 
 // Whether some client has an open transaction on r.
 fn is_busy(d: &[u8], r: Revision) -> bool
-    requires { ⌜ length (now d) ≡ lowerBytes ⌝ }
-    ensures { λ b. ⌜ b ≡ busy (cells (now (d .entry))) (r .0) ⌝ }
+    requires { length d.now ≡ lower_bytes }
+    ensures { result ≡ busy (cells d.now) r.0 }
 {
     let mut x: u8 = 0;
     while x < CLIENTS {
@@ -47,8 +43,8 @@ fn is_busy(d: &[u8], r: Revision) -> bool
 
 // Whether x is not c and has an open transaction on r.
 fn is_other_on(d: &[u8], x: Client, c: Client, r: Revision) -> bool
-    requires { ⌜ (length (now d) ≡ lowerBytes) × (x .0 < clients) ⌝ }
-    ensures { λ b. ⌜ b ≡ (not (eqb (x .0) (c .0)) && eqb (cells (now (d .entry)) .opened (x .0)) (r .0)) ⌝ }
+    requires { (length d.now ≡ lower_bytes) × (x.0 < clients) }
+    ensures { result ≡ (not (eqb x.0 c.0) && eqb ((cells d.now).opened x.0) r.0) }
 {
     if x.0 == c.0 {
         return false;
@@ -58,8 +54,8 @@ fn is_other_on(d: &[u8], x: Client, c: Client, r: Revision) -> bool
 
 // Whether a client other than c has an open transaction on r.
 fn is_busy_by_other(d: &[u8], c: Client, r: Revision) -> bool
-    requires { ⌜ length (now d) ≡ lowerBytes ⌝ }
-    ensures { λ b. ⌜ b ≡ busyByOther (cells (now (d .entry))) (c .0) (r .0) ⌝ }
+    requires { length d.now ≡ lower_bytes }
+    ensures { result ≡ busy_by_other (cells d.now) c.0 r.0 }
 {
     let mut x: u8 = 0;
     while x < CLIENTS {
@@ -72,8 +68,8 @@ fn is_busy_by_other(d: &[u8], c: Client, r: Revision) -> bool
 }
 
 pub fn check_use(d: &[u8], r: Revision) -> UseCheck
-    requires { ⌜ length (now d) ≡ lowerBytes ⌝ }
-    ensures { λ a. ⌜ a ≡ useCheck (now (d .entry)) (r .0) ⌝ }
+    requires { length d.now ≡ lower_bytes }
+    ensures { result ≡ use_check d.now r.0 }
 {
     if is_busy(d, r) {
         return UseCheck::Busy;
@@ -83,8 +79,8 @@ pub fn check_use(d: &[u8], r: Revision) -> UseCheck
 
 // For update and query: in use by another client.
 pub fn check_use_by_other(d: &[u8], c: Client, r: Revision) -> UseCheck
-    requires { ⌜ length (now d) ≡ lowerBytes ⌝ }
-    ensures { λ a. ⌜ a ≡ otherUseCheck (now (d .entry)) (c .0) (r .0) ⌝ }
+    requires { length d.now ≡ lower_bytes }
+    ensures { result ≡ other_use_check d.now c.0 r.0 }
 {
     if is_busy_by_other(d, c, r) {
         return UseCheck::Busy;

@@ -1,17 +1,18 @@
 // Code 2: a client number.
-ghost use mathlib.Core.Path.{_≡_};
-ghost use Rattle·checks·specs.specs.Answers.{clientCheck};
-use sizes::numbers::Client;
-use sizes::numbers::wide;
+ghost use Rattle.std.specs.Prelude.{◌≡◌};
+ghost use Rattle.checks.specs.Answers.{client_check};
+
+use sizes::numbers::{Client, wide};
 use sizes::table::Table;
 
+#[derive(Drop)]
 pub enum ClientCheck {
     Known(Client),
     Unknown,
 }
 
 pub fn check_client(n: u8) -> ClientCheck
-    ensures { λ r. ⌜ r ≡ clientCheck n ⌝ }
+    ensures { result ≡ client_check n }
 {
     if wide(n) < Table::CLIENTS {
         ClientCheck::Known(Client(n))

@@ -1,20 +1,20 @@
 // Code 11: whether the joinee may be joined.
-ghost use mathlib.Core.Path.{_≡_};
-ghost use Prim.Native.Nat.{_<_};
-ghost use lib.ListN.{length};
-ghost use Rattle·cells.specs.Sizes.{lowerBytes, revisions};
-ghost use Rattle·checks·specs.specs.Answers.{joinableCheck};
+ghost use Rattle.std.specs.Prelude.{◌≡◌, ◌<◌, length};
+ghost use Rattle.cells.specs.Sizes.{lower_bytes, revisions};
+ghost use Rattle.checks.specs.Answers.{joinable_check};
+
 use fields::read;
 use sizes::numbers::Revision;
 
+#[derive(Drop)]
 pub enum JoinableCheck {
     Joinable,
     Not,
 }
 
 pub fn check_joinable(d: &[u8], a: Revision, b: Revision) -> JoinableCheck
-    requires { ⌜ (length (now d) ≡ lowerBytes) × (a .0 < revisions) × (b .0 < revisions) ⌝ }
-    ensures { λ r. ⌜ r ≡ joinableCheck (now (d .entry)) (a .0) (b .0) ⌝ }
+    requires { (length d.now ≡ lower_bytes) × (a.0 < revisions) × (b.0 < revisions) }
+    ensures { result ≡ joinable_check d.now a.0 b.0 }
 {
     if b.0 == 0 {
         return JoinableCheck::Not;

@@ -1,6 +1,8 @@
 // The checks that the first 40,960 bytes of a table decide, a file for each code of 01. Knows nothing of what an update does.
 // The other codes are checked where their inputs are known: 1 in `ranges` range.rt and `table` sound.rt, 5 in `updates` kind.rt and `table` bib.rt, 12 in `listing` list.rt,
 // 13 in `dayfile` record.rt and in `report`, 14 in `bundles` check.rt.
+#![tactic(auto)]
+
 pub mod bearer; // bearer.rt: code 18
 pub mod busy; // busy.rt: code 7
 pub mod client; // client.rt: code 2

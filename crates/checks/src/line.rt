@@ -1,11 +1,12 @@
 // Code 15 (02, U8): whether a fork of r, or a join into it, is off the line of a single-main day; and whether a mark is (U9).
-ghost use mathlib.Core.Path.{_≡_};
-ghost use lib.ListN.{length};
-ghost use Rattle·cells.specs.Sizes.{lowerBytes};
-ghost use Rattle·checks·specs.specs.Answers.{lineCheck, markLineCheck};
+ghost use Rattle.std.specs.Prelude.{◌≡◌, length};
+ghost use Rattle.cells.specs.Sizes.{lower_bytes};
+ghost use Rattle.checks.specs.Answers.{line_check, mark_line_check};
+
 use fields::read;
 use sizes::numbers::Revision;
 
+#[derive(Drop)]
 pub enum LineCheck {
     On,
     Off,
@@ -13,8 +14,8 @@ pub enum LineCheck {
 
 // For a mark: "Single-main days have no marks".
 pub fn check_line_of_mark(d: &[u8]) -> LineCheck
-    requires { ⌜ length (now d) ≡ lowerBytes ⌝ }
-    ensures { λ a. ⌜ a ≡ markLineCheck (now (d .entry)) ⌝ }
+    requires { length d.now ≡ lower_bytes }
+    ensures { result ≡ mark_line_check d.now }
 {
     if read::single(d) {
         return LineCheck::Off;
@@ -23,8 +24,8 @@ pub fn check_line_of_mark(d: &[u8]) -> LineCheck
 }
 
 pub fn check_line(d: &[u8], r: Revision) -> LineCheck
-    requires { ⌜ length (now d) ≡ lowerBytes ⌝ }
-    ensures { λ a. ⌜ a ≡ lineCheck (now (d .entry)) (r .0) ⌝ }
+    requires { length d.now ≡ lower_bytes }
+    ensures { result ≡ line_check d.now r.0 }
 {
     if r.0 == 0 {
         return LineCheck::On;

@@ -1,19 +1,20 @@
 // Code 9: whether the log has room.
-ghost use mathlib.Core.Path.{_≡_};
-ghost use lib.ListN.{length};
-ghost use Rattle·cells.specs.Sizes.{lowerBytes};
-ghost use Rattle·checks·specs.specs.Answers.{logCheck};
+ghost use Rattle.std.specs.Prelude.{◌≡◌, length};
+ghost use Rattle.cells.specs.Sizes.{lower_bytes};
+ghost use Rattle.checks.specs.Answers.{log_check};
+
 use fields::read;
 use sizes::table::Table;
 
+#[derive(Drop)]
 pub enum LogCheck {
     Room,
     Full,
 }
 
 pub fn check_log(d: &[u8]) -> LogCheck
-    requires { ⌜ length (now d) ≡ lowerBytes ⌝ }
-    ensures { λ a. ⌜ a ≡ logCheck (now (d .entry)) ⌝ }
+    requires { length d.now ≡ lower_bytes }
+    ensures { result ≡ log_check d.now }
 {
     if read::updates(d) < Table::UPDATES {
         return LogCheck::Room;

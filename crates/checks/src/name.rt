@@ -1,11 +1,9 @@
 // Code 17 (02, U9): whether a name may be given to a mark: four letters, and not in use.
-ghost use mathlib.Core.Bool.{_&&_};
-ghost use mathlib.Core.Path.{_≡_};
-ghost use lib.Dec.{ltb};
-ghost use lib.ListN.{length};
-ghost use Rattle·lists.specs.Names.{fourLetters};
-ghost use Rattle·cells.specs.Sizes.{lowerBytes};
-ghost use Rattle·checks·specs.specs.Answers.{nameCheck};
+ghost use Rattle.std.specs.Prelude.{◌&&◌, ◌≡◌, ltb, length};
+ghost use Rattle.lists.specs.Names.{four_letters};
+ghost use Rattle.cells.specs.Sizes.{lower_bytes};
+ghost use Rattle.checks.specs.Answers.{name_check};
+
 use crate::bearer;
 use crate::bearer::BearerCheck;
 use sizes::table::Table;
@@ -15,20 +13,21 @@ const FIRST: u8 = 65;
 
 const LAST: u8 = 90;
 
+#[derive(Drop)]
 pub enum NameCheck {
     Fit,
     Bad,
 }
 
 fn is_letter(b: u8) -> bool
-    ensures { λ r. ⌜ r ≡ (ltb 64 b && ltb b 91) ⌝ }
+    ensures { result ≡ (ltb 64 b && ltb b 91) }
 {
     (FIRST <= b) & (b <= LAST)
 }
 
 // Whether the name, which may be of any length, is four letters.
 fn is_four_letters(name: &[u8]) -> bool
-    ensures { λ r. ⌜ r ≡ fourLetters (now (name .entry)) ⌝ }
+    ensures { result ≡ four_letters name.now }
 {
     if name.len() != Table::NAME {
         return false;
@@ -37,8 +36,8 @@ fn is_four_letters(name: &[u8]) -> bool
 }
 
 pub fn check_name(d: &[u8], name: &[u8]) -> NameCheck
-    requires { ⌜ length (now d) ≡ lowerBytes ⌝ }
-    ensures { λ a. ⌜ a ≡ nameCheck (now (d .entry)) (now (name .entry)) ⌝ }
+    requires { length d.now ≡ lower_bytes }
+    ensures { result ≡ name_check d.now name.now }
 {
     if !is_four_letters(name) {
         return NameCheck::Bad;

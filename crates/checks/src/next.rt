@@ -1,14 +1,15 @@
 // Code 10: the next revision number, if one is left.
-ghost use mathlib.Core.Path.{_≡_};
-ghost use lib.ListN.{length};
-ghost use Rattle·cells.specs.Sizes.{lowerBytes};
-ghost use Rattle·cells.specs.Cells.{nextNumber};
-ghost use Rattle·cells.specs.Decode.{cells};
-ghost use Rattle·checks·specs.specs.Answers.{nextCheck};
+ghost use Rattle.std.specs.Prelude.{◌≡◌, length};
+ghost use Rattle.cells.specs.Sizes.{lower_bytes};
+ghost use Rattle.cells.specs.Cells.{next_number};
+ghost use Rattle.cells.specs.Decode.{cells};
+ghost use Rattle.checks.specs.Answers.{next_check};
+
 use fields::read;
 use sizes::numbers::Revision;
 use sizes::table::Table;
 
+#[derive(Drop)]
 pub enum NextCheck {
     Next(Revision),
     Exhausted,
@@ -16,8 +17,8 @@ pub enum NextCheck {
 
 // A number never used while there is one, else the number joined longest ago. On a table in range it is 1 to 63.
 pub fn next(d: &[u8]) -> Revision
-    requires { ⌜ length (now d) ≡ lowerBytes ⌝ }
-    ensures { λ c. ⌜ c ≡ record { 0 = nextNumber (cells (now (d .entry))) } ⌝ }
+    requires { length d.now ≡ lower_bytes }
+    ensures { result ≡ record { 0 = next_number (cells d.now) } }
 {
     let given = read::given(d);
     if given < Table::REVISIONS {
@@ -27,8 +28,8 @@ pub fn next(d: &[u8]) -> Revision
 }
 
 pub fn check_next(d: &[u8]) -> NextCheck
-    requires { ⌜ length (now d) ≡ lowerBytes ⌝ }
-    ensures { λ a. ⌜ a ≡ nextCheck (now (d .entry)) ⌝ }
+    requires { length d.now ≡ lower_bytes }
+    ensures { result ≡ next_check d.now }
 {
     if Table::REVISIONS <= read::out(d) {
         return NextCheck::Exhausted;

@@ -1,21 +1,20 @@
 // Code 8: whether the client has caught up with the revision.
-ghost use mathlib.Core.Path.{_≡_};
-ghost use Prim.Native.Nat.{_<_};
-ghost use lib.ListN.{length};
-ghost use Rattle·cells.specs.Sizes.{lowerBytes, clients, revisions};
-ghost use Rattle·checks·specs.specs.Answers.{staleCheck};
-use fields::read;
-use sizes::numbers::Client;
-use sizes::numbers::Revision;
+ghost use Rattle.std.specs.Prelude.{◌≡◌, ◌<◌, length};
+ghost use Rattle.cells.specs.Sizes.{lower_bytes, clients, revisions};
+ghost use Rattle.checks.specs.Answers.{stale_check};
 
+use fields::read;
+use sizes::numbers::{Client, Revision};
+
+#[derive(Drop)]
 pub enum StaleCheck {
     CaughtUp,
     Stale,
 }
 
 pub fn check_stale(d: &[u8], c: Client, r: Revision) -> StaleCheck
-    requires { ⌜ (length (now d) ≡ lowerBytes) × (c .0 < clients) × (r .0 < revisions) ⌝ }
-    ensures { λ a. ⌜ a ≡ staleCheck (now (d .entry)) (c .0) (r .0) ⌝ }
+    requires { (length d.now ≡ lower_bytes) × (c.0 < clients) × (r.0 < revisions) }
+    ensures { result ≡ stale_check d.now c.0 r.0 }
 {
     if read::caught(d, c, r) {
         return StaleCheck::CaughtUp;

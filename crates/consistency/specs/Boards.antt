@@ -1,32 +1,28 @@
 -- 02, U10, at a table made fresh: "On a day as in demand 3, a board that was right before any call, and is lent to it if it takes one, is right after it". What
 -- is right is said on the plain day (crate `plain`).
-use Prim.Native.Nat.{ℕ}
-use mathlib.Core.Bool.{Bool, true, false, cond}
-use mathlib.Core.Path.{_≡_}
-use mathlib.Core.List.{List, [], _∷_, _++_}
-use lib.ListN.{length}
-use Rattle·boards.specs.Board.{boardBytes}
-use Rattle·desk.specs.Calls.{Call, Update, Query, Yield, Fork, Join, Sync, Mark, Drop, Bundle, Looks, callOn}
-use Rattle·plain.specs.Record.{PlainDay}
-use Rattle·plain.specs.Answers.{called, dayAfter}
-use Rattle·plain.specs.Boards.{Brings, Right}
-use Rattle·table.specs.Out.{tableBytes}
-use Rattle·table.specs.Calls.{freshBoard, freshOut}
-use Rattle·table.specs.Served.{served}
-use Rattle·consistency·specs.specs.Table.{calls}
+use Rattle.std.specs.Prelude.{ℕ, Bool, true, false, cond, ◌≡◌, List, [], ◌∷◌, ◌++◌, length}
+use Rattle.boards.specs.Board.{board_bytes}
+use Rattle.desk.specs.Calls.{Call, Update, Query, Yield, Fork, Join, Sync, Mark, Drop, Bundle, Looks, call_on}
+use Rattle.plain.specs.Record.{PlainDay}
+use Rattle.plain.specs.Answers.{called, day_after}
+use Rattle.plain.specs.Boards.{Brings, Right}
+use Rattle.table.specs.Out.{table_bytes}
+use Rattle.table.specs.Calls.{fresh_board, fresh_out}
+use Rattle.table.specs.Served.{served}
+use Rattle.consistency.specs.Table.{calls}
 
 -- "Fresh, yield, bundle, join and sync take it, no other call"
-abbrev pub takesBoard : Call (List ℕ) → Bool
-takesBoard (Update c n k bib v) = false
-takesBoard (Query c n bib) = false
-takesBoard (Yield c board) = true
-takesBoard (Fork n) = false
-takesBoard (Join n m board) = true
-takesBoard (Sync m board) = true
-takesBoard (Mark n name) = false
-takesBoard (Drop name) = false
-takesBoard (Bundle c n batch board) = true
-takesBoard (Looks l) = false
+abbrev pub takes_board : Call (List ℕ) → Bool
+takes_board (Update c n k bib v) = false
+takes_board (Query c n bib) = false
+takes_board (Yield c board) = true
+takes_board (Fork n) = false
+takes_board (Join n m board) = true
+takes_board (Sync m board) = true
+takes_board (Mark n name) = false
+takes_board (Drop name) = false
+takes_board (Bundle c n batch board) = true
+takes_board (Looks l) = false
 
 -- "is lent to it if it takes one": the call with this board
 abbrev pub lent : List ℕ → Call (List ℕ) → Call (List ℕ)
@@ -42,31 +38,31 @@ lent board (Bundle c n batch other) = Bundle c n batch board
 lent board (Looks l) = Looks l
 
 -- the board after a call that it was lent to; a board that is not lent stays
-abbrev pub boardLeft : List ℕ → Call (List ℕ) → List ℕ → List ℕ
-boardLeft t q board = cond (takesBoard q) (served t (lent board q) .board) board
+abbrev pub board_left : List ℕ → Call (List ℕ) → List ℕ → List ℕ
+board_left t q board = cond (takes_board q) (served t (lent board q)).board board
 
 -- the day after a call with this board
-abbrev pub dayNext : PlainDay → Call (List ℕ) → List ℕ → PlainDay
-dayNext p q board = called p (callOn length (lent board q)) .next
+abbrev pub day_next : PlainDay → Call (List ℕ) → List ℕ → PlainDay
+day_next p q board = (called p (call_on length (lent board q))).next
 
 -- any call at table t, which stands for day p; refused ones too
 pub record KeepsBoard (p : PlainDay) (t : List ℕ) (q : Call (List ℕ)) (board : List ℕ) : Type 0 where
-  pub stays-right : Right p board → Right (dayNext p q board) (boardLeft t q board)
+  pub stays_right : Right p board → Right (day_next p q board) (board_left t q board)
   -- what becomes of a board that was right or not
-  pub brings : length board ≡ boardBytes → Brings p (dayNext p q board) board (boardLeft t q board)
+  pub brings : length board ≡ board_bytes → Brings p (day_next p q board) board (board_left t q board)
 
 -- calls that each have the board lent as the last one left it, and that board at their end
-unfoldable pub lentAll : List ℕ → List ℕ → List (Call (List ℕ)) → List (Call (List ℕ))
-lentAll t board [] = []
-lentAll t board (q ∷ qs) = lent board q ∷ lentAll (served t (lent board q) .table) (boardLeft t q board) qs
+unfoldable pub lent_all : List ℕ → List ℕ → List (Call (List ℕ)) → List (Call (List ℕ))
+lent_all t board [] = []
+lent_all t board (q ∷ qs) = lent board q ∷ lent_all (served t (lent board q)).table (board_left t q board) qs
 
-unfoldable pub boardFrom : List ℕ → List ℕ → List (Call (List ℕ)) → List ℕ
-boardFrom t board [] = board
-boardFrom t board (q ∷ qs) = boardFrom (served t (lent board q) .table) (boardLeft t q board) qs
+unfoldable pub board_from : List ℕ → List ℕ → List (Call (List ℕ)) → List ℕ
+board_from t board [] = board
+board_from t board (q ∷ qs) = board_from (served t (lent board q)).table (board_left t q board) qs
 
 -- "Fresh clears it", and then it is right at every moment
 abbrev pub RightThroughout : Type 0
 RightThroughout =
-    (t : List ℕ) → length t ≡ tableBytes → (single : Bool) (board : List ℕ) → length board ≡ boardBytes
+    (t : List ℕ) → length t ≡ table_bytes → (single : Bool) (board : List ℕ) → length board ≡ board_bytes
     → (qs before rest : List (Call (List ℕ))) → qs ≡ before ++ rest
-    → Right (dayAfter single (calls (lentAll (freshOut t single (length board) .lent) (freshBoard t single board) before))) (boardFrom (freshOut t single (length board) .lent) (freshBoard t single board) before)
+    → Right (day_after single (calls (lent_all (fresh_out t single (length board)).lent (fresh_board t single board) before))) (board_from (fresh_out t single (length board)).lent (fresh_board t single board) before)

@@ -1,24 +1,20 @@
 -- 01, "Edges of a race day", and those of 02, at a table.
-use Prim.Native.Nat.{ℕ}
-use mathlib.Core.Bool.{Bool, true, false}
-use mathlib.Core.Path.{_≡_}
-use mathlib.Core.List.{List, [], _∷_}
-use lib.ListN.{length, replicate}
-use Rattle·desk.specs.Calls.{callsOn}
-use Rattle·plain.specs.Edges.{Edge, Said, edges, codes, reused, marks, onLine, orders, boards, bills, expected, said}
-use Rattle·boards.specs.Board.{boardBytes}
-use Rattle·table.specs.Out.{tableBytes}
-use Rattle·table.specs.Calls.{freshOut}
-use Rattle·consistency·specs.specs.Table.{repliesOn}
+use Rattle.std.specs.Prelude.{ℕ, Bool, true, false, ◌≡◌, List, [], ◌∷◌, length, replicate}
+use Rattle.desk.specs.Calls.{calls_on}
+use Rattle.plain.specs.Edges.{Edge, Said, edges, codes, reused, marks, on_line, orders, boards, bills, expected, said}
+use Rattle.boards.specs.Board.{board_bytes}
+use Rattle.table.specs.Out.{table_bytes}
+use Rattle.table.specs.Calls.{fresh_out}
+use Rattle.consistency.specs.Table.{replies_on}
 
 -- the starred edges at a table; a list is given a sheet of zeros, and so is a call that takes a board
-abbrev pub computedOn : List ℕ → Bool → List Edge → List (List Said)
-computedOn t single [] = []
-computedOn t single (e ∷ es) = said (repliesOn (freshOut t single boardBytes .lent) (callsOn (λ room. replicate room 0) (e .calls))) ∷ computedOn t single es
+abbrev pub computed_on : List ℕ → Bool → List Edge → List (List Said)
+computed_on t single [] = []
+computed_on t single (e ∷ es) = said (replies_on (fresh_out t single board_bytes).lent (calls_on (λ room. replicate room 0) e.calls)) ∷ computed_on t single es
 
 abbrev pub EdgesHold : Type 0
 EdgesHold =
-    (t : List ℕ) → length t ≡ tableBytes
-    → (computedOn t false edges ≡ expected edges) × (computedOn t false codes ≡ expected codes) × (computedOn t false reused ≡ expected reused) × (computedOn t false marks ≡ expected marks)
-    × (computedOn t true onLine ≡ expected onLine) × (computedOn t false orders ≡ expected orders) × (computedOn t false boards ≡ expected boards)
-    × (computedOn t false bills ≡ expected bills)
+    (t : List ℕ) → length t ≡ table_bytes
+    → (computed_on t false edges ≡ expected edges) × (computed_on t false codes ≡ expected codes) × (computed_on t false reused ≡ expected reused) × (computed_on t false marks ≡ expected marks)
+    × (computed_on t true on_line ≡ expected on_line) × (computed_on t false orders ≡ expected orders) × (computed_on t false boards ≡ expected boards)
+    × (computed_on t false bills ≡ expected bills)

@@ -1,39 +1,39 @@
 -- What a good file is: its header and its length fit, and each of its records is whole.
-use Prim.Native.Nat.{ℕ, _+_, _*_, _≤_, _<_}
+use Prim.Native.Nat.{ℕ, ◌+◌, ◌*◌, ◌≤◌, ◌<◌}
 use mathlib.Core.Bool.{false}
-use mathlib.Core.Path.{_≡_, sym, _∙_, ap}
+use mathlib.Core.Path.{◌≡◌, sym, ◌∙◌, ap}
 use mathlib.Core.List.{List}
 use native.Mathlib.Omega.{arith}
 use lib.Dec.{eqb, ltb}
 use lib.ListN.{length, take, drop}
 use borrow.Author.Tests.{ltb-false, eqb-true, not-false, le-leb}
-use Rattle·lists.proofs.Cases.{or-false}
-use Rattle·lists.proofs.Told.{failed}
-use Rattle·dayfile·specs.specs.File.{stepCount, offset, isBad, fileCheck}
-use Rattle·dayfile·specs.specs.Record.{stepAt, stepOf}
-use Rattle·dayfile·specs.specs.declared.file.FileCheck.the-variants.{Good, Bad}
+use Rattle.lists.proofs.Cases.{or-false}
+use Rattle.lists.proofs.Told.{failed}
+use Rattle.dayfile.specs.File.{step_count, offset, is_bad, file_check}
+use Rattle.dayfile.specs.Record.{step_at, step_of}
+use Rattle.dayfile.specs.declared.file.FileCheck.TheVariants.{Good, Bad}
 
-module _ (f : List ℕ) (n : ℕ) (h : fileCheck f ≡ Good n) where
-  good : (isBad f ≡ false) × (Good (stepCount f) ≡ Good n)
-  unfolding fileCheck
-  good = failed (isBad f) Bad (Good (stepCount f)) (Good n) (λ e. cc) h
+module _ (f : List ℕ) (n : ℕ) (h : file_check f ≡ Good n) where
+  good : (is_bad f ≡ false) × (Good (step_count f) ≡ Good n)
+  unfolding file_check
+  good = failed (is_bad f) Bad (Good (step_count f)) (Good n) (λ e. cc) h
 
-  pub count-is : stepCount f ≡ n
-  count-is = cc (good .1)
+  pub count-is : step_count f ≡ n
+  count-is = cc good.1
 
   pub header-fits : (8 ≤ offset f) × (offset f + 12 * n ≡ length f) × (length f ≤ 65536)
   header-fits =
-      let a = or-false (ltb (length f) 8) _ (good .0) in
-      let b = or-false (ltb 65536 (length f)) _ (a .1) in
-      let c = or-false (ltb (offset f) 8) _ (b .1) in
-      let e = eqb-true (offset f + 12 * stepCount f) (length f) (not-false (eqb (offset f + 12 * stepCount f) (length f)) (c .1)) in
-      (ltb-false (offset f) 8 (c .0), ap (λ k. offset f + 12 * k) (sym count-is) ∙ e, ltb-false 65536 (length f) (b .0))
+      let a = or-false (ltb (length f) 8) _ good.0 in
+      let b = or-false (ltb 65536 (length f)) _ a.1 in
+      let c = or-false (ltb (offset f) 8) _ b.1 in
+      let e = eqb-true (offset f + 12 * step_count f) (length f) (not-false (eqb (offset f + 12 * step_count f) (length f)) c.1) in
+      (ltb-false (offset f) 8 c.0, ap (λ k. offset f + 12 * k) (sym count-is) ∙ e, ltb-false 65536 (length f) b.0)
 
   -- 5,460 records at most
   pub count-bound : n ≤ 5460
   count-bound = let g = header-fits in omega arith
 
   -- no record of a good file is unknown for want of bytes
-  pub record-whole : (i : ℕ) → i < n → stepAt f i ≡ stepOf (take 12 (drop (offset f + 12 * i) f))
-  unfolding stepAt
+  pub record-whole : (i : ℕ) → i < n → step_at f i ≡ step_of (take 12 (drop (offset f + 12 * i) f))
+  unfolding step_at
   record-whole i l = let g = header-fits in simp (le-leb (offset f + 12 * i + 12) (length f) (omega arith))

@@ -1,8 +1,10 @@
 // The check of the file: header and length.
-ghost use mathlib.Core.Path.{_≡_};
-ghost use Rattle·dayfile·specs.specs.File.{fileCheck};
+ghost use Rattle.std.specs.Prelude.{◌≡◌};
+ghost use Rattle.dayfile.specs.File.{file_check};
+
 use buffers::numbers::read;
 
+#[derive(Drop)]
 pub struct File;
 
 impl File {
@@ -20,6 +22,7 @@ impl File {
 }
 
 // The count of steps, or that the file is bad.
+#[derive(Drop)]
 pub enum FileCheck {
     Good(u32),
     Bad,
@@ -27,7 +30,7 @@ pub enum FileCheck {
 
 // The sum is made in 64 bits: no count wraps into a fit.
 pub fn check_file(f: &[u8]) -> FileCheck
-    ensures { λ r. ⌜ r ≡ fileCheck (now (f .entry)) ⌝ }
+    ensures { result ≡ file_check f.now }
 {
     if f.len() < File::HEADER {
         return FileCheck::Bad;

@@ -1,21 +1,21 @@
 // Twelve bytes decoded: every twelve bytes are some step.
-ghost use mathlib.Core.Path.{_≡_};
-ghost use lib.ListN.{length};
-ghost use Rattle·dayfile·specs.specs.Record.{queryOf, stepOf, updateOf};
-ghost use Rattle·dayfile·specs.specs.Record.{bib as Record·bib};
+ghost use Rattle.std.specs.Prelude.{◌≡◌, length};
+ghost use Rattle.dayfile.specs.Record.{query_of, step_of, update_of};
+ghost use Rattle.dayfile.specs.Record.{bib as Record·bib};
+
 use crate::step::Step;
 use buffers::numbers::read;
 
 fn bib(p: &[u8]) -> u16
-    requires { ⌜ length (now p) ≡ 12 ⌝ }
-    ensures { λ r. ⌜ r ≡ Record·bib (now (p .entry)) ⌝ }
+    requires { length p.now ≡ 12 }
+    ensures { result ≡ Record·bib p.now }
 {
     read(&p[4..6]) as u16
 }
 
 fn update(p: &[u8]) -> Step
-    requires { ⌜ length (now p) ≡ 12 ⌝ }
-    ensures { λ s. ⌜ s ≡ updateOf (now (p .entry)) ⌝ }
+    requires { length p.now ≡ 12 }
+    ensures { result ≡ update_of p.now }
 {
     let v = read(&p[8..12]) as u32;
     Step::Update {
@@ -28,8 +28,8 @@ fn update(p: &[u8]) -> Step
 }
 
 fn query(p: &[u8]) -> Step
-    requires { ⌜ length (now p) ≡ 12 ⌝ }
-    ensures { λ s. ⌜ s ≡ queryOf (now (p .entry)) ⌝ }
+    requires { length p.now ≡ 12 }
+    ensures { result ≡ query_of p.now }
 {
     Step::Query {
         client: p[1],
@@ -40,8 +40,8 @@ fn query(p: &[u8]) -> Step
 
 // Fields that a step does not use are not looked at.
 pub(crate) fn decode(p: &[u8]) -> Step
-    requires { ⌜ length (now p) ≡ 12 ⌝ }
-    ensures { λ s. ⌜ s ≡ stepOf (now (p .entry)) ⌝ }
+    requires { length p.now ≡ 12 }
+    ensures { result ≡ step_of p.now }
 {
     let step = p[0];
     match step {

@@ -1,11 +1,13 @@
 // A step of a day, and the step of a record by its index.
-ghost use mathlib.Core.Path.{_≡_};
-ghost use Rattle·dayfile·specs.specs.Record.{stepAt};
+ghost use Rattle.std.specs.Prelude.{◌≡◌};
+ghost use Rattle.dayfile.specs.Record.{step_at};
+
 use crate::file::File;
 use crate::record::decode;
 use buffers::numbers::read;
 
 // Revision: 01's box. Client: 01's tablet. The numbers are as the file has them, of any size.
+#[derive(Drop)]
 pub enum Step {
     Update {
         client: u8,
@@ -27,7 +29,7 @@ pub enum Step {
 
 // Where the file has no whole record of that index, the step is unknown (01: strange step).
 pub fn step_at(f: &[u8], i: u32) -> Step
-    ensures { λ s. ⌜ s ≡ stepAt (now (f .entry)) i ⌝ }
+    ensures { result ≡ step_at f.now i }
 {
     if f.len() < File::HEADER {
         return Step::Unknown;

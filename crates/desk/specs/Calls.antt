@@ -1,18 +1,14 @@
 -- The calls and what they answer with: 01, "Codes of the desk" and "Listing a box"; 02, U1, U2, U4, U6, U8, U9, U10, U13 and U14. On paper a sheet or a board
 -- is told by its length, at a table it is bytes.
-use Prim.Native.Nat.{ℕ}
-use mathlib.Core.Bool.{Bool, _||_}
-use mathlib.Core.List.{List}
-use lib.Dec.{eqb, ltb}
-use lib.ListN.{length}
-use Rattle·lists.specs.Lists.{mapped}
-use Rattle·lists.specs.Names.{Name}
-use Rattle·bundles.specs.declared.entry.Entry as Sent
-use Rattle·bundles.specs.Records.{entriesIn, isWrong}
-use Rattle·updates.specs.declared.standing.Standing.{Standing}
-use Rattle·updates.specs.declared.standing.State.{State}
-use Rattle·updates.specs.declared.standing.State.the-variants.{Neither}
-use Rattle·updates.specs.Effect.{stateOf, valueIn}
+use Rattle.std.specs.Prelude.{ℕ, Bool, ◌||◌, List, eqb, ltb, length}
+use Rattle.lists.specs.Lists.{mapped}
+use Rattle.lists.specs.Names.{Name}
+use Rattle.bundles.specs.declared.entry.Entry as Sent
+use Rattle.bundles.specs.Records.{entries_in, is_wrong}
+use Rattle.updates.specs.declared.standing.Standing.{Standing}
+use Rattle.updates.specs.declared.standing.State.{State}
+use Rattle.updates.specs.declared.standing.State.TheVariants.{Neither}
+use Rattle.updates.specs.Effect.{state_of, value_in}
 
 -- 02, U4: "first as 12-byte records, then as a lent list of entries"
 pub data Batch : Type 0 where
@@ -20,13 +16,13 @@ pub data Batch : Type 0 where
   Entries : List Sent.Entry → Batch
 
 -- the entries of a batch, and 14: "if the count is 0 or above 64 or the bytes aren't a multiple of 12"
-abbrev pub entriesOf : Batch → List Sent.Entry
-entriesOf (Records bytes) = entriesIn bytes
-entriesOf (Entries es) = es
+abbrev pub entries_of : Batch → List Sent.Entry
+entries_of (Records bytes) = entries_in bytes
+entries_of (Entries es) = es
 
-abbrev pub isWrongBatch : Batch → Bool
-isWrongBatch (Records bytes) = isWrong bytes
-isWrongBatch (Entries es) = eqb (length es) 0 || ltb 64 (length es)
+abbrev pub is_wrong_batch : Batch → Bool
+is_wrong_batch (Records bytes) = is_wrong bytes
+is_wrong_batch (Entries es) = eqb (length es) 0 || ltb 64 (length es)
 
 -- arguments as they come, of any size. Calls that only look:
 pub data Look (Sheet : Type 0) : Type 0 where
@@ -55,24 +51,24 @@ pub data Call (Sheet : Type 0) : Type 0 where
   Looks : Look Sheet → Call Sheet
 
 -- the same call with another sheet or board: "(of a sheet only the length)"
-abbrev pub callOn : {S R : Type 0} → (S → R) → Call S → Call R
-callOn f (Update c n k bib v) = Update c n k bib v
-callOn f (Query c n bib) = Query c n bib
-callOn f (Yield c board) = Yield c (f board)
-callOn f (Fork n) = Fork n
-callOn f (Join n m board) = Join n m (f board)
-callOn f (Sync m board) = Sync m (f board)
-callOn f (Mark n name) = Mark n name
-callOn f (Drop name) = Drop name
-callOn f (Bundle c n batch board) = Bundle c n batch (f board)
-callOn f (Looks (Show n sheet)) = Looks (Show n (f sheet))
-callOn f (Looks (Fill n)) = Looks (Fill n)
-callOn f (Looks (Preview n m bib)) = Looks (Preview n m bib)
-callOn f (Looks (Verify file)) = Looks (Verify file)
-callOn f (Looks (Bill member)) = Looks (Bill member)
+abbrev pub call_on : {S R : Type 0} → (S → R) → Call S → Call R
+call_on f (Update c n k bib v) = Update c n k bib v
+call_on f (Query c n bib) = Query c n bib
+call_on f (Yield c board) = Yield c (f board)
+call_on f (Fork n) = Fork n
+call_on f (Join n m board) = Join n m (f board)
+call_on f (Sync m board) = Sync m (f board)
+call_on f (Mark n name) = Mark n name
+call_on f (Drop name) = Drop name
+call_on f (Bundle c n batch board) = Bundle c n batch (f board)
+call_on f (Looks (Show n sheet)) = Looks (Show n (f sheet))
+call_on f (Looks (Fill n)) = Looks (Fill n)
+call_on f (Looks (Preview n m bib)) = Looks (Preview n m bib)
+call_on f (Looks (Verify file)) = Looks (Verify file)
+call_on f (Looks (Bill member)) = Looks (Bill member)
 
-abbrev pub callsOn : {S R : Type 0} → (S → R) → List (Call S) → List (Call R)
-callsOn f cs = mapped (callOn f) cs
+abbrev pub calls_on : {S R : Type 0} → (S → R) → List (Call S) → List (Call R)
+calls_on f cs = mapped (call_on f) cs
 
 -- "Each call's code and all that it answers with, and the entries a taken list writes"
 pub record Answer (Sheet : Type 0) : Type 0 where
@@ -92,11 +88,11 @@ plainly code value sheet = record { code = code; state = Neither; value = value;
 
 -- "the state .. with the value, 0 if struck"
 abbrev pub reading : {S : Type 0} → Standing → ℕ → S → Answer S
-reading s gain sheet = record { code = 0; state = stateOf s; value = valueIn s; total = 0; gain = gain; sheet = sheet }
+reading s gain sheet = record { code = 0; state = state_of s; value = value_in s; total = 0; gain = gain; sheet = sheet }
 
 -- a fill's two numbers
 abbrev pub level : {S : Type 0} → ℕ → ℕ → S → Answer S
 level own total sheet = record { code = 0; state = Neither; value = own; total = total; gain = 0; sheet = sheet }
 
-abbrev pub answerOn : {S R : Type 0} → (S → R) → Answer S → Answer R
-answerOn f a = record { code = a .code; state = a .state; value = a .value; total = a .total; gain = a .gain; sheet = f (a .sheet) }
+abbrev pub answer_on : {S R : Type 0} → (S → R) → Answer S → Answer R
+answer_on f a = record { code = a.code; state = a.state; value = a.value; total = a.total; gain = a.gain; sheet = f a.sheet }

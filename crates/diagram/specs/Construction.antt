@@ -1,20 +1,17 @@
 -- 002, Definition 6, with the join rule of 01: the steps by which a revision diagram is made.
-use Prim.Native.Nat.{ℕ}
-use mathlib.Core.Path.{_≡_}
-use mathlib.Core.Option.{Option, some}
-use mathlib.Core.List.{[], _∷_}
-use lib.ListN.{length}
-use Rattle·diagram·specs.specs.Diagram.{root, start, event, fork, join, Diagram, HasPath, Terminal}
-use Rattle·diagram·specs.specs.Effects.{startVertex, forkVertex}
+use Rattle.std.specs.Prelude.{ℕ, ◌≡◌, [], ◌∷◌, length}
+use Rattle.std.proofs.Math.Option.{Option, some}
+use Rattle.diagram.specs.Diagram.{root, start, event, fork, join, Diagram, HasPath, Terminal}
+use Rattle.diagram.specs.Effects.{start_vertex, fork_vertex}
 
 -- 01, "Diagram": "It is allowed only if a path leads from the fork vertex that started the joinee to the joiner's line
 -- end, and none from the joinee's own start vertex." Definition 6 has only the first half. The main revision has no
 -- fork vertex, and so is no joinee; the joiner sees its own start, and so is not its own joinee.
 pub record Joinable (d : Diagram) (joiner joinee : ℕ) : Type 0 where
-  pub started-by : ℕ
-  pub is-fork : forkVertex d joinee ≡ some started-by
-  pub fork-seen : HasPath d started-by joiner
-  pub start-unseen : HasPath d (startVertex d joinee) joiner → ⊥
+  pub started_by : ℕ
+  pub is_fork : fork_vertex d joinee ≡ some started_by
+  pub fork_seen : HasPath d started_by joiner
+  pub start_unseen : HasPath d (start_vertex d joinee) joiner → ⊥
 
 -- "a directed graph constructed by applying a .. sequence of the following construction steps .. to a single initial
 -- start vertex (called the root)"
@@ -25,4 +22,4 @@ pub data Constructed : Diagram → Type 0 where
   -- Fork
   forked : {d : Diagram} {t : ℕ} → Constructed d → Terminal d t → Constructed (start (length d) ∷ fork t ∷ d)
   -- Join
-  joined : {d : Diagram} {t t′ : ℕ} → Constructed d → Terminal d t → Terminal d t′ → Joinable d t t′ → Constructed (join t t′ ∷ d)
+  joined : {d : Diagram} {t t' : ℕ} → Constructed d → Terminal d t → Terminal d t' → Joinable d t t' → Constructed (join t t' ∷ d)

@@ -1,16 +1,12 @@
 -- The plain day of revisions: what 01, "The plain day and its line-up", keeps on paper. No bibs, no times, no bytes.
-use Prim.Native.Nat.{ℕ, _<_}
-use mathlib.Core.Bool.{Bool, true, false, cond}
-use mathlib.Core.Path.{_≡_}
-use mathlib.Core.Option.{Option, none, some}
-use mathlib.Core.List.{List, [], _∷_}
-use lib.Dec.{eqb}
-use Rattle·lists.specs.Sums.{anyBelow, lastBelow, sumBelow}
-use Rattle·lists.specs.Names.{Name}
-use Rattle·diagram·specs.specs.Diagram.{root, Diagram}
-use Rattle·diagram·specs.specs.Views.{view}
-use Rattle·diagram·specs.specs.Numbering.{Numbering, freshNumbering, next}
-use Rattle·diagram·specs.specs.Names.{isName}
+use Rattle.std.specs.Prelude.{ℕ, ◌<◌, Bool, true, false, cond, ◌≡◌, List, [], ◌∷◌, eqb}
+use Rattle.std.proofs.Math.Option.{Option, none, some}
+use Rattle.lists.specs.Sums.{any_below, last_below, sum_below}
+use Rattle.lists.specs.Names.{Name}
+use Rattle.diagram.specs.Diagram.{root, Diagram}
+use Rattle.diagram.specs.Views.{view}
+use Rattle.diagram.specs.Numbering.{Numbering, fresh_numbering, next}
+use Rattle.diagram.specs.Names.{is_name}
 
 -- 01, "Words": "A tablet's events between yields form one transaction", in the order entered. `closed` says how many
 -- vertices there were at its yield; a transaction is open until then.
@@ -26,8 +22,8 @@ pub record Day : Type 0 where
   pub diagram : Diagram
   -- how many revisions have been started; the start vertex, fork vertex and terminal (01: line end) of each
   pub revisions : ℕ
-  pub startOf : ℕ → ℕ
-  pub forkOf : ℕ → ℕ
+  pub start_of : ℕ → ℕ
+  pub fork_of : ℕ → ℕ
   pub terminal : ℕ → ℕ
   -- 01: handed in; 02, U9: or dropped
   pub joined : ℕ → Bool
@@ -37,8 +33,8 @@ pub record Day : Type 0 where
   -- how many updates have been taken
   pub updates : ℕ
   -- of each client (01: tablet): its last event and its open transaction
-  pub lastEvent : ℕ → Option ℕ
-  pub openBy : ℕ → Option ℕ
+  pub last_event : ℕ → Option ℕ
+  pub open_by : ℕ → Option ℕ
   -- how many transactions there are, and each of them
   pub transactions : ℕ
   pub transaction : ℕ → Transaction
@@ -48,62 +44,62 @@ abbrev pub fresh : Day
 fresh = record {
   diagram = root ∷ [];
   revisions = 1;
-  startOf = λ r. 0;
-  forkOf = λ r. 0;
+  start_of = λ r. 0;
+  fork_of = λ r. 0;
   terminal = λ r. 0;
   joined = λ r. false;
-  numbering = freshNumbering;
+  numbering = fresh_numbering;
   mark = λ r. none;
   updates = 0;
-  lastEvent = λ c. none;
-  openBy = λ c. none;
+  last_event = λ c. none;
+  open_by = λ c. none;
   transactions = 0;
   transaction = λ t. record { client = 0; revision = 0; events = []; closed = none };
 }
 
 -- 3 "box number not yet given out": whether a revision got the number at its start
-unfoldable pub isGiven : Day → ℕ → Bool
-isGiven y n = anyBelow (y .revisions) (λ r. eqb (y .numbering .of r) n)
+unfoldable pub is_given : Day → ℕ → Bool
+is_given y n = any_below y.revisions (λ r. eqb (y.numbering.of r) n)
 
 -- 02, U7: "A number means the latest box that bore it". Of a number that is not given out no call asks further.
 unfoldable pub meant : Day → ℕ → ℕ
-meant y n = lastBelow (y .revisions) (λ r. eqb (y .numbering .of r) n)
+meant y n = last_below y.revisions (λ r. eqb (y.numbering.of r) n)
 
 -- number n means revision r
 abbrev pub Means : Day → ℕ → ℕ → Type 0
-Means y n r = (isGiven y n ≡ true) × (meant y n ≡ r)
+Means y n r = (is_given y n ≡ true) × (meant y n ≡ r)
 
 -- the number that the next fork gives
-unfoldable pub nextNumber : Day → ℕ
-nextNumber y = next (y .numbering)
+unfoldable pub next_number : Day → ℕ
+next_number y = next y.numbering
 
 -- the number of a revision
-abbrev pub numberOf : Day → ℕ → ℕ
-numberOf y r = y .numbering .of r
+abbrev pub number_of : Day → ℕ → ℕ
+number_of y r = y.numbering.of r
 
 -- 02, U9: whether a mark that is out bears a name; else 18 applies, "no such mark, for a drop"
-unfoldable pub isNamed : Day → Name → Bool
-isNamed y n = anyBelow (y .revisions) (λ r. isName (y .mark r) n)
+unfoldable pub is_named : Day → Name → Bool
+is_named y n = any_below y.revisions (λ r. is_name (y.mark r) n)
 
 -- and which: the latest that does. Of a name that none bears no call asks further.
-unfoldable pub markNamed : Day → Name → ℕ
-markNamed y n = lastBelow (y .revisions) (λ r. isName (y .mark r) n)
+unfoldable pub mark_named : Day → Name → ℕ
+mark_named y n = last_below y.revisions (λ r. is_name (y.mark r) n)
 
 -- 01, "Words": "A box is out until it is handed in by a join"; a mark, until it is dropped
 abbrev pub IsOut : Day → ℕ → Type 0
-IsOut y r = (r < y .revisions) × (y .joined r ≡ false)
+IsOut y r = (r < y.revisions) × (y.joined r ≡ false)
 
 -- 01, "Words": "Busy: a box on which some tablet has an open transaction"
 abbrev pub IsBusy : Day → ℕ → Type 0
-IsBusy y r = (c : ℕ) × (t : ℕ) × (y .openBy c ≡ some t) × (y .transaction t .revision ≡ r)
+IsBusy y r = (c : ℕ) × (t : ℕ) × (y.open_by c ≡ some t) × ((y.transaction t).revision ≡ r)
 
 abbrev pub IsIdle : Day → ℕ → Type 0
 IsIdle y r = IsBusy y r → ⊥
 
 -- what a revision lists: 01, "the updates visible at the line end"
-abbrev pub shownAt : Day → ℕ → List ℕ
-shownAt y r = view (y .diagram) (y .terminal r)
+abbrev pub shown_at : Day → ℕ → List ℕ
+shown_at y r = view y.diagram (y.terminal r)
 
 -- how many are out
-abbrev pub outCount : Day → ℕ
-outCount y = sumBelow (y .revisions) (λ r. cond (y .joined r) 0 1)
+abbrev pub out_count : Day → ℕ
+out_count y = sum_below y.revisions (λ r. cond (y.joined r) 0 1)

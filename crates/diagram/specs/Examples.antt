@@ -1,22 +1,20 @@
 -- No claim rests on this file: computed examples.
 -- 01, "Edges of a race day", as far as revisions go: steps, and which of them are accepted or what they list. A refused
 -- step changes nothing. Last the diagram that shows why the join rule has a second half.
-use Prim.Native.Nat.{ℕ}
-use mathlib.Core.Bool.{Bool, true, false, cond}
-use mathlib.Core.Option.{none, some}
-use mathlib.Core.List.{List, [], _∷_, _++_}
-use Rattle·lists.specs.Names.{Name}
-use Rattle·diagram·specs.specs.Diagram.{Diagram, root, start, event, fork, join}
-use Rattle·diagram·specs.specs.Day.{Day, fresh}
-use Rattle·diagram·specs.specs.Steps.{Step, Event, Yield, Fork, Join, Drop, after}
-use Rattle·diagram·specs.specs.Accepted.{accepted}
+use Rattle.std.specs.Prelude.{ℕ, Bool, true, false, cond, List, [], ◌∷◌, ◌++◌}
+use Rattle.std.proofs.Math.Option.{none, some}
+use Rattle.lists.specs.Names.{Name}
+use Rattle.diagram.specs.Diagram.{Diagram, root, start, event, fork, join}
+use Rattle.diagram.specs.Day.{Day, fresh}
+use Rattle.diagram.specs.Steps.{Step, Event, Yield, Fork, Join, Drop, after}
+use Rattle.diagram.specs.Accepted.{accepted}
 
 abbrev pub tried : Day → Step → Day
 tried y s = cond (accepted y s) (after y s) y
 
-abbrev pub triedAll : Day → List Step → Day
-triedAll y [] = y
-triedAll y (s ∷ ss) = triedAll (tried y s) ss
+abbrev pub tried_all : Day → List Step → Day
+tried_all y [] = y
+tried_all y (s ∷ ss) = tried_all (tried y s) ss
 
 abbrev pub answers : Day → List Step → List Bool
 answers y [] = []
@@ -42,8 +40,8 @@ abcd = 65 ∷ 66 ∷ 67 ∷ 68 ∷ []
 abbrev pub wxyz : Name
 wxyz = 87 ∷ 88 ∷ 89 ∷ 90 ∷ []
 
-abbrev pub noNames : List Name
-noNames = (65 ∷ 66 ∷ 67 ∷ []) ∷ (65 ∷ 66 ∷ 67 ∷ 97 ∷ []) ∷ (64 ∷ 66 ∷ 67 ∷ 68 ∷ []) ∷ (65 ∷ 66 ∷ 67 ∷ 68 ∷ 69 ∷ []) ∷ []
+abbrev pub no_names : List Name
+no_names = (65 ∷ 66 ∷ 67 ∷ []) ∷ (65 ∷ 66 ∷ 67 ∷ 97 ∷ []) ∷ (64 ∷ 66 ∷ 67 ∷ 68 ∷ []) ∷ (65 ∷ 66 ∷ 67 ∷ 68 ∷ 69 ∷ []) ∷ []
 
 -- a mark of box 0 for each
 abbrev marks : List Name → List Step
@@ -77,7 +75,7 @@ examples =
     -- 7: a busy box is not marked
     ∷ example (Event 3 0 true ∷ Fork 0 (some abcd) ∷ Yield 3 ∷ Fork 0 (some abcd) ∷ []) (true ∷ false ∷ true ∷ true ∷ [])
     -- 17: "not four letters, or in use"; a dropped name is free
-    ∷ example (marks noNames) (false ∷ false ∷ false ∷ false ∷ [])
+    ∷ example (marks no_names) (false ∷ false ∷ false ∷ false ∷ [])
     ∷ example (marks (abcd ∷ abcd ∷ wxyz ∷ []) ++ (Drop 1 ∷ marks (wxyz ∷ abcd ∷ []))) (true ∷ false ∷ true ∷ true ∷ false ∷ true ∷ [])
     -- 4 and 18: only a mark is dropped, and once; then it is out no more
     ∷ example (Fork 0 none ∷ Drop 0 ∷ Drop 1 ∷ Fork 0 (some abcd) ∷ Drop 2 ∷ Drop 2 ∷ Fork 2 none ∷ [])
@@ -88,39 +86,39 @@ examples =
     ∷ []
 
 -- a day with this many updates taken and revisions started
-abbrev pub withCounts : ℕ → ℕ → Day
-withCounts updates revisions = record {
+abbrev pub with_counts : ℕ → ℕ → Day
+with_counts updates revisions = record {
   diagram = root ∷ [];
   revisions = revisions;
-  startOf = fresh .startOf;
-  forkOf = fresh .forkOf;
-  terminal = fresh .terminal;
-  joined = fresh .joined;
+  start_of = fresh.start_of;
+  fork_of = fresh.fork_of;
+  terminal = fresh.terminal;
+  joined = fresh.joined;
   numbering = record { of = λ r. r; given = revisions; freed = [] };
-  mark = fresh .mark;
+  mark = fresh.mark;
   updates = updates;
-  lastEvent = fresh .lastEvent;
-  openBy = fresh .openBy;
+  last_event = fresh.last_event;
+  open_by = fresh.open_by;
   transactions = 0;
-  transaction = fresh .transaction;
+  transaction = fresh.transaction;
 }
 
 abbrev pub expected : List Example → List (List Bool)
 expected [] = []
-expected (e ∷ es) = e .accepts ∷ expected es
+expected (e ∷ es) = e.accepts ∷ expected es
 
 abbrev pub computed : List Example → List (List Bool)
 computed [] = []
-computed (e ∷ es) = answers fresh (e .steps) ∷ computed es
+computed (e ∷ es) = answers fresh e.steps ∷ computed es
 
 -- E1's query at index 10: the joinee's update 1 comes after the joiner's update 2, and not by its number
-abbrev pub e1List : List ℕ
-e1List = 0 ∷ 2 ∷ 1 ∷ []
+abbrev pub e1_list : List ℕ
+e1_list = 0 ∷ 2 ∷ 1 ∷ []
 
 -- Definition 6 as printed lets a child (start 5) join its own parent (start 2), which sent it at the fork 4: the fork 1 of
 -- the parent is seen at 5. But so is its start, and the parent's update 0 is applied twice.
-abbrev pub beforeJoin : Diagram
-beforeJoin = start 4 ∷ fork 3 ∷ event 2 1 (some 0) ∷ start 1 ∷ fork 0 ∷ root ∷ []
+abbrev pub before_join : Diagram
+before_join = start 4 ∷ fork 3 ∷ event 2 1 (some 0) ∷ start 1 ∷ fork 0 ∷ root ∷ []
 
-abbrev pub childJoinsParent : Diagram
-childJoinsParent = join 5 4 ∷ beforeJoin
+abbrev pub child_joins_parent : Diagram
+child_joins_parent = join 5 4 ∷ before_join

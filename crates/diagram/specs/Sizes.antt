@@ -1,11 +1,11 @@
 -- 01, "Sizes of a day": "A table has 64 boxes, 16 tablets, .. and 4,096 updates at most". The proofs of this crate never open these; its examples do.
-use Prim.Native.Nat.{ℕ}
+use Rattle.std.specs.Prelude.{ℕ}
 
-unfoldable pub revisionLimit : ℕ
-revisionLimit = 64
+unfoldable pub revision_limit : ℕ
+revision_limit = 64
 
-unfoldable pub clientLimit : ℕ
-clientLimit = 16
+unfoldable pub client_limit : ℕ
+client_limit = 16
 
-unfoldable pub updateLimit : ℕ
-updateLimit = 4096
+unfoldable pub update_limit : ℕ
+update_limit = 4096

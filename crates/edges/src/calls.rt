@@ -1,37 +1,62 @@
 // The calls of the table, each with a line of its name, code and value.
 use crate::say;
+use std::io;
 
-pub fn fresh(t: &mut [u8], board: &mut [u8]) {
-    say::answer(b"fresh", announcing::fresh::fresh(t, board, false));
+pub fn fresh(rt: &impl Print, t: &mut [u8], board: &mut [u8]) -> io::Result<()> {
+    say::answer(rt, b"fresh", announcing::fresh::fresh(t, board, false))
 }
 
-pub fn update(t: &mut [u8], client: u8, revision: u8, kind: u8, bib: u16, v: u32) {
+pub fn update(
+    rt: &impl Print,
+    t: &mut [u8],
+    client: u8,
+    revision: u8,
+    kind: u8,
+    bib: u16,
+    v: u32,
+) -> io::Result<()> {
     say::answer(
+        rt,
         b"update",
         updating::update::update(t, client, revision, kind, bib, v),
-    );
+    )
 }
 
-pub fn query(t: &mut [u8], client: u8, revision: u8, bib: u16) {
-    say::reading(b"query", querying::query::query(t, client, revision, bib));
+pub fn query(rt: &impl Print, t: &mut [u8], client: u8, revision: u8, bib: u16) -> io::Result<()> {
+    say::reading(
+        rt,
+        b"query",
+        querying::query::query(t, client, revision, bib),
+    )
 }
 
-pub fn yields(t: &mut [u8], board: &mut [u8], client: u8) {
-    say::answer(b"yield", announcing::yields::yields(t, board, client));
+pub fn yields(rt: &impl Print, t: &mut [u8], board: &mut [u8], client: u8) -> io::Result<()> {
+    say::answer(rt, b"yield", announcing::yields::yields(t, board, client))
 }
 
-pub fn fork(t: &mut [u8], revision: u8) {
-    say::answer(b"fork", forking::fork::fork(t, revision));
+pub fn fork(rt: &impl Print, t: &mut [u8], revision: u8) -> io::Result<()> {
+    say::answer(rt, b"fork", forking::fork::fork(t, revision))
 }
 
-pub fn join(t: &mut [u8], board: &mut [u8], joiner: u8, joinee: u8) {
-    say::answer(b"join", announcing::join::join(t, board, joiner, joinee));
+pub fn join(
+    rt: &impl Print,
+    t: &mut [u8],
+    board: &mut [u8],
+    joiner: u8,
+    joinee: u8,
+) -> io::Result<()> {
+    say::answer(
+        rt,
+        b"join",
+        announcing::join::join(t, board, joiner, joinee),
+    )
 }
 
 // With the sheet's bytes, if there are few.
-pub fn list(t: &[u8], revision: u8, sheet: &mut [u8]) {
-    say::answer(b"list", listing::list::list(t, revision, sheet));
+pub fn list(rt: &impl Print, t: &[u8], revision: u8, sheet: &mut [u8]) -> io::Result<()> {
+    say::answer(rt, b"list", listing::list::list(t, revision, sheet))?;
     if sheet.len() < 100 {
-        say::bytes(b"sheet", sheet);
+        say::bytes(rt, b"sheet", sheet)?;
     }
+    Ok(())
 }

@@ -1,59 +1,64 @@
 // Codes 1 to 8, 11 and 12, each at least once; 9 is in log.rt, 10 in forks.rt.
-use crate::calls::fork;
-use crate::calls::fresh;
-use crate::calls::join;
-use crate::calls::list;
-use crate::calls::query;
-use crate::calls::update;
-use crate::calls::yields;
+use crate::calls::{fork, fresh, join, list, query, update, yields};
 use crate::say;
+use std::io;
 
-pub fn one(short: &mut [u8], t: &mut [u8], board: &mut [u8]) {
-    say::title(b"1 no table: 4,096 bytes; cells out of range");
-    fresh(short, board);
-    yields(short, board, 0);
-    yields(t, board, 0);
-    fresh(t, board);
+pub fn one(rt: &impl Print, short: &mut [u8], t: &mut [u8], board: &mut [u8]) -> io::Result<()> {
+    say::title(rt, b"1 no table: 4,096 bytes; cells out of range")?;
+    fresh(rt, short, board)?;
+    yields(rt, short, board, 0)?;
+    yields(rt, t, board, 0)?;
+    fresh(rt, t, board)
 }
 
-pub fn two_to_four(t: &mut [u8], board: &mut [u8]) {
-    say::title(b"2 strange tablet");
-    yields(t, board, 16);
-    say::title(b"3 never sent");
-    fork(t, 1);
-    join(t, board, 0, 64);
-    say::title(b"4 handed in");
-    fork(t, 0);
-    join(t, board, 0, 1);
-    query(t, 0, 1, 7);
+pub fn two_to_four(rt: &impl Print, t: &mut [u8], board: &mut [u8]) -> io::Result<()> {
+    say::title(rt, b"2 strange tablet")?;
+    yields(rt, t, board, 16)?;
+    say::title(rt, b"3 never sent")?;
+    fork(rt, t, 1)?;
+    join(rt, t, board, 0, 64)?;
+    say::title(rt, b"4 handed in")?;
+    fork(rt, t, 0)?;
+    join(rt, t, board, 0, 1)?;
+    query(rt, t, 0, 1, 7)
 }
 
-pub fn five(t: &mut [u8]) {
-    say::title(b"5 bad entry: bib 1000; kind 0; kind 5");
-    query(t, 0, 0, 1000);
-    update(t, 0, 0, 0, 7, 1);
-    update(t, 0, 0, 5, 7, 1);
+pub fn five(rt: &impl Print, t: &mut [u8]) -> io::Result<()> {
+    say::title(rt, b"5 bad entry: bib 1000; kind 0; kind 5")?;
+    query(rt, t, 0, 0, 1000)?;
+    update(rt, t, 0, 0, 0, 7, 1)?;
+    update(rt, t, 0, 0, 5, 7, 1)
 }
 
-pub fn six_and_seven(t: &mut [u8], board: &mut [u8], sheet: &mut [u8]) {
-    say::title(b"6 other box open");
-    fork(t, 0);
-    update(t, 0, 0, 1, 7, 1);
-    query(t, 0, 2, 7);
-    say::title(b"7 in use");
-    update(t, 1, 0, 1, 7, 1);
-    fork(t, 0);
-    list(t, 0, sheet);
-    join(t, board, 2, 0);
+pub fn six_and_seven(
+    rt: &impl Print,
+    t: &mut [u8],
+    board: &mut [u8],
+    sheet: &mut [u8],
+) -> io::Result<()> {
+    say::title(rt, b"6 other box open")?;
+    fork(rt, t, 0)?;
+    update(rt, t, 0, 0, 1, 7, 1)?;
+    query(rt, t, 0, 2, 7)?;
+    say::title(rt, b"7 in use")?;
+    update(rt, t, 1, 0, 1, 7, 1)?;
+    fork(rt, t, 0)?;
+    list(rt, t, 0, sheet)?;
+    join(rt, t, board, 2, 0)
 }
 
-pub fn eight_to_twelve(t: &mut [u8], board: &mut [u8], sheet: &mut [u8]) {
-    say::title(b"8 not caught up");
-    yields(t, board, 0);
-    query(t, 0, 2, 7);
-    say::title(b"11 not joinable: box 0; itself");
-    join(t, board, 2, 0);
-    join(t, board, 2, 2);
-    say::title(b"12 sheet short");
-    list(t, 0, sheet);
+pub fn eight_to_twelve(
+    rt: &impl Print,
+    t: &mut [u8],
+    board: &mut [u8],
+    sheet: &mut [u8],
+) -> io::Result<()> {
+    say::title(rt, b"8 not caught up")?;
+    yields(rt, t, board, 0)?;
+    query(rt, t, 0, 2, 7)?;
+    say::title(rt, b"11 not joinable: box 0; itself")?;
+    join(rt, t, board, 2, 0)?;
+    join(rt, t, board, 2, 2)?;
+    say::title(rt, b"12 sheet short")?;
+    list(rt, t, 0, sheet)
 }

@@ -1,47 +1,47 @@
 // "The 63rd fork gives box 63, the next gives 10"; 02, U7: a number handed in is used again once every number was used.
-use crate::calls::fork;
-use crate::calls::fresh;
-use crate::calls::join;
+use crate::calls::{fork, fresh, join};
 use crate::say;
+use std::io;
 
 // Each revision from 0 on forks the next.
-pub fn chain(t: &mut [u8], many: u8) {
+pub fn chain(rt: &impl Print, t: &mut [u8], many: u8) -> io::Result<()> {
     let mut i: u8 = 0;
     while i < many {
-        fork(t, i);
+        fork(rt, t, i)?;
         i += 1;
     }
+    Ok(())
 }
 
 // 64 are out, and no more, until one is joined.
-pub fn all(t: &mut [u8], board: &mut [u8]) {
-    say::title(b"forks");
-    fresh(t, board);
-    chain(t, 63);
-    fork(t, 0);
-    fork(t, 63);
-    join(t, board, 62, 63);
-    fork(t, 0);
-    fork(t, 0);
+pub fn all(rt: &impl Print, t: &mut [u8], board: &mut [u8]) -> io::Result<()> {
+    say::title(rt, b"forks")?;
+    fresh(rt, t, board)?;
+    chain(rt, t, 63)?;
+    fork(rt, t, 0)?;
+    fork(rt, t, 63)?;
+    join(rt, t, board, 62, 63)?;
+    fork(rt, t, 0)?;
+    fork(rt, t, 0)
 }
 
 // Two of 62 are joined, the higher number first; then the number never used is given.
-pub fn again(t: &mut [u8], board: &mut [u8]) {
-    say::title(b"numbers used again");
-    fresh(t, board);
-    chain(t, 62);
-    join(t, board, 61, 62);
-    join(t, board, 60, 61);
-    fork(t, 61);
-    fork(t, 0);
+pub fn again(rt: &impl Print, t: &mut [u8], board: &mut [u8]) -> io::Result<()> {
+    say::title(rt, b"numbers used again")?;
+    fresh(rt, t, board)?;
+    chain(rt, t, 62)?;
+    join(rt, t, board, 61, 62)?;
+    join(rt, t, board, 60, 61)?;
+    fork(rt, t, 61)?;
+    fork(rt, t, 0)
 }
 
 // The two that were joined, the one joined longest ago first, and no more.
-pub fn longest_ago(t: &mut [u8], board: &mut [u8]) {
-    fork(t, 0);
-    fork(t, 0);
-    fork(t, 0);
-    join(t, board, 0, 61);
-    fork(t, 63);
-    join(t, board, 63, 61);
+pub fn longest_ago(rt: &impl Print, t: &mut [u8], board: &mut [u8]) -> io::Result<()> {
+    fork(rt, t, 0)?;
+    fork(rt, t, 0)?;
+    fork(rt, t, 0)?;
+    join(rt, t, board, 0, 61)?;
+    fork(rt, t, 63)?;
+    join(rt, t, board, 63, 61)
 }

@@ -1,16 +1,12 @@
 // "Update 4,096 is taken, the next gives 9, and joins still work."
-ghost use Prim.Native.Nat.{_≤_};
-use crate::calls::fork;
-use crate::calls::fresh;
-use crate::calls::join;
-use crate::calls::list;
-use crate::calls::query;
-use crate::calls::update;
-use crate::calls::yields;
+ghost use Rattle.std.specs.Prelude.{◌≤◌};
+
+use crate::calls::{fork, fresh, join, list, query, update, yields};
 use crate::say;
+use std::io;
 
 fn one_if_taken(code: u8) -> u32
-    ensures { λ n. ⌜ n ≤ 1 ⌝ }
+    ensures { result ≤ 1 }
 {
     if code == 0 { 1 } else { 0 }
 }
@@ -28,27 +24,27 @@ pub fn fill(t: &mut [u8], r: u8, many: u32) -> u32 {
 }
 
 // The log is of all revisions together: 2,000 and 2,096.
-pub fn fill_up(t: &mut [u8], board: &mut [u8]) {
-    say::title(b"log full");
-    fresh(t, board);
-    fork(t, 0);
-    say::count(b"taken on 0:", fill(t, 0, 2000));
-    say::count(b"taken on 1:", fill(t, 1, 2096));
+pub fn fill_up(rt: &impl Print, t: &mut [u8], board: &mut [u8]) -> io::Result<()> {
+    say::title(rt, b"log full")?;
+    fresh(rt, t, board)?;
+    fork(rt, t, 0)?;
+    say::count(rt, b"taken on 0:", fill(t, 0, 2000))?;
+    say::count(rt, b"taken on 1:", fill(t, 1, 2096))
 }
 
-pub fn beyond(t: &mut [u8], board: &mut [u8]) {
-    say::title(b"the next");
-    update(t, 0, 0, 1, 7, 5);
-    update(t, 1, 1, 1, 7, 5);
-    query(t, 1, 1, 95);
-    yields(t, board, 0);
-    yields(t, board, 1);
+pub fn beyond(rt: &impl Print, t: &mut [u8], board: &mut [u8]) -> io::Result<()> {
+    say::title(rt, b"the next")?;
+    update(rt, t, 0, 0, 1, 7, 5)?;
+    update(rt, t, 1, 1, 1, 7, 5)?;
+    query(rt, t, 1, 1, 95)?;
+    yields(rt, t, board, 0)?;
+    yields(rt, t, board, 1)
 }
 
-pub fn joined(t: &mut [u8], board: &mut [u8], sheet: &mut [u8]) {
-    say::title(b"lists and a join with a full log");
-    list(t, 1, sheet);
-    join(t, board, 0, 1);
-    list(t, 0, sheet);
-    query(t, 2, 0, 999);
+pub fn joined(rt: &impl Print, t: &mut [u8], board: &mut [u8], sheet: &mut [u8]) -> io::Result<()> {
+    say::title(rt, b"lists and a join with a full log")?;
+    list(rt, t, 1, sheet)?;
+    join(rt, t, board, 0, 1)?;
+    list(rt, t, 0, sheet)?;
+    query(rt, t, 2, 0, 999)
 }

@@ -3,35 +3,36 @@ use crate::calls::fresh;
 use crate::forks::chain;
 use crate::log::fill;
 use crate::say;
+use std::io;
 
-fn bill(t: &[u8], member: bool) {
-    say::answer(b"bill", billing::bill::bill(t, member));
+fn bill(rt: &impl Print, t: &[u8], member: bool) -> io::Result<()> {
+    say::answer(rt, b"bill", billing::bill::bill(t, member))
 }
 
 // For a member, and for another.
-fn both(t: &[u8]) {
-    bill(t, true);
-    bill(t, false);
+fn both(rt: &impl Print, t: &[u8]) -> io::Result<()> {
+    bill(rt, t, true)?;
+    bill(rt, t, false)
 }
 
-pub fn eight(t: &mut [u8], board: &mut [u8]) {
-    say::title(b"bills: eight boxes and 1,201 updates");
-    fresh(t, board);
-    chain(t, 7);
-    say::count(b"taken on 0:", fill(t, 0, 1201));
-    both(t);
+pub fn eight(rt: &impl Print, t: &mut [u8], board: &mut [u8]) -> io::Result<()> {
+    say::title(rt, b"bills: eight boxes and 1,201 updates")?;
+    fresh(rt, t, board)?;
+    chain(rt, t, 7)?;
+    say::count(rt, b"taken on 0:", fill(t, 0, 1201))?;
+    both(rt, t)
 }
 
-pub fn three(t: &mut [u8], board: &mut [u8]) {
-    say::title(b"bills: three boxes and 250 updates");
-    fresh(t, board);
-    chain(t, 2);
-    say::count(b"taken on 0:", fill(t, 0, 250));
-    both(t);
+pub fn three(rt: &impl Print, t: &mut [u8], board: &mut [u8]) -> io::Result<()> {
+    say::title(rt, b"bills: three boxes and 250 updates")?;
+    fresh(rt, t, board)?;
+    chain(rt, t, 2)?;
+    say::count(rt, b"taken on 0:", fill(t, 0, 250))?;
+    both(rt, t)
 }
 
 // 1 of a buffer that is no table.
-pub fn none(short: &[u8]) {
-    say::title(b"bills: no table");
-    both(short);
+pub fn none(rt: &impl Print, short: &[u8]) -> io::Result<()> {
+    say::title(rt, b"bills: no table")?;
+    both(rt, short)
 }

@@ -1,6 +1,7 @@
 // An update as it was entered.
 use updates::kind::Kind;
 
+#[derive(Clone, Copy)]
 pub struct Entry {
     pub kind: Kind,
     pub client: u8,

@@ -1,4 +1,6 @@
 // The entries of updates, six bytes each, in 24,576 lent bytes; and a standing folded from them. Knows no revision.
+#![tactic(auto)]
+
 pub mod entry; // entry.rt: an update as it was entered
 pub mod kept; // kept.rt: the numbers that a walk back keeps for a bib
 pub mod load; // load.rt: six bytes decoded

@@ -1,20 +1,19 @@
 // Six bytes decoded: every six bytes are some entry.
-ghost use mathlib.Core.Path.{_≡_};
-ghost use Prim.Native.Nat.{_<_};
-ghost use lib.ListN.{length};
-ghost use Rattle·entries·specs.specs.Stored.{kindAfter, decoded};
+ghost use Rattle.std.specs.Prelude.{◌≡◌, ◌<◌, length};
+ghost use Rattle.entries.specs.Stored.{kind_after, decoded};
+
 use crate::entry::Entry;
 use updates::kind::Kind;
 
 fn wide(x: u8) -> u32
-    ensures { λ r. ⌜ (r ≡ x) × (r < 256) ⌝ }
+    ensures { (result ≡ x) × (result < 256) }
 {
     x as u32
 }
 
 // The kind whose number is one more than n, for n below 4.
 fn kind_after(n: u8) -> Kind
-    ensures { λ r. ⌜ r ≡ kindAfter n ⌝ }
+    ensures { result ≡ kind_after n }
 {
     match n {
         0 => Kind::Time,
@@ -25,23 +24,23 @@ fn kind_after(n: u8) -> Kind
 }
 
 pub fn bib_of(p: &[u8]) -> u16
-    requires { ⌜ length (now p) ≡ 6 ⌝ }
-    ensures { λ b. ⌜ b ≡ decoded (now (p .entry)) .bib ⌝ }
+    requires { length p.now ≡ 6 }
+    ensures { result ≡ (decoded p.now).bib }
 {
     let bib = wide(p[0]) + 256 * wide(p[1] % 4);
     bib as u16
 }
 
 pub fn kind_of(p: &[u8]) -> Kind
-    requires { ⌜ length (now p) ≡ 6 ⌝ }
-    ensures { λ k. ⌜ k ≡ decoded (now (p .entry)) .kind ⌝ }
+    requires { length p.now ≡ 6 }
+    ensures { result ≡ (decoded p.now).kind }
 {
     kind_after(p[1] / 4 % 4)
 }
 
 pub fn load(p: &[u8]) -> Entry
-    requires { ⌜ length (now p) ≡ 6 ⌝ }
-    ensures { λ e. ⌜ e ≡ decoded (now (p .entry)) ⌝ }
+    requires { length p.now ≡ 6 }
+    ensures { result ≡ decoded p.now }
 {
     let kind = kind_of(p);
     let bib = bib_of(p);

@@ -1,20 +1,17 @@
 // An entry by its number.
-ghost use mathlib.Core.Path.{_≡_};
-ghost use Prim.Native.Nat.{_<_};
-ghost use lib.ListN.{length};
-ghost use Rattle·entries·specs.specs.Sizes.{entryBytes, updates};
-ghost use Rattle·entries·specs.specs.Entries.{entryAt};
+ghost use Rattle.std.specs.Prelude.{◌≡◌, ◌<◌, length};
+ghost use Rattle.entries.specs.Sizes.{entry_bytes, updates};
+ghost use Rattle.entries.specs.Entries.{entry_at};
+
 use crate::entry::Entry;
-use crate::load::bib_of;
-use crate::load::kind_of;
-use crate::load::load;
+use crate::load::{bib_of, kind_of, load};
 use sizes::table::Table;
 use updates::kind::Kind;
 
 // The bib alone, and the kind, of a number that has bytes.
 pub fn bib_at(t: &[u8], n: u16) -> u16
-    requires { ⌜ (length (now t) ≡ entryBytes) × (n < updates) ⌝ }
-    ensures { λ b. ⌜ b ≡ entryAt (now (t .entry)) n .bib ⌝ }
+    requires { (length t.now ≡ entry_bytes) × (n < updates) }
+    ensures { result ≡ (entry_at t.now n).bib }
 {
     let at = Table::ENTRY * (n as usize);
     let end = at + Table::ENTRY;
@@ -22,8 +19,8 @@ pub fn bib_at(t: &[u8], n: u16) -> u16
 }
 
 pub fn kind_at(t: &[u8], n: u16) -> Kind
-    requires { ⌜ (length (now t) ≡ entryBytes) × (n < updates) ⌝ }
-    ensures { λ k. ⌜ k ≡ entryAt (now (t .entry)) n .kind ⌝ }
+    requires { (length t.now ≡ entry_bytes) × (n < updates) }
+    ensures { result ≡ (entry_at t.now n).kind }
 {
     let at = Table::ENTRY * (n as usize);
     let end = at + Table::ENTRY;
@@ -32,8 +29,8 @@ pub fn kind_at(t: &[u8], n: u16) -> Kind
 
 // A number past the last has no bytes, and the entry of a fresh day.
 pub fn read(t: &[u8], n: u16) -> Entry
-    requires { ⌜ length (now t) ≡ entryBytes ⌝ }
-    ensures { λ e. ⌜ e ≡ entryAt (now (t .entry)) n ⌝ }
+    requires { length t.now ≡ entry_bytes }
+    ensures { result ≡ entry_at t.now n }
 {
     if (n as usize) < Table::UPDATES {
         let at = Table::ENTRY * (n as usize);

@@ -1,19 +1,17 @@
 // The standing of a bib, from numbered entries.
-ghost use mathlib.Core.Path.{_≡_};
-ghost use mathlib.Core.List.{[], _∷_};
-ghost use Prim.Native.Nat.{_≤_};
-ghost use lib.ListN.{length, take};
-ghost use Rattle·updates.specs.Applied.{applied};
-ghost use Rattle·entries·specs.specs.Sizes.{entryBytes};
-ghost use Rattle·entries·specs.specs.Entries.{entryAt};
-ghost use Rattle·entries·specs.specs.Folded.{ofBib, standingOf};
+ghost use Rattle.std.specs.Prelude.{◌≡◌, [], ◌∷◌, ◌≤◌, length, take};
+ghost use Rattle.updates.specs.Applied.{applied};
+ghost use Rattle.entries.specs.Sizes.{entry_bytes};
+ghost use Rattle.entries.specs.Entries.{entry_at};
+ghost use Rattle.entries.specs.Folded.{of_bib, standing_of};
+
 use crate::read::read;
 use updates::standing::Standing;
 
 // The standing after entry n, which counts if it is of the bib.
 fn after(t: &[u8], n: u16, bib: u16, standing: Standing) -> Standing
-    requires { ⌜ length (now t) ≡ entryBytes ⌝ }
-    ensures { λ r. ⌜ r ≡ applied (ofBib (entryAt (now (t .entry))) bib (n ∷ [])) standing ⌝ }
+    requires { length t.now ≡ entry_bytes }
+    ensures { result ≡ applied (of_bib (entry_at t.now) bib (n ∷ [])) standing }
 {
     let e = read(t, n);
     if e.bib == bib {
@@ -25,8 +23,8 @@ fn after(t: &[u8], n: u16, bib: u16, standing: Standing) -> Standing
 
 // The standing after the entries of the first `count` numbers of `order`, from `start` on.
 fn standing_from(t: &[u8], order: &[u16], count: usize, bib: u16, start: Standing) -> Standing
-    requires { ⌜ (length (now t) ≡ entryBytes) × (count ≤ length (now order)) ⌝ }
-    ensures { λ r. ⌜ r ≡ applied (ofBib (entryAt (now (t .entry))) bib (take count (now (order .entry)))) start ⌝ }
+    requires { (length t.now ≡ entry_bytes) × (count ≤ length order.now) }
+    ensures { result ≡ applied (of_bib (entry_at t.now) bib (take count order.now)) start }
 {
     let mut s = start;
     let mut i: usize = 0;
@@ -39,8 +37,8 @@ fn standing_from(t: &[u8], order: &[u16], count: usize, bib: u16, start: Standin
 
 // The same from a fresh day on.
 pub fn standing(t: &[u8], order: &[u16], count: usize, bib: u16) -> Standing
-    requires { ⌜ (length (now t) ≡ entryBytes) × (count ≤ length (now order)) ⌝ }
-    ensures { λ r. ⌜ r ≡ standingOf (entryAt (now (t .entry))) bib (take count (now (order .entry))) ⌝ }
+    requires { (length t.now ≡ entry_bytes) × (count ≤ length order.now) }
+    ensures { result ≡ standing_of (entry_at t.now) bib (take count order.now) }
 {
     standing_from(t, order, count, bib, Standing::At(0))
 }

@@ -1,21 +1,18 @@
 // An update or a query is recorded: an event of a client on a revision.
-ghost use mathlib.Core.Path.{_≡_};
-ghost use mathlib.Core.Bool.{true};
-ghost use Prim.Native.Nat.{_<_};
-ghost use lib.ListN.{length};
-ghost use Rattle·cells.specs.Sizes.{lowerBytes, clients, revisions, updates};
-ghost use Rattle·cells.specs.Decode.{cells};
-ghost use Rattle·cells.specs.Range.{inRange};
-ghost use Rattle·cells.specs.Steps.{queryBytes, updateBytes};
+ghost use Rattle.std.specs.Prelude.{◌≡◌, true, ◌<◌, length};
+ghost use Rattle.cells.specs.Sizes.{lower_bytes, clients, revisions, updates};
+ghost use Rattle.cells.specs.Decode.{cells};
+ghost use Rattle.cells.specs.Range.{in_range};
+ghost use Rattle.cells.specs.Steps.{query_bytes, update_bytes};
+
 use crate::transactions;
 use linking::own;
-use sizes::numbers::Client;
-use sizes::numbers::Revision;
+use sizes::numbers::{Client, Revision};
 
 // The update's number is the answer: the count of updates taken before it.
 pub fn update(d: &mut [u8], c: Client, r: Revision) -> usize
-    requires { ⌜ (length (now d) ≡ lowerBytes) × (inRange (now d) ≡ true) × (c .0 < clients) × (r .0 < revisions) × (cells (now d) .updates < updates) ⌝ }
-    ensures { λ u. ⌜ (u ≡ cells (now (d .entry)) .updates) × (now (d .exit) ≡ updateBytes (now (d .entry)) (c .0) (r .0)) ⌝ }
+    requires { (length d.old ≡ lower_bytes) × (in_range d.old ≡ true) × (c.0 < clients) × (r.0 < revisions) × ((cells d.old).updates < updates) }
+    ensures { (result ≡ (cells d.old).updates) × (d.new ≡ update_bytes d.old c.0 r.0) }
 {
     let u = own::append(d, r);
     transactions::open(d, c, r);
@@ -23,8 +20,8 @@ pub fn update(d: &mut [u8], c: Client, r: Revision) -> usize
 }
 
 pub fn query(d: &mut [u8], c: Client, r: Revision)
-    requires { ⌜ (length (now d) ≡ lowerBytes) × (c .0 < clients) × (r .0 < revisions) ⌝ }
-    ensures { λ _. ⌜ now (d .exit) ≡ queryBytes (now (d .entry)) (c .0) (r .0) ⌝ }
+    requires { (length d.old ≡ lower_bytes) × (c.0 < clients) × (r.0 < revisions) }
+    ensures { d.new ≡ query_bytes d.old c.0 r.0 }
 {
     transactions::open(d, c, r);
 }

@@ -1,24 +1,19 @@
 // The calls on four tables (02, U12) for C and Rust: as the table's calls, with four tables in place of one, then the number of the course. The tables and
 // what else is lent must not overlap.
-ghost use mathlib.Core.Bool.{not};
-ghost use mathlib.Core.List.{[]};
-ghost use mathlib.Core.Path.{_≡_};
-ghost use lib.Dec.{eqb};
-ghost use Rattle·card.specs.Courses.{Fresh, Plain, courseServed, four};
-ghost use Rattle·desk.specs.Calls.{Bill, Bundle, Drop, Fill, Fork, Join, Looks, Mark, Preview, Query, Records, Show, Sync, Update, Verify, Yield};
-ghost use Rattle·packing.specs.Packed.{packedReply, returned};
-ghost use Rattle·exports·specs.specs.Four.{courseExported, exportedReply, fourReturned};
+ghost use Rattle.std.specs.Prelude.{not, [], ◌≡◌, eqb};
+ghost use Rattle.card.specs.Courses.{Fresh, Plain, course_served, four};
+ghost use Rattle.desk.specs.Calls.{Bill, Bundle, Drop, Fill, Fork, Join, Looks, Mark, Preview, Query, Records, Show, Sync, Update, Verify, Yield};
+ghost use Rattle.packing.specs.Packed.{packed_reply, returned};
+ghost use Rattle.exports.specs.Four.{course_exported, exported_reply, four_returned};
+
 use federation::fresh::fresh;
 use federation::list::list;
-use federation::looks::LookCall;
-use federation::looks::looks;
-use federation::on_board::BoardCall;
-use federation::on_board::on_board;
-use federation::on_table::TableCall;
-use federation::on_table::on_table;
+use federation::looks::{LookCall, looks};
+use federation::on_board::{BoardCall, on_board};
+use federation::on_table::{TableCall, on_table};
 use packing::pack::pack_reply;
 
-#[no_mangle]
+#[unsafe(no_mangle)]
 pub extern "C" fn silttongs_course_fresh(
     t0: &mut [u8],
     t1: &mut [u8],
@@ -28,12 +23,12 @@ pub extern "C" fn silttongs_course_fresh(
     board: &mut [u8],
     single: u8,
 ) -> u64
-    ensures { λ r. ⌜ fourReturned r (now (t0 .exit)) (now (t1 .exit)) (now (t2 .exit)) (now (t3 .exit)) (now (board .exit)) ≡ courseExported (four (now (t0 .entry)) (now (t1 .entry)) (now (t2 .entry)) (now (t3 .entry))) course (Fresh (not (eqb single 0)) (now (board .entry))) ⌝ }
+    ensures { four_returned result t0.new t1.new t2.new t3.new board.new ≡ course_exported (four t0.old t1.old t2.old t3.old) course (Fresh (not (eqb single 0)) board.old) }
 {
     pack_reply(fresh(t0, t1, t2, t3, course, board, single != 0))
 }
 
-#[no_mangle]
+#[unsafe(no_mangle)]
 pub extern "C" fn silttongs_course_update(
     t0: &mut [u8],
     t1: &mut [u8],
@@ -46,7 +41,7 @@ pub extern "C" fn silttongs_course_update(
     bib: u16,
     v: u32,
 ) -> u64
-    ensures { λ r. ⌜ fourReturned r (now (t0 .exit)) (now (t1 .exit)) (now (t2 .exit)) (now (t3 .exit)) [] ≡ courseExported (four (now (t0 .entry)) (now (t1 .entry)) (now (t2 .entry)) (now (t3 .entry))) course (Plain (Update client revision kind bib v)) ⌝ }
+    ensures { four_returned result t0.new t1.new t2.new t3.new [] ≡ course_exported (four t0.old t1.old t2.old t3.old) course (Plain (Update client revision kind bib v)) }
 {
     let none = [0u8; 0];
     let call = TableCall::Update {
@@ -59,7 +54,7 @@ pub extern "C" fn silttongs_course_update(
     pack_reply(on_table(t0, t1, t2, t3, course, call, &none[..]))
 }
 
-#[no_mangle]
+#[unsafe(no_mangle)]
 pub extern "C" fn silttongs_course_bundle(
     t0: &mut [u8],
     t1: &mut [u8],
@@ -71,13 +66,13 @@ pub extern "C" fn silttongs_course_bundle(
     revision: u8,
     records: &[u8],
 ) -> u64
-    ensures { λ r. ⌜ fourReturned r (now (t0 .exit)) (now (t1 .exit)) (now (t2 .exit)) (now (t3 .exit)) (now (board .exit)) ≡ courseExported (four (now (t0 .entry)) (now (t1 .entry)) (now (t2 .entry)) (now (t3 .entry))) course (Plain (Bundle client revision (Records (now (records .entry))) (now (board .entry)))) ⌝ }
+    ensures { four_returned result t0.new t1.new t2.new t3.new board.new ≡ course_exported (four t0.old t1.old t2.old t3.old) course (Plain (Bundle client revision (Records records.now) board.old)) }
 {
     let call = BoardCall::Bundle(client, revision);
     pack_reply(on_board(t0, t1, t2, t3, course, board, call, records))
 }
 
-#[no_mangle]
+#[unsafe(no_mangle)]
 pub extern "C" fn silttongs_course_query(
     t0: &mut [u8],
     t1: &mut [u8],
@@ -88,7 +83,7 @@ pub extern "C" fn silttongs_course_query(
     revision: u8,
     bib: u16,
 ) -> u64
-    ensures { λ r. ⌜ fourReturned r (now (t0 .exit)) (now (t1 .exit)) (now (t2 .exit)) (now (t3 .exit)) [] ≡ courseExported (four (now (t0 .entry)) (now (t1 .entry)) (now (t2 .entry)) (now (t3 .entry))) course (Plain (Query client revision bib)) ⌝ }
+    ensures { four_returned result t0.new t1.new t2.new t3.new [] ≡ course_exported (four t0.old t1.old t2.old t3.old) course (Plain (Query client revision bib)) }
 {
     let none = [0u8; 0];
     let call = TableCall::Query {
@@ -99,7 +94,7 @@ pub extern "C" fn silttongs_course_query(
     pack_reply(on_table(t0, t1, t2, t3, course, call, &none[..]))
 }
 
-#[no_mangle]
+#[unsafe(no_mangle)]
 pub extern "C" fn silttongs_course_yield(
     t0: &mut [u8],
     t1: &mut [u8],
@@ -109,14 +104,14 @@ pub extern "C" fn silttongs_course_yield(
     board: &mut [u8],
     client: u8,
 ) -> u64
-    ensures { λ r. ⌜ fourReturned r (now (t0 .exit)) (now (t1 .exit)) (now (t2 .exit)) (now (t3 .exit)) (now (board .exit)) ≡ courseExported (four (now (t0 .entry)) (now (t1 .entry)) (now (t2 .entry)) (now (t3 .entry))) course (Plain (Yield client (now (board .entry)))) ⌝ }
+    ensures { four_returned result t0.new t1.new t2.new t3.new board.new ≡ course_exported (four t0.old t1.old t2.old t3.old) course (Plain (Yield client board.old)) }
 {
     let none = [0u8; 0];
     let call = BoardCall::Yield(client);
     pack_reply(on_board(t0, t1, t2, t3, course, board, call, &none[..]))
 }
 
-#[no_mangle]
+#[unsafe(no_mangle)]
 pub extern "C" fn silttongs_course_fork(
     t0: &mut [u8],
     t1: &mut [u8],
@@ -125,14 +120,14 @@ pub extern "C" fn silttongs_course_fork(
     course: u8,
     revision: u8,
 ) -> u64
-    ensures { λ r. ⌜ fourReturned r (now (t0 .exit)) (now (t1 .exit)) (now (t2 .exit)) (now (t3 .exit)) [] ≡ courseExported (four (now (t0 .entry)) (now (t1 .entry)) (now (t2 .entry)) (now (t3 .entry))) course (Plain (Fork revision)) ⌝ }
+    ensures { four_returned result t0.new t1.new t2.new t3.new [] ≡ course_exported (four t0.old t1.old t2.old t3.old) course (Plain (Fork revision)) }
 {
     let none = [0u8; 0];
     let call = TableCall::Fork(revision);
     pack_reply(on_table(t0, t1, t2, t3, course, call, &none[..]))
 }
 
-#[no_mangle]
+#[unsafe(no_mangle)]
 pub extern "C" fn silttongs_course_join(
     t0: &mut [u8],
     t1: &mut [u8],
@@ -143,14 +138,14 @@ pub extern "C" fn silttongs_course_join(
     joiner: u8,
     joinee: u8,
 ) -> u64
-    ensures { λ r. ⌜ fourReturned r (now (t0 .exit)) (now (t1 .exit)) (now (t2 .exit)) (now (t3 .exit)) (now (board .exit)) ≡ courseExported (four (now (t0 .entry)) (now (t1 .entry)) (now (t2 .entry)) (now (t3 .entry))) course (Plain (Join joiner joinee (now (board .entry)))) ⌝ }
+    ensures { four_returned result t0.new t1.new t2.new t3.new board.new ≡ course_exported (four t0.old t1.old t2.old t3.old) course (Plain (Join joiner joinee board.old)) }
 {
     let none = [0u8; 0];
     let call = BoardCall::Join(joiner, joinee);
     pack_reply(on_board(t0, t1, t2, t3, course, board, call, &none[..]))
 }
 
-#[no_mangle]
+#[unsafe(no_mangle)]
 pub extern "C" fn silttongs_course_sync(
     t0: &mut [u8],
     t1: &mut [u8],
@@ -160,14 +155,14 @@ pub extern "C" fn silttongs_course_sync(
     board: &mut [u8],
     joinee: u8,
 ) -> u64
-    ensures { λ r. ⌜ fourReturned r (now (t0 .exit)) (now (t1 .exit)) (now (t2 .exit)) (now (t3 .exit)) (now (board .exit)) ≡ courseExported (four (now (t0 .entry)) (now (t1 .entry)) (now (t2 .entry)) (now (t3 .entry))) course (Plain (Sync joinee (now (board .entry)))) ⌝ }
+    ensures { four_returned result t0.new t1.new t2.new t3.new board.new ≡ course_exported (four t0.old t1.old t2.old t3.old) course (Plain (Sync joinee board.old)) }
 {
     let none = [0u8; 0];
     let call = BoardCall::Sync(joinee);
     pack_reply(on_board(t0, t1, t2, t3, course, board, call, &none[..]))
 }
 
-#[no_mangle]
+#[unsafe(no_mangle)]
 pub extern "C" fn silttongs_course_mark(
     t0: &mut [u8],
     t1: &mut [u8],
@@ -177,13 +172,13 @@ pub extern "C" fn silttongs_course_mark(
     revision: u8,
     name: &[u8],
 ) -> u64
-    ensures { λ r. ⌜ fourReturned r (now (t0 .exit)) (now (t1 .exit)) (now (t2 .exit)) (now (t3 .exit)) [] ≡ courseExported (four (now (t0 .entry)) (now (t1 .entry)) (now (t2 .entry)) (now (t3 .entry))) course (Plain (Mark revision (now (name .entry)))) ⌝ }
+    ensures { four_returned result t0.new t1.new t2.new t3.new [] ≡ course_exported (four t0.old t1.old t2.old t3.old) course (Plain (Mark revision name.now)) }
 {
     let call = TableCall::Mark(revision);
     pack_reply(on_table(t0, t1, t2, t3, course, call, name))
 }
 
-#[no_mangle]
+#[unsafe(no_mangle)]
 pub extern "C" fn silttongs_course_drop(
     t0: &mut [u8],
     t1: &mut [u8],
@@ -192,13 +187,13 @@ pub extern "C" fn silttongs_course_drop(
     course: u8,
     name: &[u8],
 ) -> u64
-    ensures { λ r. ⌜ fourReturned r (now (t0 .exit)) (now (t1 .exit)) (now (t2 .exit)) (now (t3 .exit)) [] ≡ courseExported (four (now (t0 .entry)) (now (t1 .entry)) (now (t2 .entry)) (now (t3 .entry))) course (Plain (Drop (now (name .entry)))) ⌝ }
+    ensures { four_returned result t0.new t1.new t2.new t3.new [] ≡ course_exported (four t0.old t1.old t2.old t3.old) course (Plain (Drop name.now)) }
 {
     let call = TableCall::Drop;
     pack_reply(on_table(t0, t1, t2, t3, course, call, name))
 }
 
-#[no_mangle]
+#[unsafe(no_mangle)]
 pub extern "C" fn silttongs_course_list(
     t0: &[u8],
     t1: &[u8],
@@ -208,12 +203,12 @@ pub extern "C" fn silttongs_course_list(
     revision: u8,
     sheet: &mut [u8],
 ) -> u64
-    ensures { λ r. ⌜ returned r (now (sheet .exit)) ≡ exportedReply (courseServed (four (now (t0 .entry)) (now (t1 .entry)) (now (t2 .entry)) (now (t3 .entry))) course (Plain (Looks (Show revision (now (sheet .entry))))) .reply) ⌝ }
+    ensures { returned result sheet.new ≡ exported_reply (course_served (four t0.now t1.now t2.now t3.now) course (Plain (Looks (Show revision sheet.old)))).reply }
 {
     pack_reply(list(t0, t1, t2, t3, course, revision, sheet))
 }
 
-#[no_mangle]
+#[unsafe(no_mangle)]
 pub extern "C" fn silttongs_course_fill(
     t0: &[u8],
     t1: &[u8],
@@ -222,13 +217,13 @@ pub extern "C" fn silttongs_course_fill(
     course: u8,
     revision: u8,
 ) -> u64
-    ensures { λ r. ⌜ r ≡ packedReply (courseServed (four (now (t0 .entry)) (now (t1 .entry)) (now (t2 .entry)) (now (t3 .entry))) course (Plain (Looks (Fill revision))) .reply) ⌝ }
+    ensures { result ≡ packed_reply (course_served (four t0.now t1.now t2.now t3.now) course (Plain (Looks (Fill revision)))).reply }
 {
     let none = [0u8; 0];
     pack_reply(looks(t0, t1, t2, t3, course, LookCall::Fill(revision), &none[..]))
 }
 
-#[no_mangle]
+#[unsafe(no_mangle)]
 pub extern "C" fn silttongs_course_preview(
     t0: &[u8],
     t1: &[u8],
@@ -239,14 +234,14 @@ pub extern "C" fn silttongs_course_preview(
     joinee: u8,
     bib: u16,
 ) -> u64
-    ensures { λ r. ⌜ r ≡ packedReply (courseServed (four (now (t0 .entry)) (now (t1 .entry)) (now (t2 .entry)) (now (t3 .entry))) course (Plain (Looks (Preview joiner joinee bib))) .reply) ⌝ }
+    ensures { result ≡ packed_reply (course_served (four t0.now t1.now t2.now t3.now) course (Plain (Looks (Preview joiner joinee bib)))).reply }
 {
     let none = [0u8; 0];
     let look = LookCall::Preview(joiner, joinee, bib);
     pack_reply(looks(t0, t1, t2, t3, course, look, &none[..]))
 }
 
-#[no_mangle]
+#[unsafe(no_mangle)]
 pub extern "C" fn silttongs_course_verify(
     t0: &[u8],
     t1: &[u8],
@@ -255,12 +250,12 @@ pub extern "C" fn silttongs_course_verify(
     course: u8,
     order: &[u8],
 ) -> u64
-    ensures { λ r. ⌜ r ≡ packedReply (courseServed (four (now (t0 .entry)) (now (t1 .entry)) (now (t2 .entry)) (now (t3 .entry))) course (Plain (Looks (Verify (now (order .entry))))) .reply) ⌝ }
+    ensures { result ≡ packed_reply (course_served (four t0.now t1.now t2.now t3.now) course (Plain (Looks (Verify order.now)))).reply }
 {
     pack_reply(looks(t0, t1, t2, t3, course, LookCall::Verify, order))
 }
 
-#[no_mangle]
+#[unsafe(no_mangle)]
 pub extern "C" fn silttongs_course_bill(
     t0: &[u8],
     t1: &[u8],
@@ -269,7 +264,7 @@ pub extern "C" fn silttongs_course_bill(
     course: u8,
     member: u8,
 ) -> u64
-    ensures { λ r. ⌜ r ≡ packedReply (courseServed (four (now (t0 .entry)) (now (t1 .entry)) (now (t2 .entry)) (now (t3 .entry))) course (Plain (Looks (Bill (not (eqb member 0))))) .reply) ⌝ }
+    ensures { result ≡ packed_reply (course_served (four t0.now t1.now t2.now t3.now) course (Plain (Looks (Bill (not (eqb member 0)))))).reply }
 {
     let none = [0u8; 0];
     pack_reply(looks(

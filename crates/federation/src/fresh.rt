@@ -1,16 +1,13 @@
 // The call fresh: a course's table and board begin a new day. The other three may be anything: "for fresh: its own length only".
-ghost use mathlib.Core.List.{[]};
-ghost use mathlib.Core.Path.{_≡_};
-ghost use Rattle·card.specs.Courses.{four, Fresh, madeFresh};
-ghost use Rattle·federation·specs.specs.Out.{courseOut, fourLeft, servedAs};
-use beside::number::CourseCheck;
-use beside::number::check_course;
-use beside::reply::Reply;
-use beside::reply::no_course;
-use beside::reply::of_answer;
+ghost use Rattle.std.specs.Prelude.{[], ◌≡◌};
+ghost use Rattle.card.specs.Courses.{four, Fresh, made_fresh};
+ghost use Rattle.federation.specs.Out.{course_out, four_left, served_as};
+
+use beside::number::{CourseCheck, check_course};
+use beside::reply::{Reply, no_course, of_answer};
 
 fn make(t: &mut [u8], board: &mut [u8], single: bool) -> Reply
-    ensures { λ r. ⌜ servedAs r [] (now (t .exit)) (now (board .exit)) ≡ madeFresh (now (t .entry)) single (now (board .entry)) ⌝ }
+    ensures { served_as result [] t.new board.new ≡ made_fresh t.old single board.old }
 {
     of_answer(announcing::fresh::fresh(t, board, single))
 }
@@ -24,7 +21,7 @@ pub fn fresh(
     board: &mut [u8],
     single: bool,
 ) -> Reply
-    ensures { λ r. ⌜ fourLeft r [] (now (t0 .exit)) (now (t1 .exit)) (now (t2 .exit)) (now (t3 .exit)) (now (board .exit)) ≡ courseOut (four (now (t0 .entry)) (now (t1 .entry)) (now (t2 .entry)) (now (t3 .entry))) course (Fresh single (now (board .entry))) ⌝ }
+    ensures { four_left result [] t0.new t1.new t2.new t3.new board.new ≡ course_out (four t0.old t1.old t2.old t3.old) course (Fresh single board.old) }
 {
     let CourseCheck::Known = check_course(course) else {
         return no_course();

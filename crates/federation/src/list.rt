@@ -1,20 +1,18 @@
 // The call list: a course's table is looked at, and a lent sheet is written.
-ghost use mathlib.Core.Path.{_≡_};
-ghost use Rattle·card.specs.Courses.{Plain, courseServed, four};
-ghost use Rattle·card.specs.Room.{servedBeside};
-ghost use Rattle·desk.specs.Calls.{Looks, Show};
-ghost use Rattle·beside.specs.Replies.{replied};
-use beside::number::CourseCheck;
-use beside::number::check_course;
+ghost use Rattle.std.specs.Prelude.{◌≡◌};
+ghost use Rattle.card.specs.Courses.{Plain, course_served, four};
+ghost use Rattle.card.specs.Room.{served_beside};
+ghost use Rattle.desk.specs.Calls.{Looks, Show};
+ghost use Rattle.beside.specs.Replies.{replied};
+
+use beside::number::{CourseCheck, check_course};
 use beside::others::check_three;
-use beside::reply::Reply;
-use beside::reply::no_course;
-use beside::reply::of_answer;
+use beside::reply::{Reply, no_course, of_answer};
 use table::sound::TableCheck;
 
 // The call on the table t beside the other three.
 fn list_beside(t: &[u8], a: &[u8], b: &[u8], c: &[u8], revision: u8, sheet: &mut [u8]) -> Reply
-    ensures { λ r. ⌜ replied r (now (sheet .exit)) ≡ servedBeside (now (a .entry)) (now (b .entry)) (now (c .entry)) (now (t .entry)) (Looks (Show revision (now (sheet .entry)))) .reply ⌝ }
+    ensures { replied result sheet.new ≡ (served_beside a.now b.now c.now t.now (Looks (Show revision sheet.old))).reply }
 {
     let TableCheck::Sound = check_three(a, b, c) else {
         return no_course();
@@ -31,7 +29,7 @@ pub fn list(
     revision: u8,
     sheet: &mut [u8],
 ) -> Reply
-    ensures { λ r. ⌜ replied r (now (sheet .exit)) ≡ courseServed (four (now (t0 .entry)) (now (t1 .entry)) (now (t2 .entry)) (now (t3 .entry))) course (Plain (Looks (Show revision (now (sheet .entry))))) .reply ⌝ }
+    ensures { replied result sheet.new ≡ (course_served (four t0.now t1.now t2.now t3.now) course (Plain (Looks (Show revision sheet.old)))).reply }
 {
     let CourseCheck::Known = check_course(course) else {
         return no_course();

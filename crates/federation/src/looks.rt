@@ -1,23 +1,19 @@
 // Calls that only look at a course's table, and write nothing: fill, preview, verify and bill.
-ghost use mathlib.Core.List.{[]};
-ghost use mathlib.Core.Path.{_≡_};
-ghost use Rattle·card.specs.Courses.{Plain, courseServed, four};
-ghost use Rattle·card.specs.Room.{servedBeside};
-ghost use Rattle·desk.specs.Calls.{Looks};
-ghost use Rattle·table.specs.Served.{looked};
-ghost use Rattle·beside.specs.Replies.{replied};
-ghost use Rattle·federation·specs.specs.Calls.{lookCall};
-use beside::number::CourseCheck;
-use beside::number::check_course;
+ghost use Rattle.std.specs.Prelude.{[], ◌≡◌};
+ghost use Rattle.card.specs.Courses.{Plain, course_served, four};
+ghost use Rattle.card.specs.Room.{served_beside};
+ghost use Rattle.desk.specs.Calls.{Looks};
+ghost use Rattle.table.specs.Served.{looked};
+ghost use Rattle.beside.specs.Replies.{replied};
+ghost use Rattle.federation.specs.Calls.{look_call};
+
+use beside::number::{CourseCheck, check_course};
 use beside::others::check_three;
-use beside::reply::Reply;
-use beside::reply::no_course;
-use beside::reply::of_answer;
-use beside::reply::of_level;
-use beside::reply::of_prospect;
+use beside::reply::{Reply, no_course, of_answer, of_level, of_prospect};
 use table::sound::TableCheck;
 
 // A verify has its file beside: an enum holds no slice.
+#[derive(Drop)]
 pub enum LookCall {
     Fill(u8),
     Preview(u8, u8, u16),
@@ -26,7 +22,7 @@ pub enum LookCall {
 }
 
 fn on_own(t: &[u8], look: LookCall, file: &[u8]) -> Reply
-    ensures { λ r. ⌜ replied r [] ≡ looked (now (t .entry)) (lookCall look (now (file .entry))) ⌝ }
+    ensures { replied result [] ≡ looked t.now (look_call look file.now) }
 {
     match look {
         LookCall::Fill(revision) => of_level(listing::fill::fill(t, revision)),
@@ -40,7 +36,7 @@ fn on_own(t: &[u8], look: LookCall, file: &[u8]) -> Reply
 
 // The call on the table t beside the other three.
 fn on_beside(t: &[u8], a: &[u8], b: &[u8], c: &[u8], look: LookCall, file: &[u8]) -> Reply
-    ensures { λ r. ⌜ replied r [] ≡ servedBeside (now (a .entry)) (now (b .entry)) (now (c .entry)) (now (t .entry)) (Looks (lookCall look (now (file .entry)))) .reply ⌝ }
+    ensures { replied result [] ≡ (served_beside a.now b.now c.now t.now (Looks (look_call look file.now))).reply }
 {
     let TableCheck::Sound = check_three(a, b, c) else {
         return no_course();
@@ -57,7 +53,7 @@ pub fn looks(
     look: LookCall,
     file: &[u8],
 ) -> Reply
-    ensures { λ r. ⌜ replied r [] ≡ courseServed (four (now (t0 .entry)) (now (t1 .entry)) (now (t2 .entry)) (now (t3 .entry))) course (Plain (Looks (lookCall look (now (file .entry))))) .reply ⌝ }
+    ensures { replied result [] ≡ (course_served (four t0.now t1.now t2.now t3.now) course (Plain (Looks (look_call look file.now)))).reply }
 {
     let CourseCheck::Known = check_course(course) else {
         return no_course();

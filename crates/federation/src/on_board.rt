@@ -1,21 +1,18 @@
 // Calls that a course's board is lent to besides its table: yield, join, sync and bundle.
-ghost use mathlib.Core.List.{[]};
-ghost use mathlib.Core.Path.{_≡_};
-ghost use Rattle·card.specs.Courses.{four, Plain, sharing};
-ghost use Rattle·card.specs.Room.{servedBeside};
-ghost use Rattle·table.specs.Shared.{above};
-ghost use Rattle·federation·specs.specs.Calls.{boardCall};
-ghost use Rattle·federation·specs.specs.Out.{courseOut, fourLeft, servedAs};
-use beside::number::CourseCheck;
-use beside::number::check_course;
-use beside::others::check_three;
-use beside::others::most_beside;
-use beside::reply::Reply;
-use beside::reply::no_course;
-use beside::reply::of_answer;
+ghost use Rattle.std.specs.Prelude.{[], ◌≡◌};
+ghost use Rattle.card.specs.Courses.{four, Plain, sharing};
+ghost use Rattle.card.specs.Room.{served_beside};
+ghost use Rattle.table.specs.Shared.{above};
+ghost use Rattle.federation.specs.Calls.{board_call};
+ghost use Rattle.federation.specs.Out.{course_out, four_left, served_as};
+
+use beside::number::{CourseCheck, check_course};
+use beside::others::{check_three, most_beside};
+use beside::reply::{Reply, no_course, of_answer};
 use table::sound::TableCheck;
 
 // A bundle has its records beside: an enum holds no slice.
+#[derive(Drop)]
 pub enum BoardCall {
     Yield(u8),
     Join(u8, u8),
@@ -25,7 +22,7 @@ pub enum BoardCall {
 
 // The call on a table that may have at most so many updates.
 fn on_own(t: &mut [u8], board: &mut [u8], most: usize, call: BoardCall, records: &[u8]) -> Reply
-    ensures { λ r. ⌜ servedAs r [] (now (t .exit)) (now (board .exit)) ≡ sharing (above most) (now (t .entry)) (boardCall call (now (board .entry)) (now (records .entry))) ⌝ }
+    ensures { served_as result [] t.new board.new ≡ sharing (above most) t.old (board_call call board.old records.now) }
 {
     match call {
         BoardCall::Yield(client) => of_answer(announcing::yields::yields(t, board, client)),
@@ -34,12 +31,7 @@ fn on_own(t: &mut [u8], board: &mut [u8], most: usize, call: BoardCall, records:
         }
         BoardCall::Sync(joinee) => of_answer(announcing::sync::sync(t, board, joinee)),
         BoardCall::Bundle(client, revision) => of_answer(announcing::bundle::bundle_within(
-            t,
-            board,
-            most,
-            client,
-            revision,
-            records,
+            t, board, most, client, revision, records,
         )),
     }
 }
@@ -54,7 +46,7 @@ fn on_beside(
     call: BoardCall,
     records: &[u8],
 ) -> Reply
-    ensures { λ r. ⌜ servedAs r [] (now (t .exit)) (now (board .exit)) ≡ servedBeside (now (a .entry)) (now (b .entry)) (now (c .entry)) (now (t .entry)) (boardCall call (now (board .entry)) (now (records .entry))) ⌝ }
+    ensures { served_as result [] t.new board.new ≡ served_beside a.now b.now c.now t.old (board_call call board.old records.now) }
 {
     let TableCheck::Sound = check_three(a, b, c) else {
         return no_course();
@@ -72,7 +64,7 @@ pub fn on_board(
     call: BoardCall,
     records: &[u8],
 ) -> Reply
-    ensures { λ r. ⌜ fourLeft r [] (now (t0 .exit)) (now (t1 .exit)) (now (t2 .exit)) (now (t3 .exit)) (now (board .exit)) ≡ courseOut (four (now (t0 .entry)) (now (t1 .entry)) (now (t2 .entry)) (now (t3 .entry))) course (Plain (boardCall call (now (board .entry)) (now (records .entry)))) ⌝ }
+    ensures { four_left result [] t0.new t1.new t2.new t3.new board.new ≡ course_out (four t0.old t1.old t2.old t3.old) course (Plain (board_call call board.old records.now)) }
 {
     let CourseCheck::Known = check_course(course) else {
         return no_course();

@@ -1,22 +1,18 @@
 // Calls on a course's table alone: update, query, fork, mark and drop.
-ghost use mathlib.Core.List.{[]};
-ghost use mathlib.Core.Path.{_≡_};
-ghost use Rattle·card.specs.Courses.{four, Plain, sharing};
-ghost use Rattle·card.specs.Room.{servedBeside};
-ghost use Rattle·table.specs.Shared.{above};
-ghost use Rattle·federation·specs.specs.Calls.{tableCall};
-ghost use Rattle·federation·specs.specs.Out.{courseOut, fourLeft, servedAs};
-use beside::number::CourseCheck;
-use beside::number::check_course;
-use beside::others::check_three;
-use beside::others::most_beside;
-use beside::reply::Reply;
-use beside::reply::no_course;
-use beside::reply::of_answer;
-use beside::reply::of_reading;
+ghost use Rattle.std.specs.Prelude.{[], ◌≡◌};
+ghost use Rattle.card.specs.Courses.{four, Plain, sharing};
+ghost use Rattle.card.specs.Room.{served_beside};
+ghost use Rattle.table.specs.Shared.{above};
+ghost use Rattle.federation.specs.Calls.{table_call};
+ghost use Rattle.federation.specs.Out.{course_out, four_left, served_as};
+
+use beside::number::{CourseCheck, check_course};
+use beside::others::{check_three, most_beside};
+use beside::reply::{Reply, no_course, of_answer, of_reading};
 use table::sound::TableCheck;
 
 // A mark and a drop have their name beside: an enum holds no slice.
+#[derive(Drop)]
 pub enum TableCall {
     Update {
         client: u8,
@@ -37,7 +33,7 @@ pub enum TableCall {
 
 // The call on a table that may have at most so many updates.
 fn on_own(t: &mut [u8], most: usize, call: TableCall, name: &[u8]) -> Reply
-    ensures { λ r. ⌜ servedAs r [] (now (t .exit)) [] ≡ sharing (above most) (now (t .entry)) (tableCall call (now (name .entry))) ⌝ }
+    ensures { served_as result [] t.new [] ≡ sharing (above most) t.old (table_call call name.now) }
 {
     match call {
         TableCall::Update {
@@ -60,7 +56,7 @@ fn on_own(t: &mut [u8], most: usize, call: TableCall, name: &[u8]) -> Reply
 
 // The call on the table t beside the other three.
 fn on_beside(t: &mut [u8], a: &[u8], b: &[u8], c: &[u8], call: TableCall, name: &[u8]) -> Reply
-    ensures { λ r. ⌜ servedAs r [] (now (t .exit)) [] ≡ servedBeside (now (a .entry)) (now (b .entry)) (now (c .entry)) (now (t .entry)) (tableCall call (now (name .entry))) ⌝ }
+    ensures { served_as result [] t.new [] ≡ served_beside a.now b.now c.now t.old (table_call call name.now) }
 {
     let TableCheck::Sound = check_three(a, b, c) else {
         return no_course();
@@ -77,7 +73,7 @@ pub fn on_table(
     call: TableCall,
     name: &[u8],
 ) -> Reply
-    ensures { λ r. ⌜ fourLeft r [] (now (t0 .exit)) (now (t1 .exit)) (now (t2 .exit)) (now (t3 .exit)) [] ≡ courseOut (four (now (t0 .entry)) (now (t1 .entry)) (now (t2 .entry)) (now (t3 .entry))) course (Plain (tableCall call (now (name .entry)))) ⌝ }
+    ensures { four_left result [] t0.new t1.new t2.new t3.new [] ≡ course_out (four t0.old t1.old t2.old t3.old) course (Plain (table_call call name.now)) }
 {
     let CourseCheck::Known = check_course(course) else {
         return no_course();

@@ -1,21 +1,19 @@
 // A revision's row of 4,096 inherited flags, by value: its 512 bytes, loaded from the cells.
-ghost use mathlib.Core.Path.{_≡_};
-ghost use Prim.Native.Nat.{_+_, _*_, _/_, _%_, _<_};
-ghost use lib.ListN.{length};
-ghost use Rattle·cells.specs.Sizes.{lowerBytes, revisions};
-ghost use Rattle·cells.specs.Words.{byte};
-ghost use Rattle·cells.specs.Flags.{bit, rowBytes};
-ghost use Rattle·cells.specs.Cells.{flagged};
-ghost use Rattle·cells.specs.Decode.{cells};
+ghost use Rattle.std.specs.Prelude.{◌≡◌, ◌+◌, ◌*◌, ◌/◌, ◌%◌, ◌<◌, length};
+ghost use Rattle.cells.specs.Sizes.{lower_bytes, revisions};
+ghost use Rattle.cells.specs.Words.{byte};
+ghost use Rattle.cells.specs.Flags.{bit, row_bytes};
+ghost use Rattle.cells.specs.Cells.{flagged};
+ghost use Rattle.cells.specs.Decode.{cells};
+
 use crate::read;
-use sizes::numbers::Revision;
-use sizes::numbers::wide;
+use sizes::numbers::{Revision, wide};
 use sizes::table::Table;
 
 // Row x of the rows.
 fn copy(d: &[u8], x: usize) -> [u8; Table::ROW]
-    requires { ⌜ (length (now d) ≡ lowerBytes) × (x < 63) ⌝ }
-    ensures { λ row. ⌜ row ≡ rowBytes 512 (λ u. bit (byte (now (d .entry)) (512 * x + u / 8)) (u % 8)) ⌝ }
+    requires { (length d.now ≡ lower_bytes) × (x < 63) }
+    ensures { result ≡ row_bytes 512 (λ u. bit (byte d.now (512 * x + u / 8)) (u % 8)) }
 {
     let mut row = [0; Table::ROW];
     let mut i: usize = 0;
@@ -28,8 +26,8 @@ fn copy(d: &[u8], x: usize) -> [u8; Table::ROW]
 
 // What r, which is not the main revision, inherited otherwise than by count.
 pub fn load(d: &[u8], r: Revision) -> [u8; Table::ROW]
-    requires { ⌜ (length (now d) ≡ lowerBytes) × (0 < r .0) × (r .0 < revisions) ⌝ }
-    ensures { λ row. ⌜ row ≡ rowBytes 512 (flagged (cells (now (d .entry))) (r .0)) ⌝ }
+    requires { (length d.now ≡ lower_bytes) × (0 < r.0) × (r.0 < revisions) }
+    ensures { result ≡ row_bytes 512 (flagged (cells d.now) r.0) }
 {
     let x = wide(r.0) - 1;
     if read::used(d, r) {

@@ -1,83 +1,83 @@
 -- A row of flags as one number: the bits of a number by its bytes, the lowest first, and of a power of two.
-use Prim.Native.Nat.{ℕ, suc, _+_, _*_, _-_, _/_, _%_, _^_, _<_, _≤_}
-use mathlib.Core.Path.{_≡_, sym, _∙_, ap, subst}
+use Prim.Native.Nat.{ℕ, suc, ◌+◌, ◌*◌, ◌-◌, ◌/◌, ◌%◌, ◌^◌, ◌<◌, ◌≤◌}
+use mathlib.Core.Path.{◌≡◌, sym, ◌∙◌, ap, subst}
 use mathlib.Core.List.{List}
-use native.Mathlib.Nat.{div-eq-of-lt}
+use native.Mathlib.Nat.{div-eq_of_lt}
 use native.Mathlib.Omega.{arith}
-use lib.Bits.{shifted-even}
+use lib.Bits.{shifted_even}
 use lib.Dec.{eqb, ltb}
-use lib.Pow.{field, high, low, mod-mod-pow, pow-add, pow-lt, pow-mono, shl-exact, shl-shr, shr-shr}
+use lib.Pow.{field, high, low, mod-mod-pow, pow-add, pow-lt, pow_mono, shl_exact, shl-shr, shr-shr}
 use borrow.Author.Tests.{eqb-true, eqb-false, ltb-true, ltb-false}
-use Rattle·lists.proofs.Cases.{cases}
-use Rattle·cells.specs.Words.{byte}
-use Rattle·cells.specs.Flags.{bit, byteOf, flagAt}
-use Rattle·flags·proofs.proofs.Bytes.{at-place, byte-is}
+use Rattle.lists.proofs.Cases.{cases}
+use Rattle.cells.specs.Words.{byte}
+use Rattle.cells.specs.Flags.{bit, byte_of, flag_at}
+use Rattle.flags.proofs.Bytes.{at_place, byte_is}
 
 -- the bits of the lowest byte
-low-bit : (n j : ℕ) → j < 8 → bit (n % 256) j ≡ bit n j
-low-bit n j h =
+low_bit : (n j : ℕ) → j < 8 → bit (n % 256) j ≡ bit n j
+low_bit n j h =
     let e : 7 - j + (1 + j) ≡ 8 = omega arith in
     ap (λ x. eqb x 1)
     (sym (field (n % 256) 1 j) ∙ ap (λ x. x / 2 ^ j) (ap (λ x. n % 2 ^ x % 2 ^ (1 + j)) (sym e) ∙ mod-mod-pow n (7 - j) (1 + j)) ∙ field n 1 j)
 
 -- the bits above them
-high-bit : (n b y : ℕ) → b < 256 → bit (n * 256 + b) (8 + y) ≡ bit n y
-high-bit n b y h = ap (λ x. eqb (x % 2) 1) (sym (shr-shr (n * 256 + b) 8 y) ∙ ap (λ x. x / 2 ^ y) (high n 8 h))
+high_bit : (n b y : ℕ) → b < 256 → bit (n * 256 + b) (8 + y) ≡ bit n y
+high_bit n b y h = ap (λ x. eqb (x % 2) 1) (sym (shr-shr (n * 256 + b) 8 y) ∙ ap (λ x. x / 2 ^ y) (high n 8 h))
 
 -- the flags of a row from byte k on are the bits of w
 abbrev pub Told : List ℕ → ℕ → ℕ → Type 0
-Told row k w = (y : ℕ) → y < 64 - 8 * k → bit w y ≡ flagAt row (8 * k + y)
+Told row k w = (y : ℕ) → y < 64 - 8 * k → bit w y ≡ flag_at row (8 * k + y)
 
 -- one byte more, the one before byte k
-pub told-more : (row : List ℕ) (k w b : ℕ) → 0 < k → k ≤ 8 → b < 256 → b ≡ byte row (k - 1) → Told row k w → Told row (k - 1) (w * 256 + b)
-told-more row k w b z l h e t y q =
+pub told_more : (row : List ℕ) (k w b : ℕ) → 0 < k → k ≤ 8 → b < 256 → b ≡ byte row (k - 1) → Told row k w → Told row (k - 1) (w * 256 + b)
+told_more row k w b z l h e t y q =
     cases (ltb y 8)
-    (λ c. let m = ltb-true y 8 c in sym (low-bit (w * 256 + b) y m) ∙ ap (λ x. bit x y) (low w 8 h ∙ e) ∙ sym (at-place (byte row) (k - 1) y m))
+    (λ c. let m = ltb-true y 8 c in sym (low_bit (w * 256 + b) y m) ∙ ap (λ x. bit x y) (low w 8 h ∙ e) ∙ sym (at_place (byte row) (k - 1) y m))
     (λ c.
     let m = ltb-false y 8 c in
     let up : y ≡ 8 + (y - 8) = omega arith in
     let to : 8 * k + (y - 8) ≡ 8 * (k - 1) + y = omega arith in
-    ap (bit (w * 256 + b)) up ∙ high-bit w b (y - 8) h ∙ t (y - 8) (omega arith) ∙ ap (flagAt row) to)
+    ap (bit (w * 256 + b)) up ∙ high_bit w b (y - 8) h ∙ t (y - 8) (omega arith) ∙ ap (flag_at row) to)
 
-pub told-all : (row : List ℕ) (k w : ℕ) → k ≡ 0 → Told row k w → (y : ℕ) → y < 64 → bit w y ≡ flagAt row y
-told-all row k w e t y h = let z : 8 * k + y ≡ y = omega arith in t y (omega arith) ∙ ap (flagAt row) z
+pub told_all : (row : List ℕ) (k w : ℕ) → k ≡ 0 → Told row k w → (y : ℕ) → y < 64 → bit w y ≡ flag_at row y
+told_all row k w e t y h = let z : 8 * k + y ≡ y = omega arith in t y (omega arith) ∙ ap (flag_at row) z
 
-pub bound-more : (k w b : ℕ) → 0 < k → k ≤ 8 → b < 256 → w < 2 ^ (8 * (8 - k)) → w * 256 + b < 2 ^ (8 * (8 - (k - 1)))
-bound-more k w b z l h g =
+pub bound_more : (k w b : ℕ) → 0 < k → k ≤ 8 → b < 256 → w < 2 ^ (8 * (8 - k)) → w * 256 + b < 2 ^ (8 * (8 - (k - 1)))
+bound_more k w b z l h g =
     let e : 8 * (8 - k) + 8 ≡ 8 * (8 - (k - 1)) = omega arith in
     let p = pow-add 2 (8 * (8 - k)) 8 in
     subst (λ n. w * 256 + b < 2 ^ n) e (rw p (omega arith))
 
 -- seven bytes and one more have 64 bits
-pub bound-eight : (k : ℕ) → 0 < k → 2 ^ (8 * (8 - k)) ≤ 72057594037927936
-bound-eight k h = pow-mono {j = 56} (omega arith)
+pub bound_eight : (k : ℕ) → 0 < k → 2 ^ (8 * (8 - k)) ≤ 72057594037927936
+bound_eight k h = pow_mono {j = 56} (omega arith)
 
 -- byte k of a number
-pub byte-at : (n k : ℕ) → n / 2 ^ (8 * k) % 256 ≡ byteOf (λ j. bit n (8 * k + j))
-byte-at n k =
+pub byte_at : (n k : ℕ) → n / 2 ^ (8 * k) % 256 ≡ byte_of (λ j. bit n (8 * k + j))
+byte_at n k =
     let m = n / 2 ^ (8 * k) in
-    byte-is (m % 256) (λ j. bit n (8 * k + j)) (omega arith) (λ j h. low-bit m j h ∙ ap (λ x. eqb (x % 2) 1) (shr-shr n (8 * k) j))
+    byte_is (m % 256) (λ j. bit n (8 * k + j)) (omega arith) (λ j h. low_bit m j h ∙ ap (λ x. eqb (x % 2) 1) (shr-shr n (8 * k) j))
 
-pub byte-next : (n k : ℕ) → n / 2 ^ (8 * k) / 256 ≡ n / 2 ^ (8 * (k + 1))
-byte-next n k = let e : 8 * k + 8 ≡ 8 * (k + 1) = omega arith in shr-shr n (8 * k) 8 ∙ ap (λ x. n / 2 ^ x) e
+pub byte_next : (n k : ℕ) → n / 2 ^ (8 * k) / 256 ≡ n / 2 ^ (8 * (k + 1))
+byte_next n k = let e : 8 * k + 8 ≡ 8 * (k + 1) = omega arith in shr-shr n (8 * k) 8 ∙ ap (λ x. n / 2 ^ x) e
 
 -- one bit alone
-bit-below : (r y : ℕ) → y < r → 1 * 2 ^ r / 2 ^ y % 2 ≡ 0
-bit-below r y h =
+bit_below : (r y : ℕ) → y < r → 1 * 2 ^ r / 2 ^ y % 2 ≡ 0
+bit_below r y h =
     let e : suc (r - y - 1) + y ≡ r = omega arith in
     let p : 1 * 2 ^ r ≡ 2 ^ suc (r - y - 1) * 2 ^ y = ap (λ x. 1 * x) (ap (λ x. 2 ^ x) (sym e) ∙ pow-add 2 (suc (r - y - 1)) y) ∙ omega arith in
-    ap (λ x. x / 2 ^ y % 2) p ∙ ap (λ x. x % 2) (shl-shr (2 ^ suc (r - y - 1)) y) ∙ sym (ap (λ x. x % 2) (omega arith)) ∙ shifted-even 1 (r - y - 1)
+    ap (λ x. x / 2 ^ y % 2) p ∙ ap (λ x. x % 2) (shl-shr (2 ^ suc (r - y - 1)) y) ∙ sym (ap (λ x. x % 2) (omega arith)) ∙ shifted_even 1 (r - y - 1)
 
 bit-above : (r y : ℕ) → r < y → 1 * 2 ^ r / 2 ^ y ≡ 0
-bit-above r y h = div-eq-of-lt (let l = pow-lt h in omega arith)
+bit-above r y h = div-eq_of_lt (let l = pow-lt h in omega arith)
 
 pub bit-only : (r y : ℕ) → r < 64 → bit (1 * 2 ^ r % 2 ^ 64) y ≡ eqb y r
 bit-only r y h =
-    ap (λ x. bit x y) (shl-exact 1 r 64 (omega arith) (omega arith))
+    ap (λ x. bit x y) (shl_exact 1 r 64 (omega arith) (omega arith))
     ∙ cases (eqb y r)
     (λ q. let e = eqb-true y r q in rw (q, e) (ap (λ x. eqb (x % 2) 1) (shl-shr 1 r)))
     (λ q.
     let d = eqb-false y r q in
     cases (ltb y r)
-    (λ c. rw q (ap (λ x. eqb x 1) (bit-below r y (ltb-true y r c))))
+    (λ c. rw q (ap (λ x. eqb x 1) (bit_below r y (ltb-true y r c))))
     (λ c. let m = ltb-false y r c in rw q (ap (λ x. eqb (x % 2) 1) (bit-above r y (omega (arith, d))))))

@@ -1,36 +1,31 @@
 // What a fork and a join make of the flags, by value: rows of flags in, rows of flags out.
-ghost use mathlib.Core.Path.{_≡_};
-ghost use mathlib.Core.Bool.{cond, not, _||_, _&&_};
-ghost use Prim.Native.Nat.{_<_};
-ghost use lib.Dec.{eqb};
-ghost use Rattle·cells.specs.Sizes.{clients, revisions};
-ghost use Rattle·cells.specs.Flags.{flagAt, rowBytes, rows, flagOf};
-ghost use Rattle·cells.specs.CellSteps.{forkCaught, joinCaught};
-use crate::bits;
-use crate::rows;
-use crate::words;
-use sizes::numbers::Revision;
-use sizes::numbers::wide;
+ghost use Rattle.std.specs.Prelude.{◌≡◌, cond, not, ◌||◌, ◌&&◌, ◌<◌, eqb};
+ghost use Rattle.cells.specs.Sizes.{clients, revisions};
+ghost use Rattle.cells.specs.Flags.{flag_at, row_bytes, rows, flag_of};
+ghost use Rattle.cells.specs.CellSteps.{fork_caught, join_caught};
+
+use crate::{bits, rows, words};
+use sizes::numbers::{Revision, wide};
 use sizes::table::Table;
 
 // The row with one flag alone.
 pub fn only(r: Revision) -> [u8; Table::FLAGS]
-    requires { ⌜ r .0 < revisions ⌝ }
-    ensures { λ row. ⌜ row ≡ rowBytes 8 (λ y. eqb y (r .0)) ⌝ }
+    requires { r.0 < revisions }
+    ensures { result ≡ row_bytes 8 (λ y. eqb y r.0) }
 {
     words::row(1u64 << wide(r.0))
 }
 
 fn flag(row: [u8; Table::FLAGS], r: Revision) -> bool
-    requires { ⌜ r .0 < revisions ⌝ }
-    ensures { λ on. ⌜ on ≡ flagAt row (r .0) ⌝ }
+    requires { r.0 < revisions }
+    ensures { result ≡ flag_at row r.0 }
 {
     (words::word(row) >> wide(r.0)) % 2 == 1
 }
 
 // The flags of either row.
 pub fn either(a: [u8; Table::FLAGS], b: [u8; Table::FLAGS]) -> [u8; Table::FLAGS]
-    ensures { λ r. ⌜ r ≡ rowBytes 8 (λ y. flagAt a y || flagAt b y) ⌝ }
+    ensures { result ≡ row_bytes 8 (λ y. flag_at a y || flag_at b y) }
 {
     let mut z = [0; Table::FLAGS];
     let mut k: usize = 0;
@@ -43,7 +38,7 @@ pub fn either(a: [u8; Table::FLAGS], b: [u8; Table::FLAGS]) -> [u8; Table::FLAGS
 
 // The flags of a that b has not.
 fn without(a: [u8; Table::FLAGS], b: [u8; Table::FLAGS]) -> [u8; Table::FLAGS]
-    ensures { λ r. ⌜ r ≡ rowBytes 8 (λ y. flagAt a y && not (flagAt b y)) ⌝ }
+    ensures { result ≡ row_bytes 8 (λ y. flag_at a y && not (flag_at b y)) }
 {
     let mut z = [0; Table::FLAGS];
     let mut k: usize = 0;
@@ -56,14 +51,14 @@ fn without(a: [u8; Table::FLAGS], b: [u8; Table::FLAGS]) -> [u8; Table::FLAGS]
 
 // The row with the flags of w as told. A loop over rows makes w once.
 fn with(row: [u8; Table::FLAGS], w: [u8; Table::FLAGS], on: bool) -> [u8; Table::FLAGS]
-    ensures { λ r. ⌜ r ≡ rowBytes 8 (λ y. cond (flagAt w y) on (flagAt row y)) ⌝ }
+    ensures { result ≡ row_bytes 8 (λ y. cond (flag_at w y) on (flag_at row y)) }
 {
     if on { either(row, w) } else { without(row, w) }
 }
 
 // The row, and the flags of w if told so.
 fn gain(row: [u8; Table::FLAGS], w: [u8; Table::FLAGS], on: bool) -> [u8; Table::FLAGS]
-    ensures { λ r. ⌜ r ≡ rowBytes 8 (λ y. flagAt row y || (on && flagAt w y)) ⌝ }
+    ensures { result ≡ row_bytes 8 (λ y. flag_at row y || (on && flag_at w y)) }
 {
     if on {
         return either(row, w);
@@ -76,7 +71,7 @@ pub fn clear(
     s: [[u8; Table::FLAGS]; rows::BLOCK],
     w: [u8; Table::FLAGS],
 ) -> [[u8; Table::FLAGS]; rows::BLOCK]
-    ensures { λ r. ⌜ r ≡ rows 16 (λ x y. flagOf s x y && not (flagAt w y)) ⌝ }
+    ensures { result ≡ rows 16 (λ x y. flag_of s x y && not (flag_at w y)) }
 {
     let mut z = [[0; Table::FLAGS]; rows::BLOCK];
     let mut x: usize = 0;
@@ -90,7 +85,7 @@ pub fn clear(
 
 // The joiner's row of seen flags after the join, from its own row and the joinee's.
 pub fn join_seen(pair: [[u8; Table::FLAGS]; 2]) -> [u8; Table::FLAGS]
-    ensures { λ r. ⌜ r ≡ rowBytes 8 (λ y. flagOf pair 0 y || flagOf pair 1 y) ⌝ }
+    ensures { result ≡ row_bytes 8 (λ y. flag_of pair 0 y || flag_of pair 1 y) }
 {
     let joiner = pair[0];
     let joinee = pair[1];
@@ -103,8 +98,8 @@ pub fn fork_caught(
     parent: Revision,
     child: Revision,
 ) -> [[u8; Table::FLAGS]; Table::CLIENTS]
-    requires { ⌜ (parent .0 < revisions) × (child .0 < revisions) ⌝ }
-    ensures { λ r. ⌜ r ≡ rows clients (forkCaught (flagOf caught) (parent .0) (child .0)) ⌝ }
+    requires { (parent.0 < revisions) × (child.0 < revisions) }
+    ensures { result ≡ rows clients (fork_caught (flag_of caught) parent.0 child.0) }
 {
     let column = only(child);
     let mut z = [[0; Table::FLAGS]; Table::CLIENTS];
@@ -123,8 +118,8 @@ pub fn join_caught(
     a: Revision,
     b: Revision,
 ) -> [[u8; Table::FLAGS]; Table::CLIENTS]
-    requires { ⌜ (a .0 < revisions) × (b .0 < revisions) ⌝ }
-    ensures { λ r. ⌜ r ≡ rows clients (joinCaught (flagOf caught) (a .0) (b .0)) ⌝ }
+    requires { (a.0 < revisions) × (b.0 < revisions) }
+    ensures { result ≡ rows clients (join_caught (flag_of caught) a.0 b.0) }
 {
     let column = only(a);
     let mut z = [[0; Table::FLAGS]; Table::CLIENTS];

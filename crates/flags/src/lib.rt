@@ -1,5 +1,7 @@
 // Rows of 64 flags packed in bytes: loaded as arrays of eight bytes a row, changed by value as a fork, a join or an event changes them,
 // stored (01: "Rows of marks by value, an array of arrays, box against box"). Knows no offset.
+#![tactic(auto)]
+
 pub mod bits; // bits.rt: eight flags as a byte
 pub mod change; // change.rt: what a fork and a join make of the flags, by value
 pub mod packed; // packed.rt: the same on packed flags

@@ -1,10 +1,9 @@
 // Rows of 64 flags, eight bytes each: loaded from bytes and stored. Row by row, so that a row is moved as one word.
-ghost use mathlib.Core.Path.{_≡_};
-ghost use Prim.Native.Nat.{_+_, _*_, _/_, _%_, _<_, _≤_};
-ghost use lib.ListN.{length};
-ghost use Rattle·cells.specs.Sizes.{revisions};
-ghost use Rattle·cells.specs.Words.{byte};
-ghost use Rattle·cells.specs.Flags.{bit, flagAt, flagIn, rowBytes, putRow, pack, rows, flagOf};
+ghost use Rattle.std.specs.Prelude.{◌≡◌, ◌+◌, ◌*◌, ◌/◌, ◌%◌, ◌<◌, ◌≤◌, length};
+ghost use Rattle.cells.specs.Sizes.{revisions};
+ghost use Rattle.cells.specs.Words.{byte};
+ghost use Rattle.cells.specs.Flags.{bit, flag_at, flag_in, row_bytes, put_row, pack, rows, flag_of};
+
 use crate::bits;
 use sizes::table::Table;
 
@@ -13,8 +12,8 @@ pub const BLOCK: usize = 16;
 
 // Row x.
 pub fn load_row(t: &[u8], x: usize) -> [u8; Table::FLAGS]
-    requires { ⌜ (x < revisions) × (8 * x + 8 ≤ length (now t)) ⌝ }
-    ensures { λ r. ⌜ r ≡ rowBytes 8 (λ y. bit (byte (now (t .entry)) (8 * x + y / 8)) (y % 8)) ⌝ }
+    requires { (x < revisions) × (8 * x + 8 ≤ length t.now) }
+    ensures { result ≡ row_bytes 8 (λ y. bit (byte t.now (8 * x + y / 8)) (y % 8)) }
 {
     let mut row = [0; Table::FLAGS];
     let mut k: usize = 0;
@@ -27,8 +26,8 @@ pub fn load_row(t: &[u8], x: usize) -> [u8; Table::FLAGS]
 
 // Sixteen rows.
 pub fn load16(t: &[u8]) -> [[u8; Table::FLAGS]; BLOCK]
-    requires { ⌜ length (now t) ≡ 128 ⌝ }
-    ensures { λ r. ⌜ r ≡ rows 16 (flagIn 8 16 (now (t .entry))) ⌝ }
+    requires { length t.now ≡ 128 }
+    ensures { result ≡ rows 16 (flag_in 8 16 t.now) }
 {
     let mut s = [[0; Table::FLAGS]; BLOCK];
     let mut x: usize = 0;
@@ -41,8 +40,8 @@ pub fn load16(t: &[u8]) -> [[u8; Table::FLAGS]; BLOCK]
 
 // Row x replaced.
 pub fn store_row(t: &mut [u8], x: usize, row: [u8; Table::FLAGS])
-    requires { ⌜ (x < revisions) × (8 * x + 8 ≤ length (now t)) ⌝ }
-    ensures { λ _. ⌜ now (t .exit) ≡ putRow 8 (now (t .entry)) x (flagAt row) ⌝ }
+    requires { (x < revisions) × (8 * x + 8 ≤ length t.old) }
+    ensures { t.new ≡ put_row 8 t.old x (flag_at row) }
 {
     let mut k: usize = 0;
     while k < Table::FLAGS {
@@ -53,8 +52,8 @@ pub fn store_row(t: &mut [u8], x: usize, row: [u8; Table::FLAGS])
 
 // Sixteen rows replaced.
 pub fn store16(t: &mut [u8], s: [[u8; Table::FLAGS]; BLOCK])
-    requires { ⌜ length (now t) ≡ 128 ⌝ }
-    ensures { λ _. ⌜ now (t .exit) ≡ pack 16 (flagOf s) ⌝ }
+    requires { length t.old ≡ 128 }
+    ensures { t.new ≡ pack 16 (flag_of s) }
 {
     let mut x: usize = 0;
     while x < BLOCK {

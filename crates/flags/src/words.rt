@@ -1,7 +1,7 @@
 // A row of 64 flags as one number, its first byte lowest. The compiled code keeps a row by value so, and looks at one flag without the row's bytes.
-ghost use mathlib.Core.Path.{_≡_};
-ghost use Prim.Native.Nat.{ℕ, _<_};
-ghost use Rattle·cells.specs.Flags.{bit, flagAt, rowBytes};
+ghost use Rattle.std.specs.Prelude.{◌≡◌, ℕ, ◌<◌};
+ghost use Rattle.cells.specs.Flags.{bit, flag_at, row_bytes};
+
 use sizes::numbers::wide;
 use sizes::table::Table;
 
@@ -9,7 +9,7 @@ use sizes::table::Table;
 const BASE: u64 = 256;
 
 pub fn word(row: [u8; Table::FLAGS]) -> u64
-    ensures { λ w. ⌜ ((y : ℕ) → y < 64 → bit w y ≡ flagAt row y) ⌝ }
+    ensures { (y : ℕ) → y < 64 → bit result y ≡ flag_at row y }
 {
     let mut w: u64 = 0;
     let mut k: usize = Table::FLAGS;
@@ -21,7 +21,7 @@ pub fn word(row: [u8; Table::FLAGS]) -> u64
 }
 
 pub fn row(word: u64) -> [u8; Table::FLAGS]
-    ensures { λ r. ⌜ r ≡ rowBytes 8 (bit word) ⌝ }
+    ensures { result ≡ row_bytes 8 (bit word) }
 {
     let mut r = [0; Table::FLAGS];
     let mut w = word;

@@ -1,63 +1,61 @@
 -- No claim rests on this file: it serves the proof of the agreement (crate consistency).
 -- The cells, and the bytes, that a list of accepted steps makes of a fresh table.
-use Prim.Native.Nat.{ℕ}
-use mathlib.Core.Bool.{Bool, true, false}
-use mathlib.Core.Option.{Option, none, some}
-use mathlib.Core.List.{List, [], _∷_}
-use Rattle·lists.specs.Names.{Name}
-use Rattle·diagram.specs.Day.{Day, fresh, numberOf}
-use Rattle·diagram.specs.Steps.{Step, Event, Yield, Fork, Join, Drop, after}
-use Rattle·cells.specs.Cells.{Cells, nextNumber}
-use Rattle·cells.specs.Decode.{cells}
-use Rattle·cells.specs.CellSteps.{freshCells, updateCells, queryCells, closeCells, forkCells, markCells, joinCells, dropCells}
-use Rattle·cells.specs.Steps.{freshBytes, updateBytes, queryBytes, closeBytes, forkBytes, markBytes, joinBytes, dropBytes}
+use Rattle.std.specs.Prelude.{ℕ, Bool, true, false, List, [], ◌∷◌}
+use Rattle.std.proofs.Math.Option.{Option, none, some}
+use Rattle.lists.specs.Names.{Name}
+use Rattle.diagram.specs.Day.{Day, fresh, number_of}
+use Rattle.diagram.specs.Steps.{Step, Event, Yield, Fork, Join, Drop, after}
+use Rattle.cells.specs.Cells.{Cells, next_number}
+use Rattle.cells.specs.Decode.{cells}
+use Rattle.cells.specs.CellSteps.{fresh_cells, update_cells, query_cells, close_cells, fork_cells, mark_cells, join_cells, drop_cells}
+use Rattle.cells.specs.Steps.{fresh_bytes, update_bytes, query_bytes, close_bytes, fork_bytes, mark_bytes, join_bytes, drop_bytes}
 
 -- a step as a table is told it: by the numbers that its revisions bear
-abbrev pub byNumber : Day → Step → Step
-byNumber y (Event c r u) = Event c (numberOf y r) u
-byNumber y (Yield c) = Yield c
-byNumber y (Fork r name) = Fork (numberOf y r) name
-byNumber y (Join a b) = Join (numberOf y a) (numberOf y b)
-byNumber y (Drop r) = Drop (numberOf y r)
+abbrev pub by_number : Day → Step → Step
+by_number y (Event c r u) = Event c (number_of y r) u
+by_number y (Yield c) = Yield c
+by_number y (Fork r name) = Fork (number_of y r) name
+by_number y (Join a b) = Join (number_of y a) (number_of y b)
+by_number y (Drop r) = Drop (number_of y r)
 
 -- n forks c, or marks it with a name
-abbrev pub branchCells : Cells → ℕ → ℕ → Option Name → Cells
-branchCells k n c none = forkCells k n c
-branchCells k n c (some w) = markCells k n c w
+abbrev pub branch_cells : Cells → ℕ → ℕ → Option Name → Cells
+branch_cells k n c none = fork_cells k n c
+branch_cells k n c (some w) = mark_cells k n c w
 
-abbrev pub branchBytes : List ℕ → ℕ → ℕ → Option Name → List ℕ
-branchBytes d n c none = forkBytes d n c
-branchBytes d n c (some w) = markBytes d n c w
+abbrev pub branch_bytes : List ℕ → ℕ → ℕ → Option Name → List ℕ
+branch_bytes d n c none = fork_bytes d n c
+branch_bytes d n c (some w) = mark_bytes d n c w
 
 -- one step by numbers; a fork gives the next number
-unfoldable pub stepCells : Cells → Step → Cells
-stepCells k (Event c r true) = updateCells k c r
-stepCells k (Event c r false) = queryCells k c r
-stepCells k (Yield c) = closeCells k c
-stepCells k (Fork n name) = branchCells k n (nextNumber k) name
-stepCells k (Join a b) = joinCells k a b
-stepCells k (Drop n) = dropCells k n
+unfoldable pub step_cells : Cells → Step → Cells
+step_cells k (Event c r true) = update_cells k c r
+step_cells k (Event c r false) = query_cells k c r
+step_cells k (Yield c) = close_cells k c
+step_cells k (Fork n name) = branch_cells k n (next_number k) name
+step_cells k (Join a b) = join_cells k a b
+step_cells k (Drop n) = drop_cells k n
 
-unfoldable pub cellsFrom : Day → Cells → List Step → Cells
-cellsFrom y k [] = k
-cellsFrom y k (s ∷ ss) = cellsFrom (after y s) (stepCells k (byNumber y s)) ss
+unfoldable pub cells_from : Day → Cells → List Step → Cells
+cells_from y k [] = k
+cells_from y k (s ∷ ss) = cells_from (after y s) (step_cells k (by_number y s)) ss
 
 -- from a table made fresh with either choice (02, U8)
-unfoldable pub cellsAfter : Bool → List Step → Cells
-cellsAfter single ss = cellsFrom fresh (freshCells single) ss
+unfoldable pub cells_after : Bool → List Step → Cells
+cells_after single ss = cells_from fresh (fresh_cells single) ss
 
 -- the same on the bytes
-unfoldable pub stepBytes : List ℕ → Step → List ℕ
-stepBytes d (Event c r true) = updateBytes d c r
-stepBytes d (Event c r false) = queryBytes d c r
-stepBytes d (Yield c) = closeBytes d c
-stepBytes d (Fork n name) = branchBytes d n (nextNumber (cells d)) name
-stepBytes d (Join a b) = joinBytes d a b
-stepBytes d (Drop n) = dropBytes d n
+unfoldable pub step_bytes : List ℕ → Step → List ℕ
+step_bytes d (Event c r true) = update_bytes d c r
+step_bytes d (Event c r false) = query_bytes d c r
+step_bytes d (Yield c) = close_bytes d c
+step_bytes d (Fork n name) = branch_bytes d n (next_number (cells d)) name
+step_bytes d (Join a b) = join_bytes d a b
+step_bytes d (Drop n) = drop_bytes d n
 
-unfoldable pub bytesFrom : Day → List ℕ → List Step → List ℕ
-bytesFrom y d [] = d
-bytesFrom y d (s ∷ ss) = bytesFrom (after y s) (stepBytes d (byNumber y s)) ss
+unfoldable pub bytes_from : Day → List ℕ → List Step → List ℕ
+bytes_from y d [] = d
+bytes_from y d (s ∷ ss) = bytes_from (after y s) (step_bytes d (by_number y s)) ss
 
-unfoldable pub bytesAfter : Bool → List Step → List ℕ
-bytesAfter single ss = bytesFrom fresh (freshBytes single) ss
+unfoldable pub bytes_after : Bool → List Step → List ℕ
+bytes_after single ss = bytes_from fresh (fresh_bytes single) ss

@@ -1,25 +1,25 @@
 -- What the answer of the check of code 10 says.
-use Prim.Native.Nat.{ℕ, _<_}
+use Prim.Native.Nat.{ℕ, ◌<◌}
 use mathlib.Core.Bool.{true}
-use mathlib.Core.Path.{_≡_}
+use mathlib.Core.Path.{◌≡◌}
 use mathlib.Core.List.{List}
 use native.Mathlib.Omega.{arith}
-use Rattle·lists.proofs.Told.{failed}
-use Rattle·cells.specs.Sizes.{revisions}
-use Rattle·cells.specs.Cells.{nextNumber}
-use Rattle·cells.specs.Decode.{cells}
-use Rattle·cells.specs.Range.{inRange}
-use Rattle·cells.specs.Checks.{noneLeft}
-use Rattle·cells.proofs.Range.{next-ranged, ranges}
-use Rattle·sizes.specs.declared.numbers.Revision.{Revision}
-use Rattle·checks.specs.Answers.{nextCheck}
-use Rattle·checks.specs.declared.next.NextCheck.the-variants as left
+use Rattle.lists.proofs.Told.{failed}
+use Rattle.cells.specs.Sizes.{revisions}
+use Rattle.cells.specs.Cells.{next_number}
+use Rattle.cells.specs.Decode.{cells}
+use Rattle.cells.specs.Range.{in_range}
+use Rattle.cells.specs.Checks.{none_left}
+use Rattle.cells.proofs.Range.{next_ranged, ranges}
+use Rattle.sizes.specs.declared.numbers.Revision.{Revision}
+use Rattle.checks.specs.Answers.{next_check}
+use Rattle.checks.specs.declared.next.NextCheck.TheVariants as left
 
 -- code 10
-pub next : (d : List ℕ) → inRange d ≡ true → (x : Revision) → nextCheck d ≡ left.Next x → (0 < x .0) × (x .0 < revisions)
-unfolding nextCheck
+pub next : (d : List ℕ) → in_range d ≡ true → (x : Revision) → next_check d ≡ left.Next x → (0 < x.0) × (x.0 < revisions)
+unfolding next_check
 next d i x e =
-    let p = failed (noneLeft (cells d)) _ _ _ (λ d. cc) e in
-    let v : x .0 ≡ nextNumber (cells d) = cc (p .1) in
-    let n = next-ranged (cells d) (ranges d i) in
+    let p = failed (none_left (cells d)) _ _ _ (λ d. cc) e in
+    let v : x.0 ≡ next_number (cells d) = cc p.1 in
+    let n = next_ranged (cells d) (ranges d i) in
     (omega arith, omega arith)

@@ -1,14 +1,11 @@
 // A revision joins another, which is handed in.
-ghost use mathlib.Core.Path.{_≡_};
-ghost use mathlib.Core.Bool.{cond, true};
-ghost use Prim.Native.Nat.{_<_};
-ghost use lib.Dec.{eqb};
-ghost use lib.ListN.{length};
-ghost use Rattle·cells.specs.Sizes.{lowerBytes, main, revisions};
-ghost use Rattle·cells.specs.Parts.{glue, split};
-ghost use Rattle·cells.specs.Decode.{cells};
-ghost use Rattle·cells.specs.Range.{inRange};
-ghost use Rattle·cells.specs.Steps.{joinBytes, mergeParts};
+ghost use Rattle.std.specs.Prelude.{◌≡◌, cond, true, ◌<◌, eqb, length};
+ghost use Rattle.cells.specs.Sizes.{lower_bytes, main, revisions};
+ghost use Rattle.cells.specs.Parts.{glue, split};
+ghost use Rattle.cells.specs.Decode.{cells};
+ghost use Rattle.cells.specs.Range.{in_range};
+ghost use Rattle.cells.specs.Steps.{join_bytes, merge_parts};
+
 use crate::drop;
 use fields::read;
 use linking::own;
@@ -17,8 +14,8 @@ use stores::write;
 
 // How many of the main revision's own updates are settled once a has `total`: all, where a is that revision.
 fn settled_with(d: &[u8], a: Revision, total: usize) -> usize
-    requires { ⌜ (length (now d) ≡ lowerBytes) × (total < 65536) ⌝ }
-    ensures { λ v. ⌜ (v ≡ cond (eqb (a .0) main) total (cells (now (d .entry)) .settled)) × (v < 65536) ⌝ }
+    requires { (length d.now ≡ lower_bytes) × (total < 65536) }
+    ensures { (result ≡ cond (eqb a.0 main) total (cells d.now).settled) × (result < 65536) }
 {
     if a.0 == 0 {
         return total;
@@ -28,8 +25,8 @@ fn settled_with(d: &[u8], a: Revision, total: usize) -> usize
 
 // a gets b's own list, what b has seen, and who has caught up with b. How many updates a gained is the answer.
 fn merge(d: &mut [u8], a: Revision, b: Revision) -> usize
-    requires { ⌜ (length (now d) ≡ lowerBytes) × (inRange (now d) ≡ true) × (a .0 < revisions) × (b .0 < revisions) ⌝ }
-    ensures { λ n. ⌜ (n ≡ cells (now (d .entry)) .count (b .0)) × (now (d .exit) ≡ glue (mergeParts (split (now (d .entry))) (a .0) (b .0))) ⌝ }
+    requires { (length d.old ≡ lower_bytes) × (in_range d.old ≡ true) × (a.0 < revisions) × (b.0 < revisions) }
+    ensures { (result ≡ (cells d.old).count b.0) × (d.new ≡ glue (merge_parts (split d.old) a.0 b.0)) }
 {
     let gain = read::count(d, b);
     let total = own::counted(read::count(d, a) + gain);
@@ -44,8 +41,8 @@ fn merge(d: &mut [u8], a: Revision, b: Revision) -> usize
 
 // How many updates a gained is the answer.
 pub fn join(d: &mut [u8], a: Revision, b: Revision) -> usize
-    requires { ⌜ (length (now d) ≡ lowerBytes) × (inRange (now d) ≡ true) × (a .0 < revisions) × (b .0 < revisions) ⌝ }
-    ensures { λ n. ⌜ (n ≡ cells (now (d .entry)) .count (b .0)) × (now (d .exit) ≡ joinBytes (now (d .entry)) (a .0) (b .0)) ⌝ }
+    requires { (length d.old ≡ lower_bytes) × (in_range d.old ≡ true) × (a.0 < revisions) × (b.0 < revisions) }
+    ensures { (result ≡ (cells d.old).count b.0) × (d.new ≡ join_bytes d.old a.0 b.0) }
 {
     let gain = merge(d, a, b);
     drop::drop(d, b);

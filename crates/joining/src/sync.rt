@@ -1,14 +1,13 @@
 // The call sync (02, U8) on bytes that are a table: a revision is joined into the main revision, which then forks; the new number is the value. The
 // call with its board stands above.
-ghost use mathlib.Core.Path.{_≡_};
-ghost use mathlib.Core.Bool.{true};
-ghost use lib.ListN.{length};
-ghost use Rattle·boards.specs.Board.{boardBytes};
-ghost use Rattle·cells.specs.Range.{inRange};
-ghost use Rattle·table.specs.Halves.{isTable, low};
-ghost use Rattle·table.specs.Out.{tableBytes};
-ghost use Rattle·table.specs.Answers.{left};
-ghost use Rattle·table.specs.Calls.{syncOut};
+ghost use Rattle.std.specs.Prelude.{◌≡◌, true, length};
+ghost use Rattle.boards.specs.Board.{board_bytes};
+ghost use Rattle.cells.specs.Range.{in_range};
+ghost use Rattle.table.specs.Halves.{is_table, low};
+ghost use Rattle.table.specs.Out.{table_bytes};
+ghost use Rattle.table.specs.Answers.{left};
+ghost use Rattle.table.specs.Calls.{sync_out};
+
 use crate::join::join_lower;
 use checks::next::next;
 use forking::fork::start;
@@ -19,8 +18,8 @@ use table::pair::PairCheck;
 
 // The join's checks, then the work; the board has the right length. Once the join is taken its fork is: the joinee's number is free.
 pub fn sync_sound(t: &mut [u8], joinee: u8) -> Answer
-    requires { ⌜ (isTable (now t) ≡ true) × (length (now t) ≡ tableBytes) × (inRange (low (now t)) ≡ true) ⌝ }
-    ensures { λ a. ⌜ left a (now (t .exit)) ≡ syncOut (now (t .entry)) joinee boardBytes ⌝ }
+    requires { (is_table t.old ≡ true) × (length t.old ≡ table_bytes) × (in_range (low t.old) ≡ true) }
+    ensures { left result t.new ≡ sync_out t.old joinee board_bytes }
 {
     let found = check_join(&t[0..Table::LOWER], 0, joinee);
     let PairCheck::Allowed(a, b) = found else {

@@ -1,3 +1,2 @@
--- Laws of entries packed as records, and of a slice lent again.
+-- Laws of entries packed as records.
 pub mod Packed
-pub mod Lend

@@ -1,15 +1,12 @@
 // Own lists and their links written.
-ghost use mathlib.Core.Path.{_≡_};
-ghost use mathlib.Core.Bool.{cond, true};
-ghost use Prim.Native.Nat.{_<_};
-ghost use lib.Dec.{eqb};
-ghost use lib.ListN.{length};
-ghost use Rattle·cells.specs.Sizes.{lowerBytes, revisions, updates};
-ghost use Rattle·cells.specs.Parts.{glue, split};
-ghost use Rattle·cells.specs.Decode.{cells};
-ghost use Rattle·cells.specs.Range.{inRange};
-ghost use Rattle·cells.specs.CellSteps.{counted};
-ghost use Rattle·cells.specs.Steps.{appendParts, linkParts, spliceParts};
+ghost use Rattle.std.specs.Prelude.{◌≡◌, cond, true, ◌<◌, eqb, length};
+ghost use Rattle.cells.specs.Sizes.{lower_bytes, revisions, updates};
+ghost use Rattle.cells.specs.Parts.{glue, split};
+ghost use Rattle.cells.specs.Decode.{cells};
+ghost use Rattle.cells.specs.Range.{in_range};
+ghost use Rattle.cells.specs.CellSteps.{counted};
+ghost use Rattle.cells.specs.Steps.{append_parts, link_parts, splice_parts};
+
 use fields::read;
 use sizes::numbers::Revision;
 use sizes::table::Table;
@@ -17,8 +14,8 @@ use stores::write;
 
 // The link of u is v.
 pub fn link(d: &mut [u8], u: usize, v: usize)
-    requires { ⌜ (length (now d) ≡ lowerBytes) × (u < updates) × (v < updates) ⌝ }
-    ensures { λ _. ⌜ now (d .exit) ≡ glue (linkParts (split (now (d .entry))) u v) ⌝ }
+    requires { (length d.old ≡ lower_bytes) × (u < updates) × (v < updates) }
+    ensures { d.new ≡ glue (link_parts (split d.old) u v) }
 {
     write::link_low(d, u, v % 256);
     write::link_high(d, u, v / 256);
@@ -26,8 +23,8 @@ pub fn link(d: &mut [u8], u: usize, v: usize)
 
 // The first update of r's list, or u where the list is empty.
 fn first_or(d: &[u8], r: Revision, u: usize) -> usize
-    requires { ⌜ (length (now d) ≡ lowerBytes) × (r .0 < revisions) × (u < 65536) ⌝ }
-    ensures { λ v. ⌜ (v ≡ cond (eqb (cells (now (d .entry)) .count (r .0)) 0) u (cells (now (d .entry)) .first (r .0))) × (v < 65536) ⌝ }
+    requires { (length d.now ≡ lower_bytes) × (r.0 < revisions) × (u < 65536) }
+    ensures { (result ≡ cond (eqb ((cells d.now).count r.0) 0) u ((cells d.now).first r.0)) × (result < 65536) }
 {
     if read::count(d, r) == 0 {
         return u;
@@ -37,7 +34,7 @@ fn first_or(d: &[u8], r: Revision, u: usize) -> usize
 
 // A count stops at its range. On a day none would pass it.
 pub fn counted(n: usize) -> usize
-    ensures { λ v. ⌜ (v ≡ counted n) × (v < 65536) ⌝ }
+    ensures { (result ≡ counted n) × (result < 65536) }
 {
     if n < Table::UPDATES {
         return n;
@@ -47,8 +44,8 @@ pub fn counted(n: usize) -> usize
 
 // The next update number goes to the end of r's own list. The number is the answer.
 pub fn append(d: &mut [u8], r: Revision) -> usize
-    requires { ⌜ (length (now d) ≡ lowerBytes) × (inRange (now d) ≡ true) × (r .0 < revisions) × (cells (now d) .updates < updates) ⌝ }
-    ensures { λ u. ⌜ (u ≡ cells (now (d .entry)) .updates) × (now (d .exit) ≡ glue (appendParts (split (now (d .entry))) (r .0))) ⌝ }
+    requires { (length d.old ≡ lower_bytes) × (in_range d.old ≡ true) × (r.0 < revisions) × ((cells d.old).updates < updates) }
+    ensures { (result ≡ (cells d.old).updates) × (d.new ≡ glue (append_parts (split d.old) r.0)) }
 {
     let u = read::updates(d);
     let last = read::last(d, r);
@@ -64,8 +61,8 @@ pub fn append(d: &mut [u8], r: Revision) -> usize
 
 // b's own list goes to the end of a's, unless it is empty.
 pub fn splice(d: &mut [u8], a: Revision, b: Revision)
-    requires { ⌜ (length (now d) ≡ lowerBytes) × (inRange (now d) ≡ true) × (a .0 < revisions) × (b .0 < revisions) ⌝ }
-    ensures { λ _. ⌜ now (d .exit) ≡ glue (spliceParts (split (now (d .entry))) (a .0) (b .0)) ⌝ }
+    requires { (length d.old ≡ lower_bytes) × (in_range d.old ≡ true) × (a.0 < revisions) × (b.0 < revisions) }
+    ensures { d.new ≡ glue (splice_parts (split d.old) a.0 b.0) }
 {
     if read::count(d, b) == 0 {
         return;

@@ -1,16 +1,13 @@
 // The call fill (02, U1): a revision's own updates, and those of the whole table. The table is only read.
-ghost use mathlib.Core.Path.{_≡_};
-ghost use Prim.Native.Nat.{_<_};
-ghost use lib.ListN.{length};
-ghost use Rattle·cells.specs.Sizes as Lower;
-ghost use Rattle·cells.specs.Sizes.{revisions};
-ghost use Rattle·cells.specs.Decode.{cells};
-ghost use Rattle·table.specs.Calls.{fillOut, noFill, told};
-ghost use Rattle·table.specs.Found.{fillIn};
-use checks::given::GivenCheck;
-use checks::given::check_given;
-use checks::joined::JoinedCheck;
-use checks::joined::check_joined;
+ghost use Rattle.std.specs.Prelude.{◌≡◌, ◌<◌, length};
+ghost use Rattle.cells.specs.Sizes as Lower;
+ghost use Rattle.cells.specs.Sizes.{revisions};
+ghost use Rattle.cells.specs.Decode.{cells};
+ghost use Rattle.table.specs.Calls.{fill_out, no_fill, told};
+ghost use Rattle.table.specs.Found.{fill_in};
+
+use checks::given::{GivenCheck, check_given};
+use checks::joined::{JoinedCheck, check_joined};
 use fields::read;
 use sizes::numbers::Revision;
 use sizes::table::Table;
@@ -19,8 +16,8 @@ use table::sound;
 use table::sound::TableCheck;
 
 fn tell(d: &[u8], r: Revision) -> Level
-    requires { ⌜ (length (now d) ≡ Lower.lowerBytes) × (r .0 < revisions) ⌝ }
-    ensures { λ f. ⌜ f ≡ told (cells (now (d .entry))) (r .0) ⌝ }
+    requires { (length d.now ≡ Lower.lower_bytes) × (r.0 < revisions) }
+    ensures { result ≡ told (cells d.now) r.0 }
 {
     let own = read::count(d, r);
     let total = read::updates(d);
@@ -32,7 +29,7 @@ fn tell(d: &[u8], r: Revision) -> Level
 }
 
 fn refused(code: u8) -> Level
-    ensures { λ f. ⌜ f ≡ noFill code ⌝ }
+    ensures { result ≡ no_fill code }
 {
     Level {
         code,
@@ -43,8 +40,8 @@ fn refused(code: u8) -> Level
 
 // Checks 3 and 4 on the lower half. A busy revision is told too.
 fn fill_in(d: &[u8], revision: u8) -> Level
-    requires { ⌜ length (now d) ≡ Lower.lowerBytes ⌝ }
-    ensures { λ f. ⌜ f ≡ fillIn (cells (now (d .entry))) revision ⌝ }
+    requires { length d.now ≡ Lower.lower_bytes }
+    ensures { result ≡ fill_in (cells d.now) revision }
 {
     let GivenCheck::Given(r) = check_given(d, revision) else {
         return refused(3);
@@ -56,7 +53,7 @@ fn fill_in(d: &[u8], revision: u8) -> Level
 }
 
 pub fn fill(t: &[u8], revision: u8) -> Level
-    ensures { λ f. ⌜ f ≡ fillOut (now (t .entry)) revision ⌝ }
+    ensures { result ≡ fill_out t.now revision }
 {
     let TableCheck::Sound = sound::check_table(t) else {
         return refused(1);

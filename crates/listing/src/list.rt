@@ -1,30 +1,27 @@
 // The call list: the updates visible at a revision, in listed order, into a lent sheet. The table is only read.
-ghost use mathlib.Core.Bool.{true};
-ghost use mathlib.Core.Path.{_≡_};
-ghost use Prim.Native.Nat.{_*_, _<_, _≤_};
-ghost use lib.Dec.{ltb};
-ghost use lib.ListN.{length, take};
-ghost use Rattle·cells.specs.Sizes.{revisions, updates};
-ghost use Rattle·cells.specs.Range.{inRange};
-ghost use Rattle·entries.specs.Entries.{entryAt};
-ghost use Rattle·sheets.specs.Sheet as Sheet;
-ghost use Rattle·table.specs.Halves.{high, isTable, low};
-ghost use Rattle·table.specs.Out.{tableBytes};
-ghost use Rattle·table.specs.Answers.{left, taken};
-ghost use Rattle·table.specs.Calls.{listOut};
-ghost use Rattle·table.specs.Found.{check, shownOut};
-ghost use Rattle·listing·specs.specs.Checks.{sheetCheck};
+ghost use Rattle.std.specs.Prelude.{true, ◌≡◌, ◌*◌, ◌<◌, ◌≤◌, ltb, length, take};
+ghost use Rattle.cells.specs.Sizes.{revisions, updates};
+ghost use Rattle.cells.specs.Range.{in_range};
+ghost use Rattle.entries.specs.Entries.{entry_at};
+ghost use Rattle.sheets.specs.Sheet as Sheet;
+ghost use Rattle.table.specs.Halves.{high, is_table, low};
+ghost use Rattle.table.specs.Out.{table_bytes};
+ghost use Rattle.table.specs.Answers.{left, taken};
+ghost use Rattle.table.specs.Calls.{list_out};
+ghost use Rattle.table.specs.Found.{check, shown_out};
+ghost use Rattle.listing.specs.Checks.{sheet_check};
+
 use bundles::sizes::Record;
 use sizes::numbers::Revision;
 use sizes::table::Table;
 use table::answer::Answer;
-use table::idle;
 use table::idle::IdleCheck;
-use table::sound;
 use table::sound::TableCheck;
 use table::visible::visible;
+use table::{idle, sound};
 
 // Code 12.
+#[derive(Drop)]
 pub enum SheetCheck {
     Fits,
     Short,
@@ -32,8 +29,8 @@ pub enum SheetCheck {
 
 // n lines of 12 bytes.
 fn check_sheet(sheet: &[u8], n: usize) -> SheetCheck
-    requires { ⌜ n ≤ updates ⌝ }
-    ensures { λ r. ⌜ r ≡ sheetCheck (length (now (sheet .entry))) n ⌝ }
+    requires { n ≤ updates }
+    ensures { result ≡ sheet_check (length sheet.now) n }
 {
     if sheet.len() < Record::BYTES * n {
         SheetCheck::Short
@@ -44,8 +41,8 @@ fn check_sheet(sheet: &[u8], n: usize) -> SheetCheck
 
 // The lines of the first n numbers of `order`, if the sheet has room for them.
 fn put(t: &[u8], order: &[u16], n: usize, sheet: &mut [u8]) -> Answer
-    requires { ⌜ (length (now t) ≡ tableBytes) × (n ≤ updates) × (n ≤ length (now order)) ⌝ }
-    ensures { λ a. ⌜ left a (now (sheet .exit)) ≡ check (ltb (length (now (sheet .entry))) (12 * n)) 12 (now (sheet .entry)) (taken (Sheet.sheet (entryAt (high (now (t .entry)))) (take n (now (order .entry))) (now (sheet .entry))) n) ⌝ }
+    requires { (length t.now ≡ table_bytes) × (n ≤ updates) × (n ≤ length order.now) }
+    ensures { left result sheet.new ≡ check (ltb (length sheet.old) (12 * n)) 12 sheet.old (taken (Sheet.sheet (entry_at (high t.now)) (take n order.now) sheet.old) n) }
 {
     let SheetCheck::Fits = check_sheet(sheet, n) else {
         return Answer { code: 12, value: 0 };
@@ -59,8 +56,8 @@ fn put(t: &[u8], order: &[u16], n: usize, sheet: &mut [u8]) -> Answer
 
 // What is visible at r, if the sheet has room for it.
 fn show(t: &[u8], r: Revision, sheet: &mut [u8]) -> Answer
-    requires { ⌜ (length (now t) ≡ tableBytes) × (inRange (low (now t)) ≡ true) × (r .0 < revisions) ⌝ }
-    ensures { λ a. ⌜ left a (now (sheet .exit)) ≡ shownOut (now (t .entry)) (r .0) (now (sheet .entry)) ⌝ }
+    requires { (length t.now ≡ table_bytes) × (in_range (low t.now) ≡ true) × (r.0 < revisions) }
+    ensures { left result sheet.new ≡ shown_out t.now r.0 sheet.old }
 {
     let mut out = order::links::room();
     let n = visible(t, r, &mut out);
@@ -69,8 +66,8 @@ fn show(t: &[u8], r: Revision, sheet: &mut [u8]) -> Answer
 
 // The call on bytes that are a table.
 fn list_sound(t: &[u8], revision: u8, sheet: &mut [u8]) -> Answer
-    requires { ⌜ (isTable (now t) ≡ true) × (length (now t) ≡ tableBytes) × (inRange (low (now t)) ≡ true) ⌝ }
-    ensures { λ a. ⌜ left a (now (sheet .exit)) ≡ listOut (now (t .entry)) revision (now (sheet .entry)) ⌝ }
+    requires { (is_table t.now ≡ true) × (length t.now ≡ table_bytes) × (in_range (low t.now) ≡ true) }
+    ensures { left result sheet.new ≡ list_out t.now revision sheet.old }
 {
     let found = idle::check_idle(&t[0..Table::LOWER], revision);
     let IdleCheck::Idle(r) = found else {
@@ -83,7 +80,7 @@ fn list_sound(t: &[u8], revision: u8, sheet: &mut [u8]) -> Answer
 }
 
 pub fn list(t: &[u8], revision: u8, sheet: &mut [u8]) -> Answer
-    ensures { λ a. ⌜ left a (now (sheet .exit)) ≡ listOut (now (t .entry)) revision (now (sheet .entry)) ⌝ }
+    ensures { left result sheet.new ≡ list_out t.now revision sheet.old }
 {
     let TableCheck::Sound = sound::check_table(t) else {
         return Answer { code: 1, value: 0 };

@@ -1,15 +1,15 @@
 -- A list that grows at its end keeps its front.
-use Prim.Native.Nat.{_≤_, suc, ℕ}
+use Prim.Native.Nat.{◌≤◌, suc, ℕ}
 use mathlib.Core.Bool.{cond}
-use mathlib.Core.Path.{_∙_, _≡_, refl}
-use mathlib.Core.List.{List, [], _++_, _∷_, append-nil, head-eq-of-cons-eq}
+use mathlib.Core.Path.{◌∙◌, ◌≡◌, refl}
+use mathlib.Core.List.{List, [], ◌++◌, ◌∷◌, append-nil, head-eq_of_cons-eq}
 use native.Mathlib.Omega.{arith}
 use lib.Dec.{eqb}
 use lib.ListN.{length, length-append, take}
 use lib.Seq.{take-append-le}
-use borrow.Author.Tests.{eqb-true, ne-eqb}
-use Rattle·lists·proofs.proofs.Cases.{cases}
-use Rattle·lists·specs.specs.Lists.{changed}
+use borrow.Author.Tests.{eqb-true, ne_eqb}
+use Rattle.lists.proofs.Cases.{cases}
+use Rattle.lists.specs.Lists.{changed}
 
 -- of many lists, one grows
 module _ (f : ℕ → List ℕ) (r : ℕ) where
@@ -23,7 +23,7 @@ module _ (f : ℕ → List ℕ) (r : ℕ) where
   grown-none x = cases (eqb x r) (λ e. rw (e, append-nil, eqb-true x r e)) (λ e. rw e)
 
 -- the first of two lists in a row
-pub first-append : (x y : List ℕ) (fx fy : ℕ) → ((f : ℕ) (l : List ℕ) → x ≡ f ∷ l → fx ≡ f) → ((f : ℕ) (l : List ℕ) → y ≡ f ∷ l → fy ≡ f)
+pub first_append : (x y : List ℕ) (fx fy : ℕ) → ((f : ℕ) (l : List ℕ) → x ≡ f ∷ l → fx ≡ f) → ((f : ℕ) (l : List ℕ) → y ≡ f ∷ l → fy ≡ f)
     → (f : ℕ) (l : List ℕ) → x ++ y ≡ f ∷ l → cond (eqb (length x) 0) fy fx ≡ f
-first-append [] y fx fy hx hy f l e = hy f l e
-first-append (z ∷ x) y fx fy hx hy f l e = rw (ne-eqb (suc (length x)) 0 (λ q. omega arith)) (hx z x refl ∙ head-eq-of-cons-eq e)
+first_append [] y fx fy hx hy f l e = hy f l e
+first_append (z ∷ x) y fx fy hx hy f l e = rw (ne_eqb (suc (length x)) 0 (λ q. omega arith)) (hx z x refl ∙ head-eq_of_cons-eq e)

@@ -1,13 +1,9 @@
 -- Of the claims only those about boards rest on this file (`replaced`); else it serves proofs and code. Further words for lists: one element put in or taken out, some replaced, blocks last to first.
-use Prim.Native.Nat.{ℕ, _+_}
-use mathlib.Core.Bool.{Bool, false, cond, _||_}
-use mathlib.Core.List.{List, [], _∷_, _++_}
-use lib.Dec.{eqb}
-use lib.ListN.{take, drop}
-use Rattle·lists·specs.specs.Lists.{_∈_}
+use Rattle.std.specs.Prelude.{ℕ, ◌+◌, Bool, false, cond, ◌||◌, List, [], ◌∷◌, ◌++◌, eqb, take, drop}
+use Rattle.lists.specs.Lists.{◌∈◌}
 
-infix 50 _⊆_
-abbrev pub _⊆_ : List ℕ → List ℕ → Type 0
+infix 50 ◌⊆◌
+abbrev pub ◌⊆◌ : List ℕ → List ℕ → Type 0
 a ⊆ b = (n : ℕ) → n ∈ a → n ∈ b
 
 abbrev pub Apart : List ℕ → List ℕ → Type 0
@@ -19,9 +15,9 @@ member n [] = false
 member n (x ∷ l) = eqb n x || member n l
 
 -- c put in front of p, where p stands first
-unfoldable pub insertBefore : ℕ → ℕ → List ℕ → List ℕ
-insertBefore p c [] = []
-insertBefore p c (x ∷ l) = cond (eqb x p) (c ∷ x ∷ l) (x ∷ insertBefore p c l)
+unfoldable pub insert_before : ℕ → ℕ → List ℕ → List ℕ
+insert_before p c [] = []
+insert_before p c (x ∷ l) = cond (eqb x p) (c ∷ x ∷ l) (x ∷ insert_before p c l)
 
 -- b taken out, where it stands first
 unfoldable pub remove : ℕ → List ℕ → List ℕ
@@ -37,6 +33,6 @@ behind r (x ∷ l) = cond (eqb x r) l (behind r l)
 abbrev pub replaced : {A : Type 0} → List A → ℕ → ℕ → List A → List A
 replaced t a k s = take a t ++ (s ++ drop (a + k) t)
 
-abbrev pub flatBack : (ℕ → List ℕ) → List ℕ → List ℕ
-flatBack f [] = []
-flatBack f (x ∷ l) = flatBack f l ++ f x
+abbrev pub flat_back : (ℕ → List ℕ) → List ℕ → List ℕ
+flat_back f [] = []
+flat_back f (x ∷ l) = flat_back f l ++ f x

@@ -1,10 +1,5 @@
 -- At how many places two lists differ: 02, U11, "differ from its former bytes at no more than 256 places".
-use Prim.Native.Nat.{ℕ, suc, _+_}
-use mathlib.Core.Bool.{cond}
-use mathlib.Core.Path.{_≡_, refl}
-use mathlib.Core.List.{List, [], _∷_}
-use lib.Dec.{eqb}
-use lib.ListN.{length}
+use Rattle.std.specs.Prelude.{ℕ, suc, ◌+◌, cond, ◌≡◌, refl, List, [], ◌∷◌, eqb, length}
 
 abbrev pub differ : ℕ → ℕ → ℕ
 differ x y = cond (eqb x y) 0 1

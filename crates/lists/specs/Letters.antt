@@ -1,9 +1,6 @@
 -- Names of four letters: 02, U9. A name is lent as bytes, of any number and value.
-use Prim.Native.Nat.{ℕ, _≤_}
-use mathlib.Core.Path.{_≡_}
-use mathlib.Core.List.{List}
-use lib.ListN.{length}
-use Rattle·lists·specs.specs.Lists.{_∈_}
+use Rattle.std.specs.Prelude.{ℕ, ◌≤◌, ◌≡◌, List, length}
+use Rattle.lists.specs.Lists.{◌∈◌}
 
 abbrev pub Name : Type 0
 Name = List ℕ

@@ -1,25 +1,23 @@
 -- Words for lists of numbers: membership, order, what passes a test, blocks in a row; and a function changed at one place.
-use Prim.Native.Nat.{ℕ}
-use mathlib.Core.Bool.{Bool, cond}
-use mathlib.Core.List.{List, [], _∷_, _++_, List·Memᴰ, Sublistᴰ}
-use lib.Dec.{eqb}
+use Rattle.std.specs.Prelude.{ℕ, Bool, cond, eqb}
+use mathlib.Core.List.{List, [], ◌∷◌, ◌++◌, Memᴰ, Sublistᴰ}
 
-infix 50 _∈_ _⊑_
-abbrev pub _∈_ : ℕ → List ℕ → Type 0
-n ∈ l = List·Memᴰ n l
+infix 50 ◌∈◌ ◌⊑◌
+abbrev pub ◌∈◌ : ℕ → List ℕ → Type 0
+n ∈ l = Memᴰ n l
 
 -- an ordered sublist: a is b with some elements left out
-abbrev pub _⊑_ : List ℕ → List ℕ → Type 0
+abbrev pub ◌⊑◌ : List ℕ → List ℕ → Type 0
 a ⊑ b = Sublistᴰ a b
 
 -- the first element, 0 where there is none, and the others
-abbrev pub firstOf : List ℕ → ℕ
-firstOf [] = 0
-firstOf (x ∷ l) = x
+abbrev pub head_of : List ℕ → ℕ
+head_of [] = 0
+head_of (x ∷ l) = x
 
-abbrev pub restOf : List ℕ → List ℕ
-restOf [] = []
-restOf (x ∷ l) = l
+abbrev pub rest_of : List ℕ → List ℕ
+rest_of [] = []
+rest_of (x ∷ l) = l
 
 -- the elements that pass a test
 abbrev pub keep : (ℕ → Bool) → List ℕ → List ℕ

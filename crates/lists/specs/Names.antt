@@ -1,20 +1,17 @@
 -- Tests of names. They need not be believed: a mark is taken exactly if its name is of `FourLetters` and not in use (`LineUp.exactly`, crate plain), and a name
 -- means the mark that bears it (`ByMarks.means`, crate diagram).
-use mathlib.Core.Bool.{Bool, true, false, _&&_}
-use mathlib.Core.List.{[], _∷_}
-use lib.ListN.{length}
-use lib.Dec.{eqb, ltb}
-pub use Rattle·lists·specs.specs.Letters.{Name}
+use Rattle.std.specs.Prelude.{Bool, true, false, ◌&&◌, [], ◌∷◌, length, eqb, ltb}
+pub use Rattle.lists.specs.Letters.{Name}
 
-abbrev pub allLetters : Name → Bool
-allLetters [] = true
-allLetters (b ∷ n) = (ltb 64 b && ltb b 91) && allLetters n
+abbrev pub all_letters : Name → Bool
+all_letters [] = true
+all_letters (b ∷ n) = (ltb 64 b && ltb b 91) && all_letters n
 
-unfoldable pub fourLetters : Name → Bool
-fourLetters n = eqb (length n) 4 && allLetters n
+unfoldable pub four_letters : Name → Bool
+four_letters n = eqb (length n) 4 && all_letters n
 
-abbrev pub sameName : Name → Name → Bool
-sameName [] [] = true
-sameName [] (b ∷ m) = false
-sameName (a ∷ n) [] = false
-sameName (a ∷ n) (b ∷ m) = eqb a b && sameName n m
+abbrev pub same_name : Name → Name → Bool
+same_name [] [] = true
+same_name [] (b ∷ m) = false
+same_name (a ∷ n) [] = false
+same_name (a ∷ n) (b ∷ m) = eqb a b && same_name n m

@@ -1,18 +1,14 @@
 // The call drop (02, U9): the mark that bears a name is given up, and its number waits to be used again.
-ghost use mathlib.Core.Path.{_≡_};
-ghost use mathlib.Core.Bool.{true};
-ghost use mathlib.Core.List.{_++_};
-ghost use Prim.Native.Nat.{_<_};
-ghost use lib.ListN.{length};
-ghost use Rattle·cells.specs.Sizes.{revisions};
-ghost use Rattle·cells.specs.Range.{inRange};
-ghost use Rattle·cells.specs.Steps.{dropBytes};
-ghost use Rattle·table.specs.Halves.{high, isTable, low};
-ghost use Rattle·table.specs.Out.{tableBytes};
-ghost use Rattle·table.specs.Answers.{left};
-ghost use Rattle·table.specs.Calls.{dropOut};
-use checks::bearer::BearerCheck;
-use checks::bearer::check_bearer;
+ghost use Rattle.std.specs.Prelude.{◌≡◌, true, ◌++◌, ◌<◌, length};
+ghost use Rattle.cells.specs.Sizes.{revisions};
+ghost use Rattle.cells.specs.Range.{in_range};
+ghost use Rattle.cells.specs.Steps.{drop_bytes};
+ghost use Rattle.table.specs.Halves.{high, is_table, low};
+ghost use Rattle.table.specs.Out.{table_bytes};
+ghost use Rattle.table.specs.Answers.{left};
+ghost use Rattle.table.specs.Calls.{drop_out};
+
+use checks::bearer::{BearerCheck, check_bearer};
 use sizes::numbers::Revision;
 use sizes::table::Table;
 use table::answer::Answer;
@@ -21,16 +17,16 @@ use table::sound::TableCheck;
 
 // Mark r is dropped.
 fn drop_lower(t: &mut [u8], r: Revision)
-    requires { ⌜ (length (now t) ≡ tableBytes) × (inRange (low (now t)) ≡ true) × (r .0 < revisions) ⌝ }
-    ensures { λ _. ⌜ now (t .exit) ≡ dropBytes (low (now (t .entry))) (r .0) ++ high (now (t .entry)) ⌝ }
+    requires { (length t.old ≡ table_bytes) × (in_range (low t.old) ≡ true) × (r.0 < revisions) }
+    ensures { t.new ≡ drop_bytes (low t.old) r.0 ++ high t.old }
 {
     handing::drop::drop(&mut t[0..Table::LOWER], r);
 }
 
 // The call on bytes that are a table: check 18.
 fn drop_sound(t: &mut [u8], name: &[u8]) -> Answer
-    requires { ⌜ (isTable (now t) ≡ true) × (length (now t) ≡ tableBytes) × (inRange (low (now t)) ≡ true) ⌝ }
-    ensures { λ a. ⌜ left a (now (t .exit)) ≡ dropOut (now (t .entry)) (now (name .entry)) ⌝ }
+    requires { (is_table t.old ≡ true) × (length t.old ≡ table_bytes) × (in_range (low t.old) ≡ true) }
+    ensures { left result t.new ≡ drop_out t.old name.now }
 {
     let found = check_bearer(&t[0..Table::LOWER], name);
     let BearerCheck::Found(r) = found else {
@@ -41,7 +37,7 @@ fn drop_sound(t: &mut [u8], name: &[u8]) -> Answer
 }
 
 pub fn drop(t: &mut [u8], name: &[u8]) -> Answer
-    ensures { λ a. ⌜ left a (now (t .exit)) ≡ dropOut (now (t .entry)) (now (name .entry)) ⌝ }
+    ensures { left result t.new ≡ drop_out t.old name.now }
 {
     let TableCheck::Sound = sound::check_table(t) else {
         return Answer { code: 1, value: 0 };

@@ -1,30 +1,21 @@
 // The call mark (02, U9): a revision forks another, which bears a name; its number is the value.
-ghost use mathlib.Core.Path.{_≡_};
-ghost use mathlib.Core.Bool.{true};
-ghost use mathlib.Core.List.{_++_};
-ghost use Prim.Native.Nat.{_<_};
-ghost use lib.ListN.{length};
-ghost use Rattle·cells.specs.Sizes as Lower;
-ghost use Rattle·cells.specs.Sizes.{revisions};
-ghost use Rattle·cells.specs.Range.{inRange};
-ghost use Rattle·cells.specs.Steps.{markBytes};
-ghost use Rattle·table.specs.Halves.{high, isTable, low};
-ghost use Rattle·table.specs.Out.{tableBytes};
-ghost use Rattle·table.specs.Answers.{left};
-ghost use Rattle·table.specs.Calls.{markOut};
-ghost use Rattle·marking·specs.specs.Checks.{markCheck, markIn};
-use checks::busy::UseCheck;
-use checks::busy::check_use;
-use checks::given::GivenCheck;
-use checks::given::check_given;
-use checks::joined::JoinedCheck;
-use checks::joined::check_joined;
-use checks::line::LineCheck;
-use checks::line::check_line_of_mark;
-use checks::name::NameCheck;
-use checks::name::check_name;
-use checks::next::NextCheck;
-use checks::next::check_next;
+ghost use Rattle.std.specs.Prelude.{◌≡◌, true, ◌++◌, ◌<◌, length};
+ghost use Rattle.cells.specs.Sizes as Lower;
+ghost use Rattle.cells.specs.Sizes.{revisions};
+ghost use Rattle.cells.specs.Range.{in_range};
+ghost use Rattle.cells.specs.Steps.{mark_bytes};
+ghost use Rattle.table.specs.Halves.{high, is_table, low};
+ghost use Rattle.table.specs.Out.{table_bytes};
+ghost use Rattle.table.specs.Answers.{left};
+ghost use Rattle.table.specs.Calls.{mark_out};
+ghost use Rattle.marking.specs.Checks.{mark_check, MarkIn};
+
+use checks::busy::{UseCheck, check_use};
+use checks::given::{GivenCheck, check_given};
+use checks::joined::{JoinedCheck, check_joined};
+use checks::line::{LineCheck, check_line_of_mark};
+use checks::name::{NameCheck, check_name};
+use checks::next::{NextCheck, check_next};
 use sizes::numbers::Revision;
 use sizes::table::Table;
 use table::answer::Answer;
@@ -34,16 +25,16 @@ use table::sound::TableCheck;
 
 // p forks c, a number that is not the main revision's, and c bears the name.
 fn start_marked(t: &mut [u8], p: Revision, c: Revision, name: &[u8])
-    requires { ⌜ (length (now t) ≡ tableBytes) × (inRange (low (now t)) ≡ true) × (p .0 < revisions) × (0 < c .0) × (c .0 < revisions) × (length (now name) ≡ 4) ⌝ }
-    ensures { λ _. ⌜ now (t .exit) ≡ markBytes (low (now (t .entry))) (p .0) (c .0) (now (name .entry)) ++ high (now (t .entry)) ⌝ }
+    requires { (length t.old ≡ table_bytes) × (in_range (low t.old) ≡ true) × (p.0 < revisions) × (0 < c.0) × (c.0 < revisions) × (length name.now ≡ 4) }
+    ensures { t.new ≡ mark_bytes (low t.old) p.0 c.0 name.now ++ high t.old }
 {
     revisions::mark::mark(&mut t[0..Table::LOWER], p, c, name);
 }
 
 // Checks 3, 4, 15, 7, 10, 17: the revision, and the number of the new one.
 fn check_mark(d: &[u8], revision: u8, name: &[u8]) -> PairCheck
-    requires { ⌜ (length (now d) ≡ Lower.lowerBytes) × (inRange (now d) ≡ true) ⌝ }
-    ensures { λ a. ⌜ (a ≡ markCheck (now (d .entry)) revision (now (name .entry))) × markIn (now (name .entry)) a ⌝ }
+    requires { (length d.now ≡ Lower.lower_bytes) × (in_range d.now ≡ true) }
+    ensures { (result ≡ mark_check d.now revision name.now) × MarkIn name.now result }
 {
     let GivenCheck::Given(p) = check_given(d, revision) else {
         return PairCheck::Refused(3);
@@ -68,8 +59,8 @@ fn check_mark(d: &[u8], revision: u8, name: &[u8]) -> PairCheck
 
 // The call on bytes that are a table.
 fn mark_sound(t: &mut [u8], revision: u8, name: &[u8]) -> Answer
-    requires { ⌜ (isTable (now t) ≡ true) × (length (now t) ≡ tableBytes) × (inRange (low (now t)) ≡ true) ⌝ }
-    ensures { λ a. ⌜ left a (now (t .exit)) ≡ markOut (now (t .entry)) revision (now (name .entry)) ⌝ }
+    requires { (is_table t.old ≡ true) × (length t.old ≡ table_bytes) × (in_range (low t.old) ≡ true) }
+    ensures { left result t.new ≡ mark_out t.old revision name.now }
 {
     let found = check_mark(&t[0..Table::LOWER], revision, name);
     let PairCheck::Allowed(p, c) = found else {
@@ -86,7 +77,7 @@ fn mark_sound(t: &mut [u8], revision: u8, name: &[u8]) -> Answer
 }
 
 pub fn mark(t: &mut [u8], revision: u8, name: &[u8]) -> Answer
-    ensures { λ a. ⌜ left a (now (t .exit)) ≡ markOut (now (t .entry)) revision (now (name .entry)) ⌝ }
+    ensures { left result t.new ≡ mark_out t.old revision name.now }
 {
     let TableCheck::Sound = sound::check_table(t) else {
         return Answer { code: 1, value: 0 };

@@ -1,5 +1,7 @@
 // A long day: 20,100 forks and as many joins but those of boxes still out, of nested and late boxes, with clients whose last event is on
 // an earlier bearer of a number. What it writes is compared; rust/days has the same day, on the literal replay.
+#![tactic(auto)]
+
 mod probes; // probes.rt: lists, fills and previews on numbers used again
 mod rounds; // rounds.rt: what happens in a round
 mod say; // say.rt: lines on standard output
@@ -7,6 +9,8 @@ mod steps; // steps.rt: the calls that a round is made of
 mod tally; // tally.rt: what the calls answered
 
 use boards::check::Board;
+use sizes::table::Table;
+use std::io;
 use tally::Tally;
 
 const ROUNDS: u32 = 6700;
@@ -14,7 +18,7 @@ const ROUNDS: u32 = 6700;
 // How many rounds a box is carried before it is handed in.
 const LATE: usize = 20;
 
-fn meeting(t: &mut [u8], board: &mut [u8], sheet: &mut [u8]) {
+fn meeting(rt: &impl Print, t: &mut [u8], board: &mut [u8], sheet: &mut [u8]) -> io::Result<()> {
     let mut sent = [0u8; LATE];
     let mut nested = [0u8; LATE];
     let mut tally = Tally::new();
@@ -27,16 +31,17 @@ fn meeting(t: &mut [u8], board: &mut [u8], sheet: &mut [u8]) {
         nested[slot] = gone.nested;
         i += 1;
         if i % 100 == 0 {
-            say::tally(i, tally);
-            probes::probe(t, sheet, gone.sender, i - 1);
+            say::tally(rt, i, tally)?;
+            probes::probe(rt, t, sheet, gone.sender, i - 1)?;
         }
     }
+    Ok(())
 }
 
-fn main() {
-    let mut t = io::large_buffer();
+fn main(rt: HostRuntime) -> io::Result<()> {
+    let mut t = [0u8; Table::BYTES];
     let mut board = [0u8; Board::BYTES];
-    let mut sheet = io::large_buffer();
+    let mut sheet = [0u8; Table::BYTES];
     announcing::fresh::fresh(&mut t, &mut board, false);
-    meeting(&mut t, &mut board, &mut sheet);
+    meeting(&rt, &mut t, &mut board, &mut sheet)
 }

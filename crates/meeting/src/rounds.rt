@@ -1,11 +1,9 @@
 // A round: boxes are sent off and written on, and late ones are handed in.
-use crate::steps::enters;
-use crate::steps::forks;
-use crate::steps::joins;
-use crate::steps::looks;
+use crate::steps::{enters, forks, joins, looks};
 use crate::tally::Tally;
 
 // The boxes that a round leaves out: one from the main revision, and one from that, or 0 if it was handed in.
+#[derive(Drop)]
 pub struct Sent {
     pub sender: u8,
     pub nested: u8,
@@ -35,6 +33,7 @@ fn fold(t: &mut [u8], board: &mut [u8], i: u32, outer: u8, middle: u8, tally: Ta
 }
 
 // Three boxes, each from the one before.
+#[derive(Drop)]
 struct Boxes {
     outer: u8,
     middle: u8,

@@ -1,47 +1,45 @@
 // Lines on standard output.
 use crate::tally::Tally;
-use libc::STDOUT_FILENO;
-use table::answer::Answer;
-use table::answer::Level;
-use table::answer::Prospect;
+use std::io;
+use std::io::Write;
+use table::answer::{Answer, Level, Prospect};
 
 // A word, and a number behind it.
-fn field(word: &[u8], n: u64) {
-    io::write_all(STDOUT_FILENO, word);
-    io::write_all(STDOUT_FILENO, b" ");
-    io::print_decimal(STDOUT_FILENO, n);
+fn field(rt: &impl Print, word: &[u8], n: u64) -> io::Result<()> {
+    io::writer(rt).write_all(word)?;
+    print!(rt; " {n}")
 }
 
-fn end() {
-    io::write_all(STDOUT_FILENO, b"\n");
+fn end(rt: &impl Print) -> io::Result<()> {
+    io::writer(rt).write_all(b"\n")
 }
 
-pub fn tally(rounds: u32, y: Tally) {
-    field(b"rounds", rounds as u64);
-    field(b" forks", y.forks as u64);
-    field(b" joins", y.joins as u64);
-    field(b" updates", y.updates as u64);
-    field(b" sum", y.sum);
-    end();
+pub fn tally(rt: &impl Print, rounds: u32, y: Tally) -> io::Result<()> {
+    field(rt, b"rounds", rounds as u64)?;
+    field(rt, b" forks", y.forks as u64)?;
+    field(rt, b" joins", y.joins as u64)?;
+    field(rt, b" updates", y.updates as u64)?;
+    field(rt, b" sum", y.sum)?;
+    end(rt)
 }
 
 // A call's name, code and value.
-pub fn answer(name: &[u8], a: Answer) {
-    field(name, a.code as u64);
-    field(b"", a.value as u64);
-    end();
+pub fn answer(rt: &impl Print, name: &[u8], a: Answer) -> io::Result<()> {
+    field(rt, name, a.code as u64)?;
+    field(rt, b"", a.value as u64)?;
+    end(rt)
 }
 
-pub fn level(f: Level) {
-    field(b"fill", f.code as u64);
-    field(b"", f.own as u64);
-    field(b"", f.total as u64);
-    end();
+pub fn level(rt: &impl Print, f: Level) -> io::Result<()> {
+    field(rt, b"fill", f.code as u64)?;
+    field(rt, b"", f.own as u64)?;
+    field(rt, b"", f.total as u64)?;
+    end(rt)
 }
 
-pub fn prospect(p: Prospect) {
-    field(b"preview", p.code as u64);
-    field(b"", p.value as u64);
-    field(b"", p.gain as u64);
-    end();
+pub fn prospect(rt: &impl Print, p: Prospect) -> io::Result<()> {
+    field(rt, b"preview", p.code as u64)?;
+    field(rt, b"", p.value as u64)?;
+    field(rt, b"", p.gain as u64)?;
+    end(rt)
 }

@@ -10,6 +10,7 @@ use updating::update::update;
 const TIME: u8 = 1;
 
 // The number of the box that a fork started, and the tally after it.
+#[derive(Drop)]
 pub struct Forked {
     pub number: u8,
     pub tally: Tally,

@@ -2,6 +2,7 @@
 use std::num::wrapping_add_u32;
 use table::answer::Answer;
 
+#[derive(Clone, Copy)]
 pub struct Tally {
     pub sum: u64,
     pub forks: u32,

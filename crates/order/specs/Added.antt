@@ -1,12 +1,7 @@
 -- No claim rests on this file: it serves the code.
 -- A list put behind the first n entries of a buffer: 4,096 entries at most, and the rest of the buffer stays.
-use Prim.Native.Nat.{ℕ}
-use mathlib.Core.Bool.{Bool, cond, _||_}
-use mathlib.Core.Path.{_≡_}
-use mathlib.Core.List.{List, [], _∷_, _++_}
-use lib.Dec.{ltb}
-use lib.ListN.{length, take, drop}
-use Rattle·cells.specs.Sizes.{updates}
+use Rattle.std.specs.Prelude.{ℕ, Bool, cond, ◌||◌, ◌≡◌, List, [], ◌∷◌, ◌++◌, ltb, length, take, drop}
+use Rattle.cells.specs.Sizes.{updates}
 
 abbrev pub front : List ℕ → ℕ → List ℕ → List ℕ
 front before n l = take updates (take n before ++ l)

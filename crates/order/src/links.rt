@@ -1,22 +1,19 @@
 // Own lists, gathered along their links. The list of a revision runs through every revision joined into it and those joined into
 // these; the number of earlier entries falls at each call.
-ghost use mathlib.Core.Path.{_≡_};
-ghost use mathlib.Core.Bool.{true};
-ghost use mathlib.Core.List.{_++_};
-ghost use Prim.Native.Nat.{_<_, _≤_};
-ghost use lib.ListN.{drop, length};
-ghost use Rattle·cells.specs.Sizes.{lowerBytes, revisions, updates};
-ghost use Rattle·cells.specs.Cells.{own};
-ghost use Rattle·cells.specs.Decode.{cells};
-ghost use Rattle·cells.specs.Range.{inRange};
-ghost use Rattle·order·specs.specs.Chain.{withChain};
+ghost use Rattle.std.specs.Prelude.{◌≡◌, true, ◌++◌, ◌<◌, ◌≤◌, drop, length};
+ghost use Rattle.cells.specs.Sizes.{lower_bytes, revisions, updates};
+ghost use Rattle.cells.specs.Cells.{own};
+ghost use Rattle.cells.specs.Decode.{cells};
+ghost use Rattle.cells.specs.Range.{in_range};
+ghost use Rattle.order.specs.Chain.{with_chain};
+
 use fields::read;
 use sizes::numbers::Revision;
 use sizes::table::Table;
 
 // Room for a list.
 pub fn room() -> [u16; Table::UPDATES]
-    ensures { λ r. ⌜ length r ≡ updates ⌝ }
+    ensures { length result ≡ updates }
 {
     [0; Table::UPDATES]
 }
@@ -26,8 +23,8 @@ const CHUNK: usize = 64;
 
 // How many of n entries are left to the next call: all but a chunk, or none.
 fn rest(n: usize) -> usize
-    requires { ⌜ 0 < n ⌝ }
-    ensures { λ m. ⌜ m < n ⌝ }
+    requires { 0 < n }
+    ensures { result < n }
 {
     if n < CHUNK {
         return 0;
@@ -36,6 +33,7 @@ fn rest(n: usize) -> usize
 }
 
 // What is left of a walk: so many updates, which end at `at`.
+#[derive(Drop)]
 pub struct Walk {
     pub at: usize,
     pub left: usize,
@@ -45,8 +43,8 @@ pub struct Walk {
 // each link leads to the next lower number and more than m are left. Updates entered in a row have such links, so the code can go on
 // with that number and need not wait for the link. What is left, gathered later, makes what all n gathered at once would have made.
 fn run(d: &[u8], at: usize, n: usize, m: usize, out: &mut [u16]) -> Walk
-    requires { ⌜ (length (now d) ≡ lowerBytes) × (at < updates) × (m < n) × (n ≤ length (now out)) ⌝ }
-    ensures { λ w. ⌜ (w .at < updates) × (m ≤ w .left) × (w .left < n) × (withChain (now (d .entry)) (w .at) (w .left) (now (out .exit)) ≡ withChain (now (d .entry)) at n (now (out .entry))) ⌝ }
+    requires { (length d.now ≡ lower_bytes) × (at < updates) × (m < n) × (n ≤ length out.old) }
+    ensures { (result.at < updates) × (m ≤ result.left) × (result.left < n) × (with_chain d.now result.at result.left out.new ≡ with_chain d.now at n out.old) }
 {
     let mut u = at;
     let mut i = n;
@@ -64,8 +62,8 @@ fn run(d: &[u8], at: usize, n: usize, m: usize, out: &mut [u16]) -> Walk
 
 // Of the n updates that end at `at` all but the first m, in their places, run by run. The answer is the last of those m.
 fn gather_some(d: &[u8], at: usize, n: usize, m: usize, out: &mut [u16]) -> usize
-    requires { ⌜ (length (now d) ≡ lowerBytes) × (at < updates) × (m ≤ n) × (n ≤ length (now out)) ⌝ }
-    ensures { λ u. ⌜ (u < updates) × (withChain (now (d .entry)) u m (now (out .exit)) ≡ withChain (now (d .entry)) at n (now (out .entry))) ⌝ }
+    requires { (length d.now ≡ lower_bytes) × (at < updates) × (m ≤ n) × (n ≤ length out.old) }
+    ensures { (result < updates) × (with_chain d.now result m out.new ≡ with_chain d.now at n out.old) }
 {
     let mut u = at;
     let mut i = n;
@@ -79,8 +77,8 @@ fn gather_some(d: &[u8], at: usize, n: usize, m: usize, out: &mut [u16]) -> usiz
 
 // The n updates that end at `at`, in the first n places.
 pub fn gather(d: &[u8], at: usize, n: usize, out: &mut [u16])
-    requires { ⌜ (length (now d) ≡ lowerBytes) × (at < updates) × (n ≤ length (now out)) ⌝ }
-    ensures { λ _. ⌜ now (out .exit) ≡ withChain (now (d .entry)) at n (now (out .entry)) ⌝ }
+    requires { (length d.now ≡ lower_bytes) × (at < updates) × (n ≤ length out.old) }
+    ensures { out.new ≡ with_chain d.now at n out.old }
 {
     if n == 0 {
         return;
@@ -92,8 +90,8 @@ pub fn gather(d: &[u8], at: usize, n: usize, out: &mut [u16])
 
 // The own list of r; how many it has.
 pub fn own_list(d: &[u8], r: Revision, out: &mut [u16]) -> usize
-    requires { ⌜ (length (now d) ≡ lowerBytes) × (inRange (now d) ≡ true) × (r .0 < revisions) × (length (now out) ≡ updates) ⌝ }
-    ensures { λ n. ⌜ (n ≡ cells (now (d .entry)) .count (r .0)) × (n ≤ updates) × (now (out .exit) ≡ own (cells (now (d .entry))) (r .0) ++ drop n (now (out .entry))) ⌝ }
+    requires { (length d.now ≡ lower_bytes) × (in_range d.now ≡ true) × (r.0 < revisions) × (length out.old ≡ updates) }
+    ensures { (result ≡ (cells d.now).count r.0) × (result ≤ updates) × (out.new ≡ own (cells d.now) r.0 ++ drop result out.old) }
 {
     let n = read::count(d, r);
     let at = read::last(d, r);

@@ -1,29 +1,23 @@
 // The order of a revision: what it inherited from each revision left of it, from the left, then its own list.
-ghost use mathlib.Core.Path.{_≡_};
-ghost use mathlib.Core.Bool.{true, _||_};
-ghost use mathlib.Core.List.{[], _++_, _∷_};
-ghost use Prim.Native.Nat.{_+_, _<_, _≤_};
-ghost use lib.Dec.{ltb};
-ghost use lib.ListN.{drop, length};
-ghost use Rattle·lists.specs.Arranged.{behind, flatBack};
-ghost use Rattle·cells.specs.Sizes.{lowerBytes, revisions, updates};
-ghost use Rattle·cells.specs.Words.{byte};
-ghost use Rattle·cells.specs.Cells.{flagged, outs, own};
-ghost use Rattle·cells.specs.Decode.{cells};
-ghost use Rattle·cells.specs.Order.{baseIn, inherited, order, picks};
-ghost use Rattle·cells.specs.Range.{inRange};
-ghost use Rattle·order·specs.specs.Added.{Added, offered};
+ghost use Rattle.std.specs.Prelude.{◌≡◌, true, ◌||◌, [], ◌++◌, ◌∷◌, ◌+◌, ◌<◌, ◌≤◌, ltb, drop, length};
+ghost use Rattle.lists.specs.Arranged.{behind, flat_back};
+ghost use Rattle.cells.specs.Sizes.{lower_bytes, revisions, updates};
+ghost use Rattle.cells.specs.Words.{byte};
+ghost use Rattle.cells.specs.Cells.{flagged, outs, own};
+ghost use Rattle.cells.specs.Decode.{cells};
+ghost use Rattle.cells.specs.Order.{base_in, inherited, order, picks};
+ghost use Rattle.cells.specs.Range.{in_range};
+ghost use Rattle.order.specs.Added.{Added, offered};
+
 use crate::links;
 use fields::read;
-use sizes::numbers::Revision;
-use sizes::numbers::RevisionCheck;
-use sizes::numbers::check_revision;
+use sizes::numbers::{Revision, RevisionCheck, check_revision};
 use sizes::table::Table;
 
 // x goes behind the first n, if there is room.
 fn push(out: &mut [u16], n: usize, x: u16) -> usize
-    requires { ⌜ (length (now out) ≡ updates) × (n ≤ updates) ⌝ }
-    ensures { λ m. ⌜ Added (now (out .entry)) n (x ∷ []) (now (out .exit)) m ⌝ }
+    requires { (length out.old ≡ updates) × (n ≤ updates) }
+    ensures { Added out.old n (x ∷ []) out.new result }
 {
     if n == Table::UPDATES {
         return n;
@@ -34,8 +28,8 @@ fn push(out: &mut [u16], n: usize, x: u16) -> usize
 
 // Whether r inherited u, the entry at place i of a list of which it inherited the first `base`.
 pub fn wanted(d: &[u8], r: Revision, base: usize, i: usize, u: usize) -> bool
-    requires { ⌜ (length (now d) ≡ lowerBytes) × (r .0 < revisions) ⌝ }
-    ensures { λ x. ⌜ x ≡ (ltb i base || flagged (cells (now (d .entry))) (r .0) u) ⌝ }
+    requires { (length d.now ≡ lower_bytes) × (r.0 < revisions) }
+    ensures { result ≡ (ltb i base || flagged (cells d.now) r.0 u) }
 {
     if i < base {
         return true;
@@ -48,8 +42,8 @@ pub fn wanted(d: &[u8], r: Revision, base: usize, i: usize, u: usize) -> bool
 
 // The entry x at place i goes behind the first n, if r inherited it.
 fn offer(d: &[u8], r: Revision, base: usize, i: usize, x: u16, out: &mut [u16], n: usize) -> usize
-    requires { ⌜ (length (now d) ≡ lowerBytes) × (r .0 < revisions) × (length (now out) ≡ updates) × (n ≤ updates) ⌝ }
-    ensures { λ m. ⌜ Added (now (out .entry)) n (offered base (flagged (cells (now (d .entry))) (r .0)) i x) (now (out .exit)) m ⌝ }
+    requires { (length d.now ≡ lower_bytes) × (r.0 < revisions) × (length out.old ≡ updates) × (n ≤ updates) }
+    ensures { Added out.old n (offered base (flagged (cells d.now) r.0) i x) out.new result }
 {
     if wanted(d, r, base, i, x as usize) {
         return push(out, n, x);
@@ -59,8 +53,8 @@ fn offer(d: &[u8], r: Revision, base: usize, i: usize, x: u16, out: &mut [u16], 
 
 // Of a list what r inherited goes behind the first n.
 fn sift(d: &[u8], r: Revision, base: usize, list: &[u16], out: &mut [u16], n: usize) -> usize
-    requires { ⌜ (length (now d) ≡ lowerBytes) × (r .0 < revisions) × (length (now out) ≡ updates) × (n ≤ updates) ⌝ }
-    ensures { λ m. ⌜ Added (now (out .entry)) n (picks base (flagged (cells (now (d .entry))) (r .0)) (now (list .entry))) (now (out .exit)) m ⌝ }
+    requires { (length d.now ≡ lower_bytes) × (r.0 < revisions) × (length out.old ≡ updates) × (n ≤ updates) }
+    ensures { Added out.old n (picks base (flagged (cells d.now) r.0) list.now) out.new result }
 {
     let mut i: usize = 0;
     let mut m = n;
@@ -81,8 +75,8 @@ fn add_some(
     out: &mut [u16],
     n: usize,
 ) -> usize
-    requires { ⌜ (length (now d) ≡ lowerBytes) × (inRange (now d) ≡ true) × (r .0 < revisions) × (x .0 < revisions) × (length (now room) ≡ updates) × (length (now out) ≡ updates) × (n ≤ updates) ⌝ }
-    ensures { λ m. ⌜ Added (now (out .entry)) n (picks base (flagged (cells (now (d .entry))) (r .0)) (own (cells (now (d .entry))) (x .0))) (now (out .exit)) m ⌝ }
+    requires { (length d.now ≡ lower_bytes) × (in_range d.now ≡ true) × (r.0 < revisions) × (x.0 < revisions) × (length room.old ≡ updates) × (length out.old ≡ updates) × (n ≤ updates) }
+    ensures { Added out.old n (picks base (flagged (cells d.now) r.0) (own (cells d.now) x.0)) out.new result }
 {
     let many = links::own_list(d, x, room);
     sift(d, r, base, &room[..many], out, n)
@@ -90,8 +84,8 @@ fn add_some(
 
 // How many of the first entries of x's list r inherited by count.
 pub fn base_in(d: &[u8], r: Revision, x: Revision) -> usize
-    requires { ⌜ (length (now d) ≡ lowerBytes) × (r .0 < revisions) ⌝ }
-    ensures { λ b. ⌜ b ≡ baseIn (cells (now (d .entry))) (r .0) (x .0) ⌝ }
+    requires { (length d.now ≡ lower_bytes) × (r.0 < revisions) }
+    ensures { result ≡ base_in (cells d.now) r.0 x.0 }
 {
     if x.0 == 0 {
         return read::base(d, r);
@@ -101,8 +95,8 @@ pub fn base_in(d: &[u8], r: Revision, x: Revision) -> usize
 
 // The revision at a place of the layout: a number in range on every table in range.
 pub fn at_place(d: &[u8], i: usize) -> Revision
-    requires { ⌜ (length (now d) ≡ lowerBytes) × (inRange (now d) ≡ true) × (i < revisions) ⌝ }
-    ensures { λ x. ⌜ (x .0 ≡ byte (cells (now (d .entry)) .layout) i) × (x .0 < revisions) ⌝ }
+    requires { (length d.now ≡ lower_bytes) × (in_range d.now ≡ true) × (i < revisions) }
+    ensures { (result.0 ≡ byte (cells d.now).layout i) × (result.0 < revisions) }
 {
     let RevisionCheck::Known(r) = check_revision(read::place(d, i) as u8) else {
         return Revision::main();
@@ -112,8 +106,8 @@ pub fn at_place(d: &[u8], i: usize) -> Revision
 
 // The place of r among those that are out, or their number.
 pub fn place_of(d: &[u8], r: Revision) -> usize
-    requires { ⌜ (length (now d) ≡ lowerBytes) × (inRange (now d) ≡ true) ⌝ }
-    ensures { λ j. ⌜ (j ≤ revisions) × (behind (r .0) (outs (cells (now (d .entry)))) ≡ drop (j + 1) (outs (cells (now (d .entry))))) ⌝ }
+    requires { (length d.now ≡ lower_bytes) × (in_range d.now ≡ true) }
+    ensures { (result ≤ revisions) × (behind r.0 (outs (cells d.now)) ≡ drop (result + 1) (outs (cells d.now))) }
 {
     let n = read::out(d);
     let mut j: usize = 0;
@@ -129,8 +123,8 @@ pub fn place_of(d: &[u8], r: Revision) -> usize
 
 // What r inherited from the revisions behind place j, from the left. One room does for all lists.
 fn add_left(d: &[u8], r: Revision, j: usize, room: &mut [u16], out: &mut [u16]) -> usize
-    requires { ⌜ (length (now d) ≡ lowerBytes) × (inRange (now d) ≡ true) × (r .0 < revisions) × (j ≤ revisions) × (length (now room) ≡ updates) × (length (now out) ≡ updates) ⌝ }
-    ensures { λ m. ⌜ Added (now (out .entry)) 0 (flatBack (inherited (cells (now (d .entry))) (r .0)) (drop (j + 1) (outs (cells (now (d .entry)))))) (now (out .exit)) m ⌝ }
+    requires { (length d.now ≡ lower_bytes) × (in_range d.now ≡ true) × (r.0 < revisions) × (j ≤ revisions) × (length room.old ≡ updates) × (length out.old ≡ updates) }
+    ensures { Added out.old 0 (flat_back (inherited (cells d.now) r.0) (drop (j + 1) (outs (cells d.now)))) out.new result }
 {
     let mut i = read::out(d);
     let mut m: usize = 0;
@@ -145,8 +139,8 @@ fn add_left(d: &[u8], r: Revision, j: usize, room: &mut [u16], out: &mut [u16]) 
 
 // The order of r into the first places of `out`; how many entries it has.
 pub fn list(d: &[u8], r: Revision, out: &mut [u16]) -> usize
-    requires { ⌜ (length (now d) ≡ lowerBytes) × (inRange (now d) ≡ true) × (r .0 < revisions) × (length (now out) ≡ updates) ⌝ }
-    ensures { λ n. ⌜ (n ≡ length (order (cells (now (d .entry))) (r .0))) × (now (out .exit) ≡ order (cells (now (d .entry))) (r .0) ++ drop n (now (out .entry))) ⌝ }
+    requires { (length d.now ≡ lower_bytes) × (in_range d.now ≡ true) × (r.0 < revisions) × (length out.old ≡ updates) }
+    ensures { (result ≡ length (order (cells d.now) r.0)) × (out.new ≡ order (cells d.now) r.0 ++ drop result out.old) }
 {
     let j = place_of(d, r);
     let mut room = links::room();

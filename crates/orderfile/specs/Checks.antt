@@ -1,22 +1,18 @@
 -- No claim rests on this file: it serves the code. What the check of a file finds, and places as the code keeps them.
-use Prim.Native.Nat.{ℕ}
-use mathlib.Core.Bool.{Bool, true, cond}
-use mathlib.Core.Path.{_≡_}
-use mathlib.Core.List.{List}
-use lib.ListN.{getD}
-use Rattle·orderfile·specs.specs.File.{isBadList, offset}
-use Rattle·orderfile·specs.specs.Test.{isComplete, placeIn}
-use Rattle·orderfile·specs.specs.declared.file.ListCheck.{ListCheck}
-use Rattle·orderfile·specs.specs.declared.file.ListCheck.the-variants.{Good, Bad}
+use Rattle.std.specs.Prelude.{ℕ, Bool, true, cond, ◌≡◌, List, get_or}
+use Rattle.orderfile.specs.File.{is_bad_list, offset}
+use Rattle.orderfile.specs.Test.{is_complete, place_in}
+use Rattle.orderfile.specs.declared.file.ListCheck.{ListCheck}
+use Rattle.orderfile.specs.declared.file.ListCheck.TheVariants.{Good, Bad}
 
-unfoldable pub listCheck : List ℕ → ListCheck
-listCheck f = cond (isBadList f) Bad (Good (offset f))
+unfoldable pub list_check : List ℕ → ListCheck
+list_check f = cond (is_bad_list f) Bad (Good (offset f))
 
 -- the place of u among the places kept, 0 where none is kept
-abbrev pub placeAt : List ℕ → ℕ → ℕ
-placeAt places u = getD places u 0
+abbrev pub place_at : List ℕ → ℕ → ℕ
+place_at places u = get_or places u 0
 
 -- what is found of the numbers of an order: whether they are complete, and then the place of each
 pub record PlacesOf (taken : ℕ) (ns places : List ℕ) (r : Bool) : Type 0 where
-  pub is : r ≡ isComplete taken ns
-  pub each : r ≡ true → (u : ℕ) → placeAt places u ≡ placeIn ns u
+  pub is : r ≡ is_complete taken ns
+  pub each : r ≡ true → (u : ℕ) → place_at places u ≡ place_in ns u

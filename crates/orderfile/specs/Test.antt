@@ -1,32 +1,28 @@
 -- No claim rests on this file: it serves the definitions of the calls. `Fits` as a test that computes; that the two agree is `fits-exactly` (proofs/Exactly).
-use Prim.Native.Nat.{ℕ, suc}
-use mathlib.Core.Bool.{Bool, true, cond, not, _&&_}
-use mathlib.Core.List.{List, [], _∷_}
-use lib.Dec.{eqb, ltb}
-use lib.ListN.{length}
-use Rattle·lists.specs.Sums.{anyBelow}
-use Rattle·lists.specs.Arranged.{member}
+use Rattle.std.specs.Prelude.{ℕ, suc, Bool, true, cond, not, ◌&&◌, List, [], ◌∷◌, eqb, ltb, length}
+use Rattle.lists.specs.Sums.{any_below}
+use Rattle.lists.specs.Arranged.{member}
 
 -- no number from `taken` on
-unfoldable pub noOther : ℕ → List ℕ → Bool
-noOther taken [] = true
-noOther taken (n ∷ ns) = ltb n taken && noOther taken ns
+unfoldable pub no_other : ℕ → List ℕ → Bool
+no_other taken [] = true
+no_other taken (n ∷ ns) = ltb n taken && no_other taken ns
 
-unfoldable pub noneTwice : List ℕ → Bool
-noneTwice [] = true
-noneTwice (n ∷ ns) = not (member n ns) && noneTwice ns
+unfoldable pub none_twice : List ℕ → Bool
+none_twice [] = true
+none_twice (n ∷ ns) = not (member n ns) && none_twice ns
 
 -- as many numbers as updates, none twice and none too high: so each is there
-unfoldable pub isComplete : ℕ → List ℕ → Bool
-isComplete taken ns = eqb (length ns) taken && (noOther taken ns && noneTwice ns)
+unfoldable pub is_complete : ℕ → List ℕ → Bool
+is_complete taken ns = eqb (length ns) taken && (no_other taken ns && none_twice ns)
 
 -- the place of u, the first being k; 0 where it is not there
-unfoldable pub placeFrom : ℕ → List ℕ → ℕ → ℕ
-placeFrom k [] u = 0
-placeFrom k (n ∷ ns) u = cond (eqb u n) k (placeFrom (suc k) ns u)
+unfoldable pub place_from : ℕ → List ℕ → ℕ → ℕ
+place_from k [] u = 0
+place_from k (n ∷ ns) u = cond (eqb u n) k (place_from (suc k) ns u)
 
-abbrev pub placeIn : List ℕ → ℕ → ℕ
-placeIn ns = placeFrom 1 ns
+abbrev pub place_in : List ℕ → ℕ → ℕ
+place_in ns = place_from 1 ns
 
 -- the places of a list's numbers rise, all above `last`
 unfoldable pub rises : (ℕ → ℕ) → ℕ → List ℕ → Bool
@@ -38,8 +34,8 @@ abbrev pub wrong : (ℕ → Bool) → (ℕ → List ℕ) → (ℕ → ℕ) → �
 wrong out listed place r = out r && not (rises place 0 (listed r))
 
 -- of no box below a number
-unfoldable pub inOrder : ℕ → (ℕ → Bool) → (ℕ → List ℕ) → (ℕ → ℕ) → Bool
-inOrder boxes out listed place = not (anyBelow boxes (wrong out listed place))
+unfoldable pub in_order : ℕ → (ℕ → Bool) → (ℕ → List ℕ) → (ℕ → ℕ) → Bool
+in_order boxes out listed place = not (any_below boxes (wrong out listed place))
 
 unfoldable pub fits : ℕ → ℕ → (ℕ → Bool) → (ℕ → List ℕ) → List ℕ → Bool
-fits taken boxes out listed ns = isComplete taken ns && inOrder boxes out listed (placeIn ns)
+fits taken boxes out listed ns = is_complete taken ns && in_order boxes out listed (place_in ns)

@@ -1,8 +1,10 @@
 // The check of the file: header and length.
-ghost use mathlib.Core.Path.{_≡_};
-ghost use Rattle·orderfile·specs.specs.Checks.{listCheck};
+ghost use Rattle.std.specs.Prelude.{◌≡◌};
+ghost use Rattle.orderfile.specs.Checks.{list_check};
+
 use buffers::numbers::read;
 
+#[derive(Drop)]
 pub struct Order;
 
 impl Order {
@@ -17,6 +19,7 @@ impl Order {
 }
 
 // Where the numbers begin, or that the list is bad.
+#[derive(Drop)]
 pub enum ListCheck {
     Good(usize),
     Bad,
@@ -24,7 +27,7 @@ pub enum ListCheck {
 
 // The sum is made in 64 bits: no count wraps into a fit.
 pub fn check_list(f: &[u8]) -> ListCheck
-    ensures { λ r. ⌜ r ≡ listCheck (now (f .entry)) ⌝ }
+    ensures { result ≡ list_check f.now }
 {
     if f.len() < Order::HEADER {
         return ListCheck::Bad;

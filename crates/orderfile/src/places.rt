@@ -1,21 +1,19 @@
 // The place of each number of an order, if each stands there once and none is too high.
-ghost use mathlib.Core.Path.{_≡_};
-ghost use Prim.Native.Nat.{ℕ, _*_, _+_, _<_, _≤_};
-ghost use lib.ListN.{getD, length};
-ghost use Rattle·orderfile·specs.specs.File.{numbersOf};
-ghost use Rattle·orderfile·specs.specs.Checks.{PlacesOf, placeAt};
+ghost use Rattle.std.specs.Prelude.{◌≡◌, ℕ, ◌*◌, ◌+◌, ◌<◌, ◌≤◌, get_or, length};
+ghost use Rattle.orderfile.specs.File.{numbers_of};
+ghost use Rattle.orderfile.specs.Checks.{PlacesOf, place_at};
 
 // Number i of those in b.
 fn number_at(b: &[u8], i: usize) -> usize
-    requires { ⌜ 2 * i + 2 ≤ length (now b) ⌝ }
-    ensures { λ n. ⌜ n ≡ getD (numbersOf (now (b .entry))) i 0 ⌝ }
+    requires { 2 * i + 2 ≤ length b.now }
+    ensures { result ≡ get_or (numbers_of b.now) i 0 }
 {
     b[2 * i] as usize + 256 * (b[2 * i + 1] as usize)
 }
 
 // How many numbers b has.
 pub fn count(b: &[u8]) -> usize
-    ensures { λ n. ⌜ n ≡ length (numbersOf (now (b .entry))) ⌝ }
+    ensures { result ≡ length (numbers_of b.now) }
 {
     b.len() / 2
 }
@@ -23,8 +21,8 @@ pub fn count(b: &[u8]) -> usize
 // Whether b, which has as many numbers as updates were taken, has each once and no other; then `places` has the place of each, from 1 on. Where it
 // has none, 0 stays. It ends at the first number that is too high or stands there twice.
 pub fn place_all(b: &[u8], taken: usize, places: &mut [u16]) -> bool
-    requires { ⌜ (length (numbersOf (now b)) ≡ taken) × (taken < 65536) × (taken ≤ length (now places)) × ((u : ℕ) → placeAt (now places) u ≡ 0) ⌝ }
-    ensures { λ r. ⌜ PlacesOf taken (numbersOf (now (b .entry))) (now (places .exit)) r ⌝ }
+    requires { (length (numbers_of b.now) ≡ taken) × (taken < 65536) × (taken ≤ length places.old) × ((u : ℕ) → place_at places.old u ≡ 0) }
+    ensures { PlacesOf taken (numbers_of b.now) places.new result }
 {
     let mut i: usize = 0;
     while i < taken {

@@ -1,11 +1,11 @@
 // Whether the places of a list's numbers rise.
-ghost use mathlib.Core.Path.{_≡_};
-ghost use Rattle·orderfile·specs.specs.Test.{rises};
-ghost use Rattle·orderfile·specs.specs.Checks.{placeAt};
+ghost use Rattle.std.specs.Prelude.{◌≡◌};
+ghost use Rattle.orderfile.specs.Test.{rises};
+ghost use Rattle.orderfile.specs.Checks.{place_at};
 
 // The place of u, 0 where it has none.
 fn place(places: &[u16], u: usize) -> u16
-    ensures { λ p. ⌜ p ≡ placeAt (now (places .entry)) u ⌝ }
+    ensures { result ≡ place_at places.now u }
 {
     if u < places.len() {
         return places[u];
@@ -15,7 +15,7 @@ fn place(places: &[u16], u: usize) -> u16
 
 // Each is above the last one, and the first above 0.
 pub fn rise(places: &[u16], list: &[u16]) -> bool
-    ensures { λ r. ⌜ r ≡ rises (placeAt (now (places .entry))) 0 (now (list .entry)) ⌝ }
+    ensures { result ≡ rises (place_at places.now) 0 list.now }
 {
     let mut last: u16 = 0;
     let mut i: usize = 0;

@@ -1,10 +1,7 @@
 -- No claim rests on this file: it serves the code.
 -- The first place of a revision in the layout, or the layout's length where it stands in none.
-use Prim.Native.Nat.{ℕ, suc}
-use mathlib.Core.Bool.{cond}
-use mathlib.Core.List.{List, [], _∷_}
-use lib.Dec.{eqb}
+use Rattle.std.specs.Prelude.{ℕ, suc, cond, List, [], ◌∷◌, eqb}
 
-unfoldable pub firstPlace : ℕ → List ℕ → ℕ
-firstPlace r [] = 0
-firstPlace r (x ∷ l) = cond (eqb x r) 0 (suc (firstPlace r l))
+unfoldable pub first_place : ℕ → List ℕ → ℕ
+first_place r [] = 0
+first_place r (x ∷ l) = cond (eqb x r) 0 (suc (first_place r l))

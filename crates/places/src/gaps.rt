@@ -1,8 +1,6 @@
 // A place of 64 taken out or put in: for the layout and the queue.
-ghost use mathlib.Core.Path.{_≡_};
-ghost use mathlib.Core.List.{[], _++_, _∷_};
-ghost use Prim.Native.Nat.{_+_, _<_};
-ghost use lib.ListN.{drop, length, take};
+ghost use Rattle.std.specs.Prelude.{◌≡◌, [], ◌++◌, ◌∷◌, ◌+◌, ◌<◌, drop, length, take};
+
 use sizes::table::Table;
 
 // The last place.
@@ -10,8 +8,8 @@ const LAST_PLACE: usize = Table::REVISIONS - 1;
 
 // What stands behind place i moves one place to the front, and the last place takes `last`.
 pub fn close(t: &mut [u8], i: usize, last: u8)
-    requires { ⌜ (length (now t) ≡ 64) × (i < 64) ⌝ }
-    ensures { λ _. ⌜ now (t .exit) ≡ (take i (now (t .entry)) ++ drop (i + 1) (now (t .entry))) ++ (last ∷ []) ⌝ }
+    requires { (length t.old ≡ 64) × (i < 64) }
+    ensures { t.new ≡ (take i t.old ++ drop (i + 1) t.old) ++ (last ∷ []) }
 {
     let mut j = i;
     while j < LAST_PLACE {
@@ -23,8 +21,8 @@ pub fn close(t: &mut [u8], i: usize, last: u8)
 
 // What stands at place i and behind it moves one place back; the last falls out. x comes to place i.
 pub fn open(t: &mut [u8], i: usize, x: u8)
-    requires { ⌜ (length (now t) ≡ 64) × (i < 64) ⌝ }
-    ensures { λ _. ⌜ now (t .exit) ≡ take 64 (take i (now (t .entry)) ++ (x ∷ drop i (now (t .entry)))) ⌝ }
+    requires { (length t.old ≡ 64) × (i < 64) }
+    ensures { t.new ≡ take 64 (take i t.old ++ (x ∷ drop i t.old)) }
 {
     let mut j = LAST_PLACE;
     while i < j {

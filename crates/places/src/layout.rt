@@ -1,16 +1,15 @@
 // The layout: the revisions that are out, right to left, in 64 places.
-ghost use mathlib.Core.Path.{_≡_};
-ghost use mathlib.Core.List.{[], _++_, _∷_};
-ghost use lib.ListN.{length, take};
-ghost use Rattle·lists.specs.Arranged.{insertBefore, remove};
-ghost use Rattle·places·specs.specs.Place.{firstPlace};
+ghost use Rattle.std.specs.Prelude.{◌≡◌, [], ◌++◌, ◌∷◌, length, take};
+ghost use Rattle.lists.specs.Arranged.{insert_before, remove};
+ghost use Rattle.places.specs.Place.{first_place};
+
 use crate::gaps;
 use sizes::table::Table;
 
 // The first place of r, or `Table::REVISIONS`.
 pub fn find(t: &[u8], r: u8) -> usize
-    requires { ⌜ length (now t) ≡ 64 ⌝ }
-    ensures { λ i. ⌜ i ≡ firstPlace r (now (t .entry)) ⌝ }
+    requires { length t.now ≡ 64 }
+    ensures { result ≡ first_place r t.now }
 {
     let mut i: usize = 0;
     while i < Table::REVISIONS {
@@ -24,8 +23,8 @@ pub fn find(t: &[u8], r: u8) -> usize
 
 // b leaves the layout.
 pub fn take_out(t: &mut [u8], b: u8)
-    requires { ⌜ length (now t) ≡ 64 ⌝ }
-    ensures { λ _. ⌜ now (t .exit) ≡ take 64 (remove b (now (t .entry)) ++ (0 ∷ [])) ⌝ }
+    requires { length t.old ≡ 64 }
+    ensures { t.new ≡ take 64 (remove b t.old ++ (0 ∷ [])) }
 {
     let i = find(t, b);
     if i < Table::REVISIONS {
@@ -35,8 +34,8 @@ pub fn take_out(t: &mut [u8], b: u8)
 
 // The child comes into the layout in front of the parent.
 pub fn put_in(t: &mut [u8], parent: u8, child: u8)
-    requires { ⌜ length (now t) ≡ 64 ⌝ }
-    ensures { λ _. ⌜ now (t .exit) ≡ take 64 (insertBefore parent child (now (t .entry))) ⌝ }
+    requires { length t.old ≡ 64 }
+    ensures { t.new ≡ take 64 (insert_before parent child t.old) }
 {
     let i = find(t, parent);
     if i < Table::REVISIONS {

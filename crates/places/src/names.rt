@@ -1,15 +1,14 @@
 // Names of four bytes, in a part.
-ghost use mathlib.Core.Path.{_≡_};
-ghost use Prim.Native.Nat.{_+_, _*_, _<_};
-ghost use lib.ListN.{length};
-ghost use Rattle·lists.specs.Names.{sameName};
-ghost use Rattle·cells.specs.Words.{nameIn, putName};
+ghost use Rattle.std.specs.Prelude.{◌≡◌, ◌+◌, ◌*◌, ◌<◌, length};
+ghost use Rattle.lists.specs.Names.{same_name};
+ghost use Rattle.cells.specs.Words.{name_in, put_name};
+
 use sizes::table::Table;
 
 // Whether name r is the lent one, which may be of any length.
 pub fn is_name(t: &[u8], r: usize, name: &[u8]) -> bool
-    requires { ⌜ 4 * r + 3 < length (now t) ⌝ }
-    ensures { λ same. ⌜ same ≡ sameName (nameIn (now (t .entry)) r) (now (name .entry)) ⌝ }
+    requires { 4 * r + 3 < length t.now }
+    ensures { result ≡ same_name (name_in t.now r) name.now }
 {
     if name.len() != Table::NAME {
         return false;
@@ -20,8 +19,8 @@ pub fn is_name(t: &[u8], r: usize, name: &[u8]) -> bool
 }
 
 pub fn put_name(t: &mut [u8], r: usize, name: &[u8])
-    requires { ⌜ (4 * r + 3 < length (now t)) × (length (now name) ≡ 4) ⌝ }
-    ensures { λ _. ⌜ now (t .exit) ≡ putName (now (t .entry)) r (now (name .entry)) ⌝ }
+    requires { (4 * r + 3 < length t.old) × (length name.now ≡ 4) }
+    ensures { t.new ≡ put_name t.old r name.now }
 {
     let at = Table::NAME * r;
     t[at] = name[0];

@@ -1,14 +1,13 @@
 // A row of 4,096 flags, by value: its 512 bytes put into the rows.
-ghost use mathlib.Core.Path.{_≡_};
-ghost use Prim.Native.Nat.{_<_};
-ghost use lib.ListN.{length};
-ghost use Rattle·cells.specs.Flags.{flagAt, putRow, rowBytes};
+ghost use Rattle.std.specs.Prelude.{◌≡◌, ◌<◌, length};
+ghost use Rattle.cells.specs.Flags.{flag_at, put_row, row_bytes};
+
 use sizes::table::Table;
 
 // The row as the 512 bytes of t.
 fn store(t: &mut [u8], row: [u8; Table::ROW])
-    requires { ⌜ length (now t) ≡ 512 ⌝ }
-    ensures { λ _. ⌜ now (t .exit) ≡ rowBytes 512 (flagAt row) ⌝ }
+    requires { length t.old ≡ 512 }
+    ensures { t.new ≡ row_bytes 512 (flag_at row) }
 {
     let mut i: usize = 0;
     while i < Table::ROW {
@@ -19,8 +18,8 @@ fn store(t: &mut [u8], row: [u8; Table::ROW])
 
 // Row x of the rows replaced.
 pub fn put(t: &mut [u8], x: usize, row: [u8; Table::ROW])
-    requires { ⌜ (length (now t) ≡ 32256) × (x < 63) ⌝ }
-    ensures { λ _. ⌜ now (t .exit) ≡ putRow 512 (now (t .entry)) x (flagAt row) ⌝ }
+    requires { (length t.old ≡ 32256) × (x < 63) }
+    ensures { t.new ≡ put_row 512 t.old x (flag_at row) }
 {
     let at = Table::ROW * x;
     let end = at + Table::ROW;

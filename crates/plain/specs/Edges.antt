@@ -1,15 +1,12 @@
 -- 01, "Edges of a race day": the starred edges E1 to E9 as one table of calls with what each gives; and 02, U1 to U4, U6 to U10, U13 and U14.
-use Prim.Native.Nat.{ℕ, zero, suc}
-use mathlib.Core.Bool.{Bool, true, false}
-use mathlib.Core.List.{List, [], _∷_, _++_}
-use lib.ListN.{replicate}
-use Rattle·lists.specs.Names.{Name}
-use Rattle·updates.specs.declared.standing.Standing.the-variants.{At, Struck}
-use Rattle·bundles.specs.declared.entry.Entry as Sent
-use Rattle·orderfile.specs.File.{fileOf}
-use Rattle·boards.specs.Board.{boardBytes}
-use Rattle·desk.specs.Calls.{Call, Update, Query, Yield, Fork, Join, Sync, Mark, Drop, Bundle, Looks, Show, Fill, Preview, Verify, Bill, Entries, Records, Answer, plainly, reading, level, answerOn}
-use Rattle·plain·specs.specs.Answers.{answers}
+use Rattle.std.specs.Prelude.{ℕ, zero, suc, Bool, true, false, List, [], ◌∷◌, ◌++◌, replicate}
+use Rattle.lists.specs.Names.{Name}
+use Rattle.updates.specs.declared.standing.Standing.TheVariants.{At, Struck}
+use Rattle.bundles.specs.declared.entry.Entry as Sent
+use Rattle.orderfile.specs.File.{file_of}
+use Rattle.boards.specs.Board.{board_bytes}
+use Rattle.desk.specs.Calls.{Call, Update, Query, Yield, Fork, Join, Sync, Mark, Drop, Bundle, Looks, Show, Fill, Preview, Verify, Bill, Entries, Records, Answer, plainly, reading, level, answer_on}
+use Rattle.plain.specs.Answers.{answers}
 
 -- what a call gives, the sheet apart
 abbrev pub Said : Type 0
@@ -60,20 +57,20 @@ abbrev preview : ℕ → ℕ → ℕ → Call ℕ
 preview n m bib = Looks (Preview n m bib)
 
 abbrev verify : List ℕ → Call ℕ
-verify numbers = Looks (Verify (fileOf numbers))
+verify numbers = Looks (Verify (file_of numbers))
 
 abbrev bill : Bool → Call ℕ
 bill member = Looks (Bill member)
 
 -- the calls that a board is lent to, with one of the right length
 abbrev pub yield : ℕ → Call ℕ
-yield c = Yield c boardBytes
+yield c = Yield c board_bytes
 
 abbrev pub join : ℕ → ℕ → Call ℕ
-join n m = Join n m boardBytes
+join n m = Join n m board_bytes
 
 abbrev sync : ℕ → Call ℕ
-sync m = Sync m boardBytes
+sync m = Sync m board_bytes
 
 -- the numbers of the kinds
 abbrev time : ℕ
@@ -92,18 +89,18 @@ strike = 4
 abbrev pub small : ℕ → ℕ → ℕ → List ℕ
 small kind bib v = kind ∷ 99 ∷ bib ∷ 0 ∷ v ∷ 0 ∷ 0 ∷ 0 ∷ 7 ∷ 7 ∷ 7 ∷ 7 ∷ []
 
-abbrev pub unknownBib : List ℕ
-unknownBib = time ∷ 0 ∷ 232 ∷ 3 ∷ 5 ∷ 0 ∷ 0 ∷ 0 ∷ 0 ∷ 0 ∷ 0 ∷ 0 ∷ []
+abbrev pub unknown_bib : List ℕ
+unknown_bib = time ∷ 0 ∷ 232 ∷ 3 ∷ 5 ∷ 0 ∷ 0 ∷ 0 ∷ 0 ∷ 0 ∷ 0 ∷ 0 ∷ []
 
 -- an entry of a lent list, and a bundle of records and of such entries
 abbrev pub lent : ℕ → ℕ → ℕ → Sent.Entry
 lent kind bib v = record { kind = kind; bib = bib; v = v }
 
 abbrev pub sends : ℕ → ℕ → List ℕ → Call ℕ
-sends c n bytes = Bundle c n (Records bytes) boardBytes
+sends c n bytes = Bundle c n (Records bytes) board_bytes
 
 abbrev pub lends : ℕ → ℕ → List Sent.Entry → Call ℕ
-lends c n es = Bundle c n (Entries es) boardBytes
+lends c n es = Bundle c n (Entries es) board_bytes
 
 abbrev pub edges : List Edge
 edges =
@@ -178,8 +175,8 @@ codes =
     (ok 0 ∷ ok 1 ∷ ok 1 ∷ timed 40 ∷ struck ∷ filled 4 4 ∷ ok 4 ∷ [])
     -- 14 before 2; then all checks of the first entry, 5 of it before 7, then of the next; the earliest refusal is given and nothing is taken
     ∷ edge
-    (sends 16 9 [] ∷ sends 16 9 (1 ∷ small time 7 5) ∷ sends 16 9 (small time 7 5) ∷ sends 0 9 unknownBib ∷ sends 0 0 (small time 7 5 ++ small 5 7 5 ++ small time 7 5)
-    ∷ sends 0 0 (small time 7 5 ++ unknownBib) ∷ fill 0 ∷ Query 1 0 7 ∷ sends 0 0 (unknownBib ++ small time 7 5) ∷ sends 0 0 (small time 7 5 ++ unknownBib) ∷ sends 1 0 (small time 7 5) ∷ sends 0 0 (small time 7 6) ∷ [])
+    (sends 16 9 [] ∷ sends 16 9 (1 ∷ small time 7 5) ∷ sends 16 9 (small time 7 5) ∷ sends 0 9 unknown_bib ∷ sends 0 0 (small time 7 5 ++ small 5 7 5 ++ small time 7 5)
+    ∷ sends 0 0 (small time 7 5 ++ unknown_bib) ∷ fill 0 ∷ Query 1 0 7 ∷ sends 0 0 (unknown_bib ++ small time 7 5) ∷ sends 0 0 (small time 7 5 ++ unknown_bib) ∷ sends 1 0 (small time 7 5) ∷ sends 0 0 (small time 7 6) ∷ [])
     (refusal 14 ∷ refusal 14 ∷ refusal 2 ∷ refusal 3 ∷ refusal 5
     ∷ refusal 5 ∷ filled 0 0 ∷ neither ∷ refusal 5 ∷ refusal 7 ∷ ok 0 ∷ ok 1 ∷ [])
     -- the same as a lent list of entries: of 14 only the count can apply
@@ -214,9 +211,9 @@ codes =
 abbrev forks : ℕ → List (Call ℕ)
 forks n = replicate n (Fork 0)
 
-abbrev upFrom : ℕ → ℕ → List Said
-upFrom first zero = []
-upFrom first (suc n) = ok first ∷ upFrom (suc first) n
+abbrev up_from : ℕ → ℕ → List Said
+up_from first zero = []
+up_from first (suc n) = ok first ∷ up_from (suc first) n
 
 -- 02, U7: numbers used again
 abbrev pub reused : List Edge
@@ -224,29 +221,29 @@ reused =
     -- 64 boxes are out: 10, of any box, after 3 and 7, until one is handed in
     edge
     (forks 63 ++ (Fork 0 ∷ Fork 63 ∷ Fork 64 ∷ Query 0 0 7 ∷ Fork 0 ∷ yield 0 ∷ join 0 40 ∷ Fork 0 ∷ Fork 0 ∷ []))
-    (upFrom 1 63 ++ (refusal 10 ∷ refusal 10 ∷ refusal 3 ∷ neither ∷ refusal 7 ∷ ok 0 ∷ ok 0 ∷ ok 40 ∷ refusal 10 ∷ []))
+    (up_from 1 63 ++ (refusal 10 ∷ refusal 10 ∷ refusal 3 ∷ neither ∷ refusal 7 ∷ ok 0 ∷ ok 0 ∷ ok 40 ∷ refusal 10 ∷ []))
     -- "a never-used number while there is one", although others were handed in
     ∷ edge
     (Fork 0 ∷ Fork 0 ∷ join 0 1 ∷ Fork 0 ∷ join 0 2 ∷ Fork 0 ∷ Fork 1 ∷ Fork 2 ∷ Fork 5 ∷ [])
     (ok 1 ∷ ok 2 ∷ ok 0 ∷ ok 3 ∷ ok 0 ∷ ok 4 ∷ refusal 4 ∷ refusal 4 ∷ refusal 3 ∷ [])
     -- the last of them, and then the one that waits
-    ∷ edge (forks 62 ++ (join 0 9 ∷ Fork 0 ∷ Fork 0 ∷ Fork 0 ∷ [])) (upFrom 1 62 ++ (ok 0 ∷ ok 63 ∷ ok 9 ∷ refusal 10 ∷ []))
+    ∷ edge (forks 62 ++ (join 0 9 ∷ Fork 0 ∷ Fork 0 ∷ Fork 0 ∷ [])) (up_from 1 62 ++ (ok 0 ∷ ok 63 ∷ ok 9 ∷ refusal 10 ∷ []))
     -- "else the number handed in longest ago": in the order of the hand-ins and not of the numbers, also when one is handed in again
     ∷ edge
     (forks 63 ++ (join 0 5 ∷ join 0 3 ∷ join 0 8 ∷ Fork 0 ∷ join 0 5 ∷ Fork 0 ∷ Fork 3 ∷ Fork 0 ∷ Fork 0 ∷ []))
-    (upFrom 1 63 ++ (ok 0 ∷ ok 0 ∷ ok 0 ∷ ok 5 ∷ ok 0 ∷ ok 3 ∷ ok 8 ∷ ok 5 ∷ refusal 10 ∷ []))
+    (up_from 1 63 ++ (ok 0 ∷ ok 0 ∷ ok 0 ∷ ok 5 ∷ ok 0 ∷ ok 3 ∷ ok 8 ∷ ok 5 ∷ refusal 10 ∷ []))
     -- a number handed in: 4. Used again, it means the new box, which shows what that one sees and not what the earlier bearer did; a client whose last
     -- event is there may go on only where that event is seen
     ∷ edge
     (forks 63 ++ (Update 1 5 time 7 50 ∷ yield 1 ∷ fill 5 ∷ join 0 5 ∷ Query 1 5 7 ∷ list 5 0 ∷ fill 5 ∷ Fork 5 ∷ join 0 5 ∷ join 5 4 ∷ preview 0 5 7
     ∷ Fork 63 ∷ Query 1 5 7 ∷ Query 2 5 7 ∷ yield 2 ∷ list 5 0 ∷ fill 5 ∷ Query 1 0 7 ∷ yield 1 ∷ join 0 5 ∷ join 0 63 ∷ join 0 5 ∷ [])
     )
-    (upFrom 1 63 ++ (ok 0 ∷ ok 0 ∷ filled 1 1 ∷ ok 1 ∷ refusal 4 ∷ refusal 4 ∷ refusal 4 ∷ refusal 4 ∷ refusal 4 ∷ refusal 4 ∷ refusal 4
+    (up_from 1 63 ++ (ok 0 ∷ ok 0 ∷ filled 1 1 ∷ ok 1 ∷ refusal 4 ∷ refusal 4 ∷ refusal 4 ∷ refusal 4 ∷ refusal 4 ∷ refusal 4 ∷ refusal 4
     ∷ ok 5 ∷ refusal 8 ∷ neither ∷ ok 0 ∷ ok 0 ∷ filled 0 1 ∷ timed 50 ∷ ok 0 ∷ refusal 11 ∷ ok 0 ∷ ok 0 ∷ []))
     -- the same with a new bearer that sees the event: the client goes on there, and what it enters is the new box's own
     ∷ edge
     (forks 63 ++ (Update 1 5 time 7 50 ∷ yield 1 ∷ join 0 5 ∷ Fork 0 ∷ Query 1 5 7 ∷ Update 1 5 penalty 7 5 ∷ Query 1 5 7 ∷ yield 1 ∷ fill 5 ∷ list 5 24 ∷ Query 1 0 7 ∷ join 0 5 ∷ Query 1 0 7 ∷ []))
-    (upFrom 1 63 ++ (ok 0 ∷ ok 0 ∷ ok 1 ∷ ok 5 ∷ timed 50 ∷ ok 1 ∷ timed 55 ∷ ok 0 ∷ filled 1 2 ∷ ok 2 ∷ refusal 8 ∷ ok 1 ∷ timed 55 ∷ []))
+    (up_from 1 63 ++ (ok 0 ∷ ok 0 ∷ ok 1 ∷ ok 5 ∷ timed 50 ∷ ok 1 ∷ timed 55 ∷ ok 0 ∷ filled 1 2 ∷ ok 2 ∷ refusal 8 ∷ ok 1 ∷ timed 55 ∷ []))
     -- 02, U8: a sync "on any day", of a box that another sent; no box is off the line
     ∷ edge (Fork 0 ∷ Fork 1 ∷ sync 2 ∷ sync 1 ∷ sync 2 ∷ []) (ok 1 ∷ ok 2 ∷ refusal 11 ∷ ok 3 ∷ ok 4 ∷ [])
     ∷ []
@@ -286,12 +283,12 @@ marks =
     -- "At most 64 boxes out, marked ones included": 10 before 17; drops and hand-ins wait in one order
     ∷ edge
     (forks 62 ++ (Mark 0 past ∷ Mark 0 short ∷ Fork 0 ∷ join 0 7 ∷ Drop past ∷ join 0 5 ∷ Fork 0 ∷ Mark 0 past ∷ Fork 0 ∷ Drop past ∷ Fork 0 ∷ []))
-    (upFrom 1 62 ++ (ok 63 ∷ refusal 10 ∷ refusal 10 ∷ ok 0 ∷ ok 0 ∷ ok 0 ∷ ok 7 ∷ ok 63 ∷ ok 5 ∷ ok 0 ∷ ok 63 ∷ []))
+    (up_from 1 62 ++ (ok 63 ∷ refusal 10 ∷ refusal 10 ∷ ok 0 ∷ ok 0 ∷ ok 0 ∷ ok 7 ∷ ok 63 ∷ ok 5 ∷ ok 0 ∷ ok 63 ∷ []))
     ∷ []
 
 -- 02, U8, on a single-main day
-abbrev pub onLine : List Edge
-onLine =
+abbrev pub on_line : List Edge
+on_line =
     -- 15 "for a fork of another box than 0 or a join into one", and for a preview of such a join: after 3 and 4, before 7 and 11. What was yielded on a
     -- box is there in the box that its sync sends; "join's refusals for joiner 0"
     edge
@@ -304,7 +301,7 @@ onLine =
     (Mark 1 past ∷ Mark 0 past ∷ Fork 0 ∷ Query 0 1 7 ∷ Mark 1 short ∷ Drop past ∷ yield 0 ∷ sync 1 ∷ Mark 1 past ∷ [])
     (refusal 3 ∷ refusal 15 ∷ ok 1 ∷ neither ∷ refusal 15 ∷ refusal 18 ∷ ok 0 ∷ ok 2 ∷ refusal 4 ∷ [])
     -- "sync never meets 10": with 64 boxes out it answers the number that it was given
-    ∷ edge (forks 63 ++ (Fork 0 ∷ sync 5 ∷ Fork 0 ∷ [])) (upFrom 1 63 ++ (refusal 10 ∷ ok 5 ∷ refusal 10 ∷ []))
+    ∷ edge (forks 63 ++ (Fork 0 ∷ sync 5 ∷ Fork 0 ∷ [])) (up_from 1 63 ++ (refusal 10 ∷ ok 5 ∷ refusal 10 ∷ []))
     ∷ []
 
 -- 02, U13: orders from other makers
@@ -324,7 +321,7 @@ orders =
     ∷ ok 0 ∷ ok 0 ∷ ok 1 ∷ ok 0 ∷ ok 1 ∷ [])
     -- 21: too short, an offset under 8, a length that does not fit; a gap is not looked at
     ∷ edge
-    (Looks (Verify []) ∷ Looks (Verify (replicate 8 0)) ∷ Looks (Verify (fileOf [] ++ (0 ∷ []))) ∷ Looks (Verify (0 ∷ 0 ∷ 0 ∷ 0 ∷ 9 ∷ 0 ∷ 0 ∷ 0 ∷ 7 ∷ [])) ∷ [])
+    (Looks (Verify []) ∷ Looks (Verify (replicate 8 0)) ∷ Looks (Verify (file_of [] ++ (0 ∷ []))) ∷ Looks (Verify (0 ∷ 0 ∷ 0 ∷ 0 ∷ 9 ∷ 0 ∷ 0 ∷ 0 ∷ 7 ∷ [])) ∷ [])
     (refusal 21 ∷ refusal 21 ∷ refusal 21 ∷ ok 1 ∷ [])
     -- a marked box is out, and lists 0
     ∷ edge
@@ -355,29 +352,29 @@ bills =
     -- "Eight boxes and 1,201 updates cost a member 2,878 cents; three boxes and 250 updates cost 2,000."
     edge
     (forks 7 ++ (batches 18 49 ++ (bill true ∷ bill false ∷ [])))
-    (upFrom 1 7 ++ (ok 0 ∷ ok 64 ∷ ok 128 ∷ ok 192 ∷ ok 256 ∷ ok 320 ∷ ok 384 ∷ ok 448 ∷ ok 512 ∷ ok 576 ∷ ok 640 ∷ ok 704 ∷ ok 768 ∷ ok 832 ∷ ok 896 ∷ ok 960
+    (up_from 1 7 ++ (ok 0 ∷ ok 64 ∷ ok 128 ∷ ok 192 ∷ ok 256 ∷ ok 320 ∷ ok 384 ∷ ok 448 ∷ ok 512 ∷ ok 576 ∷ ok 640 ∷ ok 704 ∷ ok 768 ∷ ok 832 ∷ ok 896 ∷ ok 960
     ∷ ok 1024 ∷ ok 1088 ∷ ok 1152 ∷ ok 2878 ∷ ok 3385 ∷ []))
-    ∷ edge (forks 2 ++ (batches 3 58 ++ (bill false ∷ bill true ∷ []))) (upFrom 1 2 ++ (ok 0 ∷ ok 64 ∷ ok 128 ∷ ok 192 ∷ ok 2000 ∷ ok 2000 ∷ []))
+    ∷ edge (forks 2 ++ (batches 3 58 ++ (bill false ∷ bill true ∷ []))) (up_from 1 2 ++ (ok 0 ∷ ok 64 ∷ ok 128 ∷ ok 192 ∷ ok 2000 ∷ ok 2000 ∷ []))
     -- never below 2,000; of six boxes 2,100, with 100 updates one hundred more, with 101 two, and the discount comes before the least
     ∷ edge
     (bill false ∷ bill true ∷ forks 5 ++ (bill false ∷ batches 1 36 ++ (bill false ∷ Update 0 0 time 7 5 ∷ bill false ∷ bill true ∷ [])))
-    (ok 2000 ∷ ok 2000 ∷ upFrom 1 5 ++ (ok 2100 ∷ ok 0 ∷ ok 64 ∷ ok 2145 ∷ ok 100 ∷ ok 2190 ∷ ok 2000 ∷ []))
+    (ok 2000 ∷ ok 2000 ∷ up_from 1 5 ++ (ok 2100 ∷ ok 0 ∷ ok 64 ∷ ok 2145 ∷ ok 100 ∷ ok 2190 ∷ ok 2000 ∷ []))
     -- of seven boxes 2,450, and a member's discount of 367.50 rounded down; a mark and a refused fork start no box, a fork of the mark and a sync do; a
     -- box handed in has been started
     ∷ edge
     (forks 6 ++ (bill false ∷ bill true ∷ Mark 0 past ∷ bill false ∷ Fork 9 ∷ bill false ∷ Fork 7 ∷ bill false ∷ sync 1 ∷ bill false ∷ sync 1 ∷ join 0 2 ∷ Drop past ∷ bill false ∷ bill true ∷ []))
-    (upFrom 1 6 ++ (ok 2450 ∷ ok 2083 ∷ ok 7 ∷ ok 2450 ∷ refusal 3 ∷ ok 2450 ∷ ok 8 ∷ ok 2800 ∷ ok 9 ∷ ok 3150 ∷ refusal 4 ∷ ok 0 ∷ ok 0 ∷ ok 3150 ∷ ok 2678 ∷ []))
+    (up_from 1 6 ++ (ok 2450 ∷ ok 2083 ∷ ok 7 ∷ ok 2450 ∷ refusal 3 ∷ ok 2450 ∷ ok 8 ∷ ok 2800 ∷ ok 9 ∷ ok 3150 ∷ refusal 4 ∷ ok 0 ∷ ok 0 ∷ ok 3150 ∷ ok 2678 ∷ []))
     ∷ []
 
 abbrev pub said : {S : Type 0} → List (Answer S) → List Said
 said [] = []
-said (a ∷ more) = answerOn (λ s. tt) a ∷ said more
+said (a ∷ more) = answer_on (λ s. tt) a ∷ said more
 
 abbrev pub expected : List Edge → List (List Said)
 expected [] = []
-expected (e ∷ es) = e .says ∷ expected es
+expected (e ∷ es) = e.says ∷ expected es
 
 -- on days of either choice
 abbrev pub computed : Bool → List Edge → List (List Said)
 computed single [] = []
-computed single (e ∷ es) = said (answers single (e .calls)) ∷ computed single es
+computed single (e ∷ es) = said (answers single e.calls) ∷ computed single es

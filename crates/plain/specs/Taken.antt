@@ -1,54 +1,50 @@
 -- The calls that are taken, as steps of the day of revisions.
-use Prim.Native.Nat.{ℕ}
-use mathlib.Core.Bool.{Bool, cond, false, true}
-use mathlib.Core.Path.{_≡_}
-use mathlib.Core.Option.{none, some}
-use mathlib.Core.List.{List, [], _∷_, _++_}
-use lib.Dec.{eqb}
-use Rattle·bundles.specs.declared.entry.Entry.{Entry}
-use Rattle·desk.specs.Calls.{Call, Update, Query, Yield, Fork, Join, Sync, Mark, Drop, Bundle, Looks, entriesOf}
-use Rattle·diagram.specs.Day.{Day, markNamed, meant}
-use Rattle·diagram.specs.Steps as Steps
-use Rattle·diagram.specs.Steps.{Step, Event}
-use Rattle·plain·specs.specs.Record.{PlainDay, freshDay}
-use Rattle·plain·specs.specs.Answers.{called, dayAfter}
+use Rattle.std.specs.Prelude.{ℕ, Bool, cond, false, true, ◌≡◌, List, [], ◌∷◌, ◌++◌, eqb}
+use Rattle.std.proofs.Math.Option.{none, some}
+use Rattle.bundles.specs.declared.entry.Entry.{Entry}
+use Rattle.desk.specs.Calls.{Call, Update, Query, Yield, Fork, Join, Sync, Mark, Drop, Bundle, Looks, entries_of}
+use Rattle.diagram.specs.Day.{Day, mark_named, meant}
+use Rattle.diagram.specs.Steps as Steps
+use Rattle.diagram.specs.Steps.{Step, Event}
+use Rattle.plain.specs.Record.{PlainDay, fresh_day}
+use Rattle.plain.specs.Answers.{called, day_after}
 
 -- 02, U4: a bundle is its updates and a yield
-abbrev pub bundleSteps : ℕ → ℕ → List Entry → List Step
-bundleSteps c r [] = Steps.Yield c ∷ []
-bundleSteps c r (e ∷ es) = Event c r true ∷ bundleSteps c r es
+abbrev pub bundle_steps : ℕ → ℕ → List Entry → List Step
+bundle_steps c r [] = Steps.Yield c ∷ []
+bundle_steps c r (e ∷ es) = Event c r true ∷ bundle_steps c r es
 
 -- the steps that a call is
-abbrev pub stepOf : PlainDay → Call ℕ → List Step
-stepOf p (Update c n k bib v) = Event c (meant (p .day) n) true ∷ []
-stepOf p (Query c n bib) = Event c (meant (p .day) n) false ∷ []
-stepOf p (Yield c room) = Steps.Yield c ∷ []
-stepOf p (Fork n) = Steps.Fork (meant (p .day) n) none ∷ []
-stepOf p (Join n m room) = Steps.Join (meant (p .day) n) (meant (p .day) m) ∷ []
+abbrev pub step_of : PlainDay → Call ℕ → List Step
+step_of p (Update c n k bib v) = Event c (meant p.day n) true ∷ []
+step_of p (Query c n bib) = Event c (meant p.day n) false ∷ []
+step_of p (Yield c room) = Steps.Yield c ∷ []
+step_of p (Fork n) = Steps.Fork (meant p.day n) none ∷ []
+step_of p (Join n m room) = Steps.Join (meant p.day n) (meant p.day m) ∷ []
 -- 02, U8: a sync is a join and a fork
-stepOf p (Sync m room) = Steps.Join (meant (p .day) 0) (meant (p .day) m) ∷ Steps.Fork (meant (p .day) 0) none ∷ []
+step_of p (Sync m room) = Steps.Join (meant p.day 0) (meant p.day m) ∷ Steps.Fork (meant p.day 0) none ∷ []
 -- 02, U9: a mark is a fork with a name
-stepOf p (Mark n name) = Steps.Fork (meant (p .day) n) (some name) ∷ []
-stepOf p (Drop name) = Steps.Drop (markNamed (p .day) name) ∷ []
-stepOf p (Bundle c n batch room) = bundleSteps c (meant (p .day) n) (entriesOf batch)
-stepOf p (Looks l) = []
+step_of p (Mark n name) = Steps.Fork (meant p.day n) (some name) ∷ []
+step_of p (Drop name) = Steps.Drop (mark_named p.day name) ∷ []
+step_of p (Bundle c n batch room) = bundle_steps c (meant p.day n) (entries_of batch)
+step_of p (Looks l) = []
 
 -- a call that was refused is none
-abbrev pub stepsOf : PlainDay → Call ℕ → List Step
-stepsOf p c = cond (eqb (called p c .answer .code) 0) (stepOf p c) []
+abbrev pub steps_of : PlainDay → Call ℕ → List Step
+steps_of p c = cond (eqb (called p c).answer.code 0) (step_of p c) []
 
-unfoldable pub stepsFrom : PlainDay → List (Call ℕ) → List Step
-stepsFrom p [] = []
-stepsFrom p (c ∷ cs) = stepsOf p c ++ stepsFrom (called p c .next) cs
+unfoldable pub steps_from : PlainDay → List (Call ℕ) → List Step
+steps_from p [] = []
+steps_from p (c ∷ cs) = steps_of p c ++ steps_from (called p c).next cs
 
-abbrev pub stepsAfter : Bool → List (Call ℕ) → List Step
-stepsAfter single cs = stepsFrom (freshDay single) cs
+abbrev pub steps_after : Bool → List (Call ℕ) → List Step
+steps_after single cs = steps_from (fresh_day single) cs
 
 -- the day of revisions after a list of calls
-abbrev pub endOf : Bool → List (Call ℕ) → Day
-endOf single cs = dayAfter single cs .day
+abbrev pub end_of : Bool → List (Call ℕ) → Day
+end_of single cs = (day_after single cs).day
 
 -- call c, taken between `before` and `rest`
 pub record Taken (single : Bool) (cs before : List (Call ℕ)) (c : Call ℕ) (rest : List (Call ℕ)) : Type 0 where
   pub place : cs ≡ before ++ (c ∷ rest)
-  pub code : called (dayAfter single before) c .answer .code ≡ 0
+  pub code : (called (day_after single before) c).answer.code ≡ 0

@@ -1,17 +1,15 @@
 // The updates brought to the main revision's settled ones, found along the links and posted in listed order. The cost is in proportion to
 // them: no earlier update is looked at, and no other entry of the board.
-ghost use mathlib.Core.Path.{_≡_};
-ghost use mathlib.Core.Bool.{true};
-ghost use Prim.Native.Nat.{_≤_, _<_};
-ghost use lib.ListN.{length, take};
-ghost use Rattle·cells.specs.Sizes.{lowerBytes, main, updates};
-ghost use Rattle·cells.specs.Cells.{Settles, chain, settledSince};
-ghost use Rattle·cells.specs.Decode.{cells};
-ghost use Rattle·cells.specs.Range.{inRange};
-ghost use Rattle·entries.specs.Sizes.{entryBytes};
-ghost use Rattle·entries.specs.Entries.{entryAt};
-ghost use Rattle·boards.specs.Board.{boardBytes};
-ghost use Rattle·posting·specs.specs.Brought.{entriesPosted, entryPosted};
+ghost use Rattle.std.specs.Prelude.{◌≡◌, true, ◌≤◌, ◌<◌, length, take};
+ghost use Rattle.cells.specs.Sizes.{lower_bytes, main, updates};
+ghost use Rattle.cells.specs.Cells.{Settles, chain, settled_since};
+ghost use Rattle.cells.specs.Decode.{cells};
+ghost use Rattle.cells.specs.Range.{in_range};
+ghost use Rattle.entries.specs.Sizes.{entry_bytes};
+ghost use Rattle.entries.specs.Entries.{entry_at};
+ghost use Rattle.boards.specs.Board.{board_bytes};
+ghost use Rattle.posting.specs.Brought.{entries_posted, entry_posted};
+
 use boards::post::post;
 use fields::read;
 use order::links;
@@ -19,8 +17,8 @@ use sizes::numbers::Revision;
 
 // Entry n.
 fn post_entry(t: &[u8], n: u16, board: &mut [u8])
-    requires { ⌜ (length (now t) ≡ entryBytes) × (length (now board) ≡ boardBytes) ⌝ }
-    ensures { λ _. ⌜ now (board .exit) ≡ entryPosted (now (t .entry)) n (now (board .entry)) ⌝ }
+    requires { (length t.now ≡ entry_bytes) × (length board.old ≡ board_bytes) }
+    ensures { board.new ≡ entry_posted t.now n board.old }
 {
     let e = entries::read::read(t, n);
     let kind = e.kind;
@@ -29,8 +27,8 @@ fn post_entry(t: &[u8], n: u16, board: &mut [u8])
 
 // The entries of the first `count` numbers of `order`.
 fn post_all(t: &[u8], order: &[u16], count: usize, board: &mut [u8])
-    requires { ⌜ (length (now t) ≡ entryBytes) × (count ≤ length (now order)) × (length (now board) ≡ boardBytes) ⌝ }
-    ensures { λ _. ⌜ now (board .exit) ≡ entriesPosted (now (t .entry)) (take count (now (order .entry))) (now (board .entry)) ⌝ }
+    requires { (length t.now ≡ entry_bytes) × (count ≤ length order.now) × (length board.old ≡ board_bytes) }
+    ensures { board.new ≡ entries_posted t.now (take count order.now) board.old }
 {
     let mut i: usize = 0;
     while i < count {
@@ -41,8 +39,8 @@ fn post_all(t: &[u8], order: &[u16], count: usize, board: &mut [u8])
 
 // The last n of the main revision's own updates, with room for n numbers.
 fn post_last(d: &[u8], t: &[u8], n: usize, room: &mut [u16], board: &mut [u8])
-    requires { ⌜ (length (now d) ≡ lowerBytes) × (inRange (now d) ≡ true) × (length (now t) ≡ entryBytes) × (n ≤ length (now room)) × (length (now board) ≡ boardBytes) ⌝ }
-    ensures { λ _. ⌜ now (board .exit) ≡ entriesPosted (now (t .entry)) (chain (cells (now (d .entry)) .link) (cells (now (d .entry)) .last main) n) (now (board .entry)) ⌝ }
+    requires { (length d.now ≡ lower_bytes) × (in_range d.now ≡ true) × (length t.now ≡ entry_bytes) × (n ≤ length room.old) × (length board.old ≡ board_bytes) }
+    ensures { board.new ≡ entries_posted t.now (chain (cells d.now).link ((cells d.now).last main) n) board.old }
 {
     let at = read::last(d, Revision::main());
     links::gather(d, at, n, room);
@@ -54,8 +52,8 @@ const FEW: usize = 64;
 
 // What was brought since `before` of the main revision's updates were settled. d and t are the halves of the table.
 pub fn post_brought(d: &[u8], t: &[u8], before: usize, board: &mut [u8])
-    requires { ⌜ (length (now d) ≡ lowerBytes) × (inRange (now d) ≡ true) × Settles before (cells (now d)) × (length (now t) ≡ entryBytes) × (length (now board) ≡ boardBytes) ⌝ }
-    ensures { λ _. ⌜ now (board .exit) ≡ entriesPosted (now (t .entry)) (settledSince before (cells (now (d .entry)))) (now (board .entry)) ⌝ }
+    requires { (length d.now ≡ lower_bytes) × (in_range d.now ≡ true) × Settles before (cells d.now) × (length t.now ≡ entry_bytes) × (length board.old ≡ board_bytes) }
+    ensures { board.new ≡ entries_posted t.now (settled_since before (cells d.now)) board.old }
 {
     let settled = read::settled(d);
     if settled <= before {

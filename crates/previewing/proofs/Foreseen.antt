@@ -1,48 +1,48 @@
 -- A preview from what its checks find, and its end on the joined copy.
 use Prim.Native.Nat.{ℕ}
 use mathlib.Core.Bool.{true, false}
-use mathlib.Core.Path.{_≡_}
-use mathlib.Core.List.{List, _++_}
+use mathlib.Core.Path.{◌≡◌}
+use mathlib.Core.List.{List, ◌++◌}
 use lib.ListN.{length}
-use Rattle·updates.specs.Effect.{stateOf, valueIn}
-use Rattle·updates.specs.declared.standing.Standing.{Standing}
-use Rattle·cells.specs.Sizes as Lower
-use Rattle·cells.specs.Decode.{cells}
-use Rattle·cells.specs.Order.{order}
-use Rattle·cells.specs.Steps.{joinBytes}
-use Rattle·entries.specs.Entries.{entryAt}
-use Rattle·entries.specs.Folded.{standingOf}
-use Rattle·table.specs.Halves.{low, high, cellsOf, isTable}
-use Rattle·table.specs.Calls.{foreseen, joinOut, noProspect, previewOut, standingAt}
-use Rattle·table.specs.Found.{onPair}
-use Rattle·table.specs.Checks.{joinCheck}
-use Rattle·table.specs.declared.answer.Prospect.{Prospect}
-use Rattle·table.specs.declared.answer.Reading.{Reading}
-use Rattle·table.specs.declared.pair.PairCheck.{PairCheck}
-use Rattle·table.proofs.Halves.{high-of, low-of}
-use Rattle·table.proofs.Calls.{given-is, pair-cond, either}
-use Rattle·previewing·specs.specs.Checks.{previewCheck}
+use Rattle.updates.specs.Effect.{state_of, value_in}
+use Rattle.updates.specs.declared.standing.Standing.{Standing}
+use Rattle.cells.specs.Sizes as Lower
+use Rattle.cells.specs.Decode.{cells}
+use Rattle.cells.specs.Order.{order}
+use Rattle.cells.specs.Steps.{join_bytes}
+use Rattle.entries.specs.Entries.{entry_at}
+use Rattle.entries.specs.Folded.{standing_of}
+use Rattle.table.specs.Halves.{low, high, cells_of, is_table}
+use Rattle.table.specs.Calls.{foreseen, join_out, no_prospect, preview_out, standing_at}
+use Rattle.table.specs.Found.{on_pair}
+use Rattle.table.specs.Checks.{join_check}
+use Rattle.table.specs.declared.answer.Prospect.{Prospect}
+use Rattle.table.specs.declared.answer.Reading.{Reading}
+use Rattle.table.specs.declared.pair.PairCheck.{PairCheck}
+use Rattle.table.proofs.Halves.{high_of, low_of}
+use Rattle.table.proofs.Calls.{given_is, pair_cond, either}
+use Rattle.previewing.specs.Checks.{preview_check}
 
 -- a copy with lower half d and upper half h
-module _ (d h : List ℕ) (e : length d ≡ Lower.lowerBytes) where
-  copy-standing : (r bib : ℕ) → standingAt (d ++ h) r bib ≡ standingOf (entryAt h) bib (order (cells d) r)
-  unfolding standingAt
-  copy-standing r bib = rw (low-of d h e, high-of d h e)
+module _ (d h : List ℕ) (e : length d ≡ Lower.lower_bytes) where
+  copy-standing : (r bib : ℕ) → standing_at (d ++ h) r bib ≡ standing_of (entry_at h) bib (order (cells d) r)
+  unfolding standing_at
+  copy-standing r bib = rw (low_of d h e, high_of d h e)
 
   -- the bib stands as s there
-  pub seen : (r bib gain : ℕ) {s : Standing} {a : Reading} → a ≡ record { code = 0; state = stateOf s; value = valueIn s } → s ≡ standingOf (entryAt h) bib (order (cells d) r)
-      → _≡_ {A = Prospect} (record { code = 0; state = a .state; value = a .value; gain = gain }) (foreseen (standingAt (d ++ h) r bib) gain)
+  pub seen : (r bib gain : ℕ) {s : Standing} {a : Reading} → a ≡ record { code = 0; state = state_of s; value = value_in s } → s ≡ standing_of (entry_at h) bib (order (cells d) r)
+      → ◌≡◌ {A = Prospect} (record { code = 0; state = a.state; value = a.value; gain = gain }) (foreseen (standing_at (d ++ h) r bib) gain)
   seen r bib gain ea es = rw (copy-standing r bib, ea, es)
 
 -- the call on bytes that are no table
-pub no-preview : (t : List ℕ) → isTable t ≡ false → (n m bib : ℕ) → noProspect 1 ≡ previewOut t n m bib
-unfolding previewOut joinOut
-no-preview t h n m bib = rw h
+pub no_preview : (t : List ℕ) → is_table t ≡ false → (n m bib : ℕ) → no_prospect 1 ≡ preview_out t n m bib
+unfolding preview_out join_out
+no_preview t h n m bib = rw h
 
 module _ (t : List ℕ) (n m : ℕ) where
   module _ (bib : ℕ) where
     -- the call on a table, from what its checks find
-    pub preview-by : isTable t ≡ true → (z : PairCheck) → previewCheck (low t) n m bib ≡ z
-        → onPair z noProspect (λ a b. foreseen (standingAt (joinBytes (low t) (a .0) (b .0) ++ high t) (a .0) bib) (cellsOf t .count (b .0))) ≡ previewOut t n m bib
-    unfolding previewCheck joinCheck previewOut onPair
-    preview-by h z e = rw (← e) (simp (given-is, pair-cond, either, h))
+    pub preview-by : is_table t ≡ true → (z : PairCheck) → preview_check (low t) n m bib ≡ z
+        → on_pair z no_prospect (λ a b. foreseen (standing_at (join_bytes (low t) a.0 b.0 ++ high t) a.0 bib) ((cells_of t).count b.0)) ≡ preview_out t n m bib
+    unfolding preview_check join_check preview_out on_pair
+    preview-by h z e = rw (← e) (simp (given_is, pair_cond, either, h))

@@ -1,7 +1,6 @@
 -- 01's example day as a day file, "offset 8, written as tablet/box", and the text that it prints as.
-use Prim.Native.Nat.{ℕ}
-use mathlib.Core.List.{List, [], _∷_}
-use Rattle·text.specs.Placed.{ascii}
+use Rattle.std.specs.Prelude.{ℕ, List, [], ◌∷◌}
+use Rattle.text.specs.Placed.{ascii}
 
 -- 12 steps, offset 8
 unfoldable pub crossing : List ℕ

@@ -1,33 +1,28 @@
 // The walk back along the order of a revision, for one bib: the bib's updates are kept, up to the first whose effect is absolute,
 // since none before it counts.
-ghost use mathlib.Core.Path.{_≡_};
-ghost use mathlib.Core.Bool.{true};
-ghost use mathlib.Core.List.{[], _++_};
-ghost use Prim.Native.Nat.{_+_, _<_, _≤_};
-ghost use lib.ListN.{drop, length};
-ghost use Rattle·cells.specs.Sizes.{lowerBytes, revisions, updates};
-ghost use Rattle·cells.specs.Cells.{flagged, outs, own};
-ghost use Rattle·cells.specs.Decode.{cells};
-ghost use Rattle·cells.specs.Order.{inherited, picks};
-ghost use Rattle·cells.specs.Range.{inRange};
-ghost use Rattle·lists.specs.Arranged.{flatBack};
-ghost use Rattle·order.specs.Added.{offered};
-ghost use Rattle·order.specs.Counts.{counts};
-ghost use Rattle·entries.specs.Sizes.{entryBytes};
-ghost use Rattle·entries.specs.Entries.{entryAt};
-ghost use Rattle·entries.specs.Folded.{standingOf};
-ghost use Rattle·entries.specs.Walked.{StandsFor, Walked};
-ghost use Rattle·querying·specs.specs.Left.{left};
-use entries::kept::Kept;
-use entries::kept::keep;
+ghost use Rattle.std.specs.Prelude.{◌≡◌, true, [], ◌++◌, ◌+◌, ◌<◌, ◌≤◌, drop, length};
+ghost use Rattle.cells.specs.Sizes.{lower_bytes, revisions, updates};
+ghost use Rattle.cells.specs.Cells.{flagged, outs, own};
+ghost use Rattle.cells.specs.Decode.{cells};
+ghost use Rattle.cells.specs.Order.{inherited, picks};
+ghost use Rattle.cells.specs.Range.{in_range};
+ghost use Rattle.lists.specs.Arranged.{flat_back};
+ghost use Rattle.order.specs.Added.{offered};
+ghost use Rattle.order.specs.Counts.{counts};
+ghost use Rattle.entries.specs.Sizes.{entry_bytes};
+ghost use Rattle.entries.specs.Entries.{entry_at};
+ghost use Rattle.entries.specs.Folded.{standing_of};
+ghost use Rattle.entries.specs.Walked.{StandsFor, Walked};
+ghost use Rattle.querying.specs.Left.{left};
+
+use entries::kept::{Kept, keep};
 use fields::read;
-use order::visible::at_place;
-use order::visible::base_in;
-use order::visible::wanted;
+use order::visible::{at_place, base_in, wanted};
 use sizes::numbers::Revision;
 use sizes::table::Table;
 
 // What is sought in a list: updates of the bib, among those that r sees, the first `base` of the list and those flagged.
+#[derive(Clone, Copy)]
 struct Sought {
     r: Revision,
     base: usize,
@@ -35,6 +30,7 @@ struct Sought {
 }
 
 // A walk on its way: so many updates of a list are left, which end at `at`; the numbers kept stand from `from` on.
+#[derive(Clone, Copy)]
 struct Rest {
     at: usize,
     left: usize,
@@ -44,8 +40,8 @@ struct Rest {
 
 // Update u, at place i of a list, goes in front of those kept, if it is sought.
 fn look(d: &[u8], h: &[u8], s: Sought, i: usize, u: usize, out: &mut [u16], from: usize) -> Kept
-    requires { ⌜ (length (now d) ≡ lowerBytes) × (length (now h) ≡ entryBytes) × (s .r .0 < revisions) × (u < updates) × (0 < from) × (from ≤ length (now out)) ⌝ }
-    ensures { λ k. ⌜ Walked (entryAt (now (h .entry))) (s .bib) 1 (offered (s .base) (flagged (cells (now (d .entry))) (s .r .0)) i u) (now (out .entry)) from (now (out .exit)) k ⌝ }
+    requires { (length d.now ≡ lower_bytes) × (length h.now ≡ entry_bytes) × (s.r.0 < revisions) × (u < updates) × (0 < from) × (from ≤ length out.old) }
+    ensures { Walked (entry_at h.now) s.bib 1 (offered s.base (flagged (cells d.now) s.r.0) i u) out.old from out.new result }
 {
     if wanted(d, s.r, s.base, i, u) {
         return keep(h, u as u16, s.bib, out, from);
@@ -55,9 +51,9 @@ fn look(d: &[u8], h: &[u8], s: Sought, i: usize, u: usize, out: &mut [u16], from
 
 // A run of the walk: while each link leads to the next lower number the code goes on with that number, and need not wait for the link.
 fn run(d: &[u8], h: &[u8], s: Sought, at: usize, n: usize, out: &mut [u16], from: usize) -> Rest
-    requires { ⌜ (length (now d) ≡ lowerBytes) × (length (now h) ≡ entryBytes) × (s .r .0 < revisions) × (at < updates) × (0 < n) × (n ≤ from) × (from ≤ length (now out)) ⌝ }
-    ensures { λ w. ⌜ (w .at < updates) × (w .left < n) × (w .from ≤ from) × (from + w .left ≤ w .from + n)
-        × StandsFor (entryAt (now (h .entry))) (s .bib) (w .done) (left (now (d .entry)) (s .r .0) (s .base) (w .at) (w .left)) (drop (w .from) (now (out .exit))) (left (now (d .entry)) (s .r .0) (s .base) at n ++ drop from (now (out .entry))) ⌝ }
+    requires { (length d.now ≡ lower_bytes) × (length h.now ≡ entry_bytes) × (s.r.0 < revisions) × (at < updates) × (0 < n) × (n ≤ from) × (from ≤ length out.old) }
+    ensures { (result.at < updates) × (result.left < n) × (result.from ≤ from) × (from + result.left ≤ result.from + n)
+        × StandsFor (entry_at h.now) s.bib result.done (left d.now s.r.0 s.base result.at result.left) (drop result.from out.new) (left d.now s.r.0 s.base at n ++ drop from out.old) }
 {
     let mut u = at;
     let mut i = n;
@@ -95,8 +91,8 @@ fn run(d: &[u8], h: &[u8], s: Sought, at: usize, n: usize, out: &mut [u16], from
 
 // The own list of x, run by run.
 fn walk_list(d: &[u8], h: &[u8], s: Sought, x: Revision, out: &mut [u16], from: usize) -> Kept
-    requires { ⌜ (length (now d) ≡ lowerBytes) × (inRange (now d) ≡ true) × (length (now h) ≡ entryBytes) × (s .r .0 < revisions) × (x .0 < revisions) × (cells (now d) .count (x .0) ≤ from) × (from ≤ length (now out)) ⌝ }
-    ensures { λ k. ⌜ Walked (entryAt (now (h .entry))) (s .bib) (cells (now (d .entry)) .count (x .0)) (picks (s .base) (flagged (cells (now (d .entry))) (s .r .0)) (own (cells (now (d .entry))) (x .0))) (now (out .entry)) from (now (out .exit)) k ⌝ }
+    requires { (length d.now ≡ lower_bytes) × (in_range d.now ≡ true) × (length h.now ≡ entry_bytes) × (s.r.0 < revisions) × (x.0 < revisions) × ((cells d.now).count x.0 ≤ from) × (from ≤ length out.old) }
+    ensures { Walked (entry_at h.now) s.bib ((cells d.now).count x.0) (picks s.base (flagged (cells d.now) s.r.0) (own (cells d.now) x.0)) out.old from out.new result }
 {
     let mut u = read::last(d, x);
     let mut i = read::count(d, x);
@@ -129,8 +125,8 @@ fn walk_behind(
     out: &mut [u16],
     from: usize,
 ) -> Kept
-    requires { ⌜ (length (now d) ≡ lowerBytes) × (inRange (now d) ≡ true) × (length (now h) ≡ entryBytes) × (r .0 < revisions) × (j ≤ revisions) × (counts (cells (now d)) (drop (j + 1) (outs (cells (now d)))) ≤ from) × (from ≤ length (now out)) ⌝ }
-    ensures { λ k. ⌜ Walked (entryAt (now (h .entry))) bib (counts (cells (now (d .entry))) (drop (j + 1) (outs (cells (now (d .entry)))))) (flatBack (inherited (cells (now (d .entry))) (r .0)) (drop (j + 1) (outs (cells (now (d .entry)))))) (now (out .entry)) from (now (out .exit)) k ⌝ }
+    requires { (length d.now ≡ lower_bytes) × (in_range d.now ≡ true) × (length h.now ≡ entry_bytes) × (r.0 < revisions) × (j ≤ revisions) × (counts (cells d.now) (drop (j + 1) (outs (cells d.now))) ≤ from) × (from ≤ length out.old) }
+    ensures { Walked (entry_at h.now) bib (counts (cells d.now) (drop (j + 1) (outs (cells d.now)))) (flat_back (inherited (cells d.now) r.0) (drop (j + 1) (outs (cells d.now)))) out.old from out.new result }
 {
     let n = read::out(d);
     let mut i = j + 1;
@@ -156,8 +152,8 @@ fn walk_behind(
 
 // The order of r, which stands in place j: its own list, then what it inherited. The numbers kept stand from the answer on.
 pub fn walk(d: &[u8], h: &[u8], r: Revision, j: usize, bib: u16, out: &mut [u16]) -> usize
-    requires { ⌜ (length (now d) ≡ lowerBytes) × (inRange (now d) ≡ true) × (length (now h) ≡ entryBytes) × (r .0 < revisions) × (j ≤ revisions) × (counts (cells (now d)) (drop (j + 1) (outs (cells (now d)))) + cells (now d) .count (r .0) ≤ updates) × (length (now out) ≡ updates) ⌝ }
-    ensures { λ p. ⌜ (p ≤ updates) × (standingOf (entryAt (now (h .entry))) bib (drop p (now (out .exit))) ≡ standingOf (entryAt (now (h .entry))) bib (flatBack (inherited (cells (now (d .entry))) (r .0)) (drop (j + 1) (outs (cells (now (d .entry))))) ++ own (cells (now (d .entry))) (r .0))) ⌝ }
+    requires { (length d.now ≡ lower_bytes) × (in_range d.now ≡ true) × (length h.now ≡ entry_bytes) × (r.0 < revisions) × (j ≤ revisions) × (counts (cells d.now) (drop (j + 1) (outs (cells d.now))) + (cells d.now).count r.0 ≤ updates) × (length out.old ≡ updates) }
+    ensures { (result ≤ updates) × (standing_of (entry_at h.now) bib (drop result out.new) ≡ standing_of (entry_at h.now) bib (flat_back (inherited (cells d.now) r.0) (drop (j + 1) (outs (cells d.now))) ++ own (cells d.now) r.0)) }
 {
     let base = read::count(d, r);
     let k = walk_list(d, h, Sought { r, base, bib }, r, out, Table::UPDATES);

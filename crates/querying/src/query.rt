@@ -1,41 +1,28 @@
 // The call query: a bib's state and value at a revision.
-ghost use mathlib.Core.Bool.{true};
-ghost use mathlib.Core.List.{_++_};
-ghost use mathlib.Core.Path.{_≡_};
-ghost use Prim.Native.Nat.{_<_};
-ghost use lib.ListN.{length};
-ghost use Rattle·cells.specs.Sizes as Lower;
-ghost use Rattle·cells.specs.Sizes.{clients, revisions};
-ghost use Rattle·cells.specs.Range.{inRange};
-ghost use Rattle·cells.specs.Steps.{queryBytes};
-ghost use Rattle·table.specs.Halves.{high, isTable, low};
-ghost use Rattle·table.specs.Out.{tableBytes};
-ghost use Rattle·table.specs.Answers.{leftRead};
-ghost use Rattle·table.specs.Calls.{queryOut};
-ghost use Rattle·table.specs.Checks.{eventIn};
-ghost use Rattle·querying·specs.specs.Checks.{queryCheck};
-use crate::standing::standing_at;
-use crate::standing::tell;
-use checks::busy::UseCheck;
-use checks::busy::check_use_by_other;
-use checks::client::ClientCheck;
-use checks::client::check_client;
-use checks::given::GivenCheck;
-use checks::given::check_given;
-use checks::joined::JoinedCheck;
-use checks::joined::check_joined;
-use checks::marked::MarkedCheck;
-use checks::marked::check_marked;
-use checks::open::OpenCheck;
-use checks::open::check_open;
-use checks::stale::StaleCheck;
-use checks::stale::check_stale;
-use sizes::numbers::Client;
-use sizes::numbers::Revision;
+ghost use Rattle.std.specs.Prelude.{true, ◌++◌, ◌≡◌, ◌<◌, length};
+ghost use Rattle.cells.specs.Sizes as Lower;
+ghost use Rattle.cells.specs.Sizes.{clients, revisions};
+ghost use Rattle.cells.specs.Range.{in_range};
+ghost use Rattle.cells.specs.Steps.{query_bytes};
+ghost use Rattle.table.specs.Halves.{high, is_table, low};
+ghost use Rattle.table.specs.Out.{table_bytes};
+ghost use Rattle.table.specs.Answers.{left_read};
+ghost use Rattle.table.specs.Calls.{query_out};
+ghost use Rattle.table.specs.Checks.{EventIn};
+ghost use Rattle.querying.specs.Checks.{query_check};
+
+use crate::standing::{standing_at, tell};
+use checks::busy::{UseCheck, check_use_by_other};
+use checks::client::{ClientCheck, check_client};
+use checks::given::{GivenCheck, check_given};
+use checks::joined::{JoinedCheck, check_joined};
+use checks::marked::{MarkedCheck, check_marked};
+use checks::open::{OpenCheck, check_open};
+use checks::stale::{StaleCheck, check_stale};
+use sizes::numbers::{Client, Revision};
 use sizes::table::Table;
 use table::answer::Reading;
-use table::bib::BibCheck;
-use table::bib::check_bib;
+use table::bib::{BibCheck, check_bib};
 use table::event::EventCheck;
 use table::sound;
 use table::sound::TableCheck;
@@ -43,16 +30,16 @@ use updates::standing::State;
 
 // The query is r's last event, and opens or continues its client's transaction.
 fn record(t: &mut [u8], c: Client, r: Revision)
-    requires { ⌜ (length (now t) ≡ tableBytes) × (c .0 < clients) × (r .0 < revisions) ⌝ }
-    ensures { λ _. ⌜ now (t .exit) ≡ queryBytes (low (now (t .entry))) (c .0) (r .0) ++ high (now (t .entry)) ⌝ }
+    requires { (length t.old ≡ table_bytes) × (c.0 < clients) × (r.0 < revisions) }
+    ensures { t.new ≡ query_bytes (low t.old) c.0 r.0 ++ high t.old }
 {
     events::record::query(&mut t[0..Table::LOWER], c, r);
 }
 
 // Checks 2 to 8, and 16 after 4, on the lower half.
 fn check_lower(d: &[u8], client: u8, revision: u8, bib: u16) -> EventCheck
-    requires { ⌜ length (now d) ≡ Lower.lowerBytes ⌝ }
-    ensures { λ a. ⌜ (a ≡ queryCheck (now (d .entry)) client revision bib) × eventIn a ⌝ }
+    requires { length d.now ≡ Lower.lower_bytes }
+    ensures { (result ≡ query_check d.now client revision bib) × EventIn result }
 {
     let ClientCheck::Known(c) = check_client(client) else {
         return EventCheck::Refused(2);
@@ -83,16 +70,16 @@ fn check_lower(d: &[u8], client: u8, revision: u8, bib: u16) -> EventCheck
 
 // The same of a whole table.
 fn check_query(t: &[u8], client: u8, revision: u8, bib: u16) -> EventCheck
-    requires { ⌜ length (now t) ≡ tableBytes ⌝ }
-    ensures { λ a. ⌜ (a ≡ queryCheck (low (now (t .entry))) client revision bib) × eventIn a ⌝ }
+    requires { length t.now ≡ table_bytes }
+    ensures { (result ≡ query_check (low t.now) client revision bib) × EventIn result }
 {
     check_lower(&t[0..Table::LOWER], client, revision, bib)
 }
 
 // The call on bytes that are a table.
 fn query_sound(t: &mut [u8], client: u8, revision: u8, bib: u16) -> Reading
-    requires { ⌜ (isTable (now t) ≡ true) × (length (now t) ≡ tableBytes) × (inRange (low (now t)) ≡ true) ⌝ }
-    ensures { λ a. ⌜ leftRead a (now (t .exit)) ≡ queryOut (now (t .entry)) client revision bib ⌝ }
+    requires { (is_table t.old ≡ true) × (length t.old ≡ table_bytes) × (in_range (low t.old) ≡ true) }
+    ensures { left_read result t.new ≡ query_out t.old client revision bib }
 {
     let found = check_query(t, client, revision, bib);
     let EventCheck::Allowed(c, r) = found else {
@@ -108,7 +95,7 @@ fn query_sound(t: &mut [u8], client: u8, revision: u8, bib: u16) -> Reading
 }
 
 pub fn query(t: &mut [u8], client: u8, revision: u8, bib: u16) -> Reading
-    ensures { λ a. ⌜ leftRead a (now (t .exit)) ≡ queryOut (now (t .entry)) client revision bib ⌝ }
+    ensures { left_read result t.new ≡ query_out t.old client revision bib }
 {
     let TableCheck::Sound = sound::check_table(t) else {
         return Reading {

@@ -1,34 +1,31 @@
 // The standing of a bib, from the entries of a whole table, and what is told of it: for query and preview.
-ghost use mathlib.Core.Bool.{true};
-ghost use mathlib.Core.Path.{_≡_};
-ghost use Prim.Native.Nat.{_+_, _<_, _≤_};
-ghost use lib.ListN.{drop, length};
-ghost use Rattle·lists.specs.Arranged.{behind};
-ghost use Rattle·cells.specs.Sizes.{lowerBytes, revisions, updates};
-ghost use Rattle·cells.specs.Cells.{outs};
-ghost use Rattle·cells.specs.Decode.{cells};
-ghost use Rattle·cells.specs.Order.{order};
-ghost use Rattle·cells.specs.Range.{inRange};
-ghost use Rattle·order.specs.Counts.{counts};
-ghost use Rattle·updates.specs.Effect.{stateOf, valueIn};
-ghost use Rattle·entries.specs.Sizes.{entryBytes};
-ghost use Rattle·entries.specs.Entries.{entryAt};
-ghost use Rattle·entries.specs.Folded.{standingOf};
-ghost use Rattle·table.specs.Halves.{low};
-ghost use Rattle·table.specs.Out.{tableBytes};
-ghost use Rattle·table.specs.Calls.{standingAt};
+ghost use Rattle.std.specs.Prelude.{true, ◌≡◌, ◌+◌, ◌<◌, ◌≤◌, drop, length};
+ghost use Rattle.lists.specs.Arranged.{behind};
+ghost use Rattle.cells.specs.Sizes.{lower_bytes, revisions, updates};
+ghost use Rattle.cells.specs.Cells.{outs};
+ghost use Rattle.cells.specs.Decode.{cells};
+ghost use Rattle.cells.specs.Order.{order};
+ghost use Rattle.cells.specs.Range.{in_range};
+ghost use Rattle.order.specs.Counts.{counts};
+ghost use Rattle.updates.specs.Effect.{state_of, value_in};
+ghost use Rattle.entries.specs.Sizes.{entry_bytes};
+ghost use Rattle.entries.specs.Entries.{entry_at};
+ghost use Rattle.entries.specs.Folded.{standing_of};
+ghost use Rattle.table.specs.Halves.{low};
+ghost use Rattle.table.specs.Out.{table_bytes};
+ghost use Rattle.table.specs.Calls.{standing_at};
+
 use crate::back::walk;
 use order::visible::place_of;
 use order::whole::fits;
 use sizes::numbers::Revision;
 use sizes::table::Table;
 use table::answer::Reading;
-use updates::standing::Standing;
-use updates::standing::State;
+use updates::standing::{Standing, State};
 
 // What a query tells of a standing.
 pub fn tell(standing: Standing) -> Reading
-    ensures { λ a. ⌜ a ≡ record { code = 0; state = stateOf standing; value = valueIn standing } ⌝ }
+    ensures { result ≡ record { code = 0; state = state_of standing; value = value_in standing } }
 {
     let Standing::At(value) = standing else {
         return Reading {
@@ -53,8 +50,8 @@ pub fn tell(standing: Standing) -> Reading
 
 // The standing of a bib after the order of r, which stands in place j, where all its lists have room: by the walk back.
 fn standing_back(d: &[u8], h: &[u8], r: Revision, j: usize, bib: u16) -> Standing
-    requires { ⌜ (length (now d) ≡ lowerBytes) × (inRange (now d) ≡ true) × (length (now h) ≡ entryBytes) × (r .0 < revisions) × (j ≤ revisions) × (behind (r .0) (outs (cells (now d))) ≡ drop (j + 1) (outs (cells (now d)))) × (counts (cells (now d)) (drop (j + 1) (outs (cells (now d)))) + cells (now d) .count (r .0) ≤ updates) ⌝ }
-    ensures { λ s. ⌜ s ≡ standingOf (entryAt (now (h .entry))) bib (order (cells (now (d .entry))) (r .0)) ⌝ }
+    requires { (length d.now ≡ lower_bytes) × (in_range d.now ≡ true) × (length h.now ≡ entry_bytes) × (r.0 < revisions) × (j ≤ revisions) × (behind r.0 (outs (cells d.now)) ≡ drop (j + 1) (outs (cells d.now))) × (counts (cells d.now) (drop (j + 1) (outs (cells d.now))) + (cells d.now).count r.0 ≤ updates) }
+    ensures { result ≡ standing_of (entry_at h.now) bib (order (cells d.now) r.0) }
 {
     let mut out = order::links::room();
     let from = walk(d, h, r, j, bib, &mut out);
@@ -63,8 +60,8 @@ fn standing_back(d: &[u8], h: &[u8], r: Revision, j: usize, bib: u16) -> Standin
 
 // The same of any lists: along the order.
 fn standing_along(d: &[u8], h: &[u8], r: Revision, bib: u16) -> Standing
-    requires { ⌜ (length (now d) ≡ lowerBytes) × (inRange (now d) ≡ true) × (length (now h) ≡ entryBytes) × (r .0 < revisions) ⌝ }
-    ensures { λ s. ⌜ s ≡ standingOf (entryAt (now (h .entry))) bib (order (cells (now (d .entry))) (r .0)) ⌝ }
+    requires { (length d.now ≡ lower_bytes) × (in_range d.now ≡ true) × (length h.now ≡ entry_bytes) × (r.0 < revisions) }
+    ensures { result ≡ standing_of (entry_at h.now) bib (order (cells d.now) r.0) }
 {
     let mut out = order::links::room();
     let n = order::visible::list(d, r, &mut out);
@@ -74,8 +71,8 @@ fn standing_along(d: &[u8], h: &[u8], r: Revision, bib: u16) -> Standing
 // The standing of a bib after the updates visible at r, by the revisions in d and the entries in h. An order that may be cut off at its
 // end, as on no day, is not walked back from there.
 pub fn standing_on(d: &[u8], h: &[u8], r: Revision, bib: u16) -> Standing
-    requires { ⌜ (length (now d) ≡ lowerBytes) × (inRange (now d) ≡ true) × (length (now h) ≡ entryBytes) × (r .0 < revisions) ⌝ }
-    ensures { λ s. ⌜ s ≡ standingOf (entryAt (now (h .entry))) bib (order (cells (now (d .entry))) (r .0)) ⌝ }
+    requires { (length d.now ≡ lower_bytes) × (in_range d.now ≡ true) × (length h.now ≡ entry_bytes) × (r.0 < revisions) }
+    ensures { result ≡ standing_of (entry_at h.now) bib (order (cells d.now) r.0) }
 {
     let j = place_of(d, r);
     if fits(d, r, j) {
@@ -86,8 +83,8 @@ pub fn standing_on(d: &[u8], h: &[u8], r: Revision, bib: u16) -> Standing
 
 // The same of a whole table.
 pub(crate) fn standing_at(t: &[u8], r: Revision, bib: u16) -> Standing
-    requires { ⌜ (length (now t) ≡ tableBytes) × (inRange (low (now t)) ≡ true) × (r .0 < revisions) ⌝ }
-    ensures { λ s. ⌜ s ≡ standingAt (now (t .entry)) (r .0) bib ⌝ }
+    requires { (length t.now ≡ table_bytes) × (in_range (low t.now) ≡ true) × (r.0 < revisions) }
+    ensures { result ≡ standing_at t.now r.0 bib }
 {
     standing_on(&t[0..Table::LOWER], &t[Table::LOWER..Table::BYTES], r, bib)
 }

@@ -1,28 +1,19 @@
 // Code 1: every cell in its range. Fixed numbers, and no scan of rows, links or flags.
 // No loop returns early, so that the compiler can take many cells at a time.
-ghost use mathlib.Core.Path.{_≡_};
-ghost use Prim.Native.Nat.{_+_, _*_, _≤_};
-ghost use lib.ListN.{length};
-ghost use borrow.Rule.Slice.PartMut.{midOf};
-ghost use Rattle·cells.specs.Sizes.{lowerBytes};
-ghost use Rattle·cells.specs.Parts.{countersPart, queuePart, signaturePart, split};
-ghost use Rattle·cells.specs.Range.{bytesBelow, countersIn, inRange, placesIn, queueIn, recordsIn, signed, singlesIn, wordsBelow};
-ghost use Rattle·ranges·specs.specs.Answers.{rangeCheck};
+ghost use Rattle.std.specs.Prelude.{◌≡◌, ◌+◌, ◌*◌, ◌≤◌, length};
+ghost use borrow.Rule.Slice.PartMut.{mid_of};
+ghost use Rattle.cells.specs.Sizes.{lower_bytes};
+ghost use Rattle.cells.specs.Parts.{counters_part, queue_part, signature_part, split};
+ghost use Rattle.cells.specs.Range.{bytes_below, counters_in, in_range, places_in, queue_in, records_in, signed, singles_in, words_below};
+ghost use Rattle.ranges.specs.Answers.{range_check};
+
 use fields::read;
-use places::parts::BASE;
-use places::parts::COUNT;
-use places::parts::FIRST;
-use places::parts::LAST;
-use places::parts::LAYOUT;
-use places::parts::OPENED;
-use places::parts::QUEUE;
-use places::parts::SETTLED;
-use places::parts::SIGNATURE;
-use places::parts::SINGLE;
-use places::parts::STATE;
-use places::parts::USED;
+use places::parts::{
+    BASE, COUNT, FIRST, LAST, LAYOUT, OPENED, QUEUE, SETTLED, SIGNATURE, SINGLE, STATE, USED,
+};
 use sizes::table::Table;
 
+#[derive(Drop)]
 pub enum RangeCheck {
     Sound,
     Damaged,
@@ -30,8 +21,8 @@ pub enum RangeCheck {
 
 // n bytes from `at` on, each below a limit. The comparison is of bytes, so that many are compared at a time.
 fn bytes_below(d: &[u8], at: usize, n: usize, limit: u8) -> bool
-    requires { ⌜ at + n ≤ length (now d) ⌝ }
-    ensures { λ r. ⌜ r ≡ bytesBelow n limit (midOf at n (now (d .entry))) ⌝ }
+    requires { at + n ≤ length d.now }
+    ensures { result ≡ bytes_below n limit (mid_of at n d.now) }
 {
     let mut ok = true;
     let mut i: usize = 0;
@@ -44,15 +35,15 @@ fn bytes_below(d: &[u8], at: usize, n: usize, limit: u8) -> bool
 
 // A word of its two bytes.
 fn word(low: u8, high: u8) -> u16
-    ensures { λ r. ⌜ r ≡ low + 256 * high ⌝ }
+    ensures { result ≡ low + 256 * high }
 {
     low as u16 + 256 * (high as u16)
 }
 
 // n words from `at` on, each below a limit.
 fn words_below(d: &[u8], at: usize, n: usize, limit: u16) -> bool
-    requires { ⌜ at + 2 * n ≤ length (now d) ⌝ }
-    ensures { λ r. ⌜ r ≡ wordsBelow n limit (midOf at (2 * n) (now (d .entry))) ⌝ }
+    requires { at + 2 * n ≤ length d.now }
+    ensures { result ≡ words_below n limit (mid_of at (2 * n) d.now) }
 {
     let mut ok = true;
     let mut i: usize = 0;
@@ -65,8 +56,8 @@ fn words_below(d: &[u8], at: usize, n: usize, limit: u16) -> bool
 
 // The signature at the end of the bytes.
 fn is_signed(d: &[u8]) -> bool
-    requires { ⌜ length (now d) ≡ lowerBytes ⌝ }
-    ensures { λ r. ⌜ r ≡ signed (split (now (d .entry)) signaturePart) ⌝ }
+    requires { length d.now ≡ lower_bytes }
+    ensures { result ≡ signed (split d.now signature_part) }
 {
     let s = Table::signature();
     let mut ok = true;
@@ -80,8 +71,8 @@ fn is_signed(d: &[u8]) -> bool
 
 // Updates taken 0 to 4,096, revisions out 1 to 64, numbers given out 1 to 64.
 fn counters_in(d: &[u8]) -> bool
-    requires { ⌜ length (now d) ≡ lowerBytes ⌝ }
-    ensures { λ r. ⌜ r ≡ countersIn (split (now (d .entry)) countersPart) ⌝ }
+    requires { length d.now ≡ lower_bytes }
+    ensures { result ≡ counters_in (split d.now counters_part) }
 {
     let updates = read::updates(d);
     let out = read::out(d);
@@ -93,8 +84,8 @@ fn counters_in(d: &[u8]) -> bool
 
 // The cells of each revision's record.
 fn records_in(d: &[u8]) -> bool
-    requires { ⌜ length (now d) ≡ lowerBytes ⌝ }
-    ensures { λ r. ⌜ r ≡ recordsIn (split (now (d .entry))) ⌝ }
+    requires { length d.now ≡ lower_bytes }
+    ensures { result ≡ records_in (split d.now) }
 {
     let state = bytes_below(d, STATE, Table::REVISIONS, Table::STATE_LIMIT as u8);
     let used = bytes_below(d, USED, Table::REVISIONS, Table::USED_LIMIT as u8);
@@ -107,8 +98,8 @@ fn records_in(d: &[u8]) -> bool
 
 // Numbers that may be joined: 1 to 63.
 fn queue_in(d: &[u8]) -> bool
-    requires { ⌜ length (now d) ≡ lowerBytes ⌝ }
-    ensures { λ r. ⌜ r ≡ queueIn (split (now (d .entry)) queuePart) ⌝ }
+    requires { length d.now ≡ lower_bytes }
+    ensures { result ≡ queue_in (split d.now queue_part) }
 {
     let mut ok = true;
     let mut i: usize = 0;
@@ -122,8 +113,8 @@ fn queue_in(d: &[u8]) -> bool
 
 // The layout, the queue and open transactions.
 fn places_in(d: &[u8]) -> bool
-    requires { ⌜ length (now d) ≡ lowerBytes ⌝ }
-    ensures { λ r. ⌜ r ≡ placesIn (split (now (d .entry))) ⌝ }
+    requires { length d.now ≡ lower_bytes }
+    ensures { result ≡ places_in (split d.now) }
 {
     let layout = bytes_below(d, LAYOUT, Table::REVISIONS, Table::REVISIONS as u8);
     let queue = queue_in(d);
@@ -133,8 +124,8 @@ fn places_in(d: &[u8]) -> bool
 
 // The cells that are one for the whole table: counters, single, settled and signature.
 fn singles_in(d: &[u8]) -> bool
-    requires { ⌜ length (now d) ≡ lowerBytes ⌝ }
-    ensures { λ r. ⌜ r ≡ singlesIn (split (now (d .entry))) ⌝ }
+    requires { length d.now ≡ lower_bytes }
+    ensures { result ≡ singles_in (split d.now) }
 {
     let counters = counters_in(d);
     let single = bytes_below(d, SINGLE, 1, Table::SINGLE_LIMIT as u8);
@@ -143,15 +134,15 @@ fn singles_in(d: &[u8]) -> bool
 }
 
 fn in_range(d: &[u8]) -> bool
-    requires { ⌜ length (now d) ≡ lowerBytes ⌝ }
-    ensures { λ r. ⌜ r ≡ inRange (now (d .entry)) ⌝ }
+    requires { length d.now ≡ lower_bytes }
+    ensures { result ≡ in_range d.now }
 {
     records_in(d) & (places_in(d) & singles_in(d))
 }
 
 pub fn check_range(d: &[u8]) -> RangeCheck
-    requires { ⌜ length (now d) ≡ lowerBytes ⌝ }
-    ensures { λ r. ⌜ r ≡ rangeCheck (now (d .entry)) ⌝ }
+    requires { length d.now ≡ lower_bytes }
+    ensures { result ≡ range_check d.now }
 {
     if in_range(d) {
         return RangeCheck::Sound;

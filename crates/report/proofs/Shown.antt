@@ -1,15 +1,15 @@
 -- What is put into a buffer, case by case.
-use Prim.Native.Nat.{ℕ, _≤_, _<_}
+use Prim.Native.Nat.{ℕ, ◌≤◌, ◌<◌}
 use mathlib.Core.Bool.{Bool, cond}
-use mathlib.Core.Path.{_≡_, _∙_, ap}
+use mathlib.Core.Path.{◌≡◌, ◌∙◌, ap}
 use mathlib.Core.List.{List, []}
 use lib.ListN.{length}
 use borrow.Author.Tests.{lt-ltb, le-ltb}
-use Rattle·text.specs.Placed.{ascii}
-use Rattle·dayfile.specs.File.{fileCheck}
-use Rattle·dayfile.specs.declared.file.FileCheck.{FileCheck}
-use Rattle·dayfile.specs.declared.file.FileCheck.the-variants.{Good, Bad}
-use Rattle·report·specs.specs.Printed.{day, printed, printedAs, room, shown}
+use Rattle.text.specs.Placed.{ascii}
+use Rattle.dayfile.specs.File.{file_check}
+use Rattle.dayfile.specs.declared.file.FileCheck.{FileCheck}
+use Rattle.dayfile.specs.declared.file.FileCheck.TheVariants.{Good, Bad}
+use Rattle.report.specs.Printed.{day, printed, printed_as, room, shown}
 
 module _ (f out : List ℕ) where
   pub shown-none : length out < room → shown f out ≡ []
@@ -21,10 +21,10 @@ module _ (f out : List ℕ) where
     unfolding shown
     shown-all = ap (λ (b : Bool). cond b [] (printed f)) (le-ltb (length out) room fits)
 
-    pub shown-bad : fileCheck f ≡ Bad → shown f out ≡ ascii "bad file\n"
+    pub shown-bad : file_check f ≡ Bad → shown f out ≡ ascii "bad file\n"
     unfolding printed
-    shown-bad h = shown-all ∙ ap (λ (c : FileCheck). printedAs c f) h
+    shown-bad h = shown-all ∙ ap (λ (c : FileCheck). printed_as c f) h
 
-    pub shown-good : (n : ℕ) → fileCheck f ≡ Good n → shown f out ≡ day f n
+    pub shown-good : (n : ℕ) → file_check f ≡ Good n → shown f out ≡ day f n
     unfolding printed
-    shown-good n h = shown-all ∙ ap (λ (c : FileCheck). printedAs c f) h
+    shown-good n h = shown-all ∙ ap (λ (c : FileCheck). printed_as c f) h

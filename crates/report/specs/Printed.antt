@@ -1,56 +1,52 @@
 -- The printed day: 01, "Day file and printed day". Every line ends in a line feed.
-use Prim.Native.Nat.{ℕ, zero, suc}
-use mathlib.Core.Bool.{cond, false}
-use mathlib.Core.List.{List, [], _++_}
-use lib.Dec.{ltb}
-use lib.ListN.{length, replicate}
-use Rattle·updates.specs.declared.standing.State.{State}
-use Rattle·updates.specs.declared.standing.State.the-variants.{Neither, Timed, Struck}
-use Rattle·text.specs.Placed.{ascii}
-use Rattle·text.specs.Decimal.{ended}
-use Rattle·boards.specs.Board.{boardBytes}
-use Rattle·dayfile.specs.File.{fileCheck}
-use Rattle·dayfile.specs.declared.file.FileCheck.{FileCheck}
-use Rattle·dayfile.specs.declared.file.FileCheck.the-variants.{Good, Bad}
-use Rattle·table.specs.Out.{tableBytes}
-use Rattle·table.specs.Calls.{freshOut}
-use Rattle·report·specs.specs.Run.{outAt}
+use Rattle.std.specs.Prelude.{ℕ, zero, suc, cond, false, List, [], ◌++◌, ltb, length, replicate}
+use Rattle.updates.specs.declared.standing.State.{State}
+use Rattle.updates.specs.declared.standing.State.TheVariants.{Neither, Timed, Struck}
+use Rattle.text.specs.Placed.{ascii}
+use Rattle.text.specs.Decimal.{ended}
+use Rattle.boards.specs.Board.{board_bytes}
+use Rattle.dayfile.specs.File.{file_check}
+use Rattle.dayfile.specs.declared.file.FileCheck.{FileCheck}
+use Rattle.dayfile.specs.declared.file.FileCheck.TheVariants.{Good, Bad}
+use Rattle.table.specs.Out.{table_bytes}
+use Rattle.table.specs.Calls.{fresh_out}
+use Rattle.report.specs.Run.{out_at}
 
 abbrev pub blank : ℕ
 blank = 32
 
-abbrev pub lineFeed : ℕ
-lineFeed = 10
+abbrev pub line_feed : ℕ
+line_feed = 10
 
 -- 02, U2: "the printed day has `struck` for the value"
-unfoldable pub valueText : State → ℕ → List ℕ
-valueText Struck value = ascii "struck\n"
-valueText Neither value = ended value lineFeed
-valueText Timed value = ended value lineFeed
+unfoldable pub value_text : State → ℕ → List ℕ
+value_text Struck value = ascii "struck\n"
+value_text Neither value = ended value line_feed
+value_text Timed value = ended value line_feed
 
 -- "one line a record: index from 0, code, value"
 unfoldable pub line : ℕ → ℕ → State → ℕ → List ℕ
-line index code state value = ended index blank ++ ended code blank ++ valueText state value
+line index code state value = ended index blank ++ ended code blank ++ value_text state value
 
 -- the lines of the first n records
 unfoldable pub lines : List ℕ → List ℕ → ℕ → List ℕ
 lines t f zero = []
-lines t f (suc i) = lines t f i ++ line i (outAt t f i .code) (outAt t f i .state) (outAt t f i .value)
+lines t f (suc i) = lines t f i ++ line i (out_at t f i).code (out_at t f i).state (out_at t f i).value
 
-unfoldable pub freshTable : List ℕ
-freshTable = freshOut (replicate tableBytes 0) false boardBytes .lent
+unfoldable pub fresh_table : List ℕ
+fresh_table = (fresh_out (replicate table_bytes 0) false board_bytes).lent
 
 -- "Otherwise it makes a table fresh and prints `steps n`, then one line a record"
 unfoldable pub day : List ℕ → ℕ → List ℕ
-day f n = ascii "steps " ++ ended n lineFeed ++ lines freshTable f n
+day f n = ascii "steps " ++ ended n line_feed ++ lines fresh_table f n
 
 -- "the program prints `bad file` alone"
-abbrev pub printedAs : FileCheck → List ℕ → List ℕ
-printedAs Bad f = ascii "bad file\n"
-printedAs (Good n) f = day f n
+abbrev pub printed_as : FileCheck → List ℕ → List ℕ
+printed_as Bad f = ascii "bad file\n"
+printed_as (Good n) f = day f n
 
 unfoldable pub printed : List ℕ → List ℕ
-printed f = printedAs (fileCheck f) f
+printed f = printed_as (file_check f) f
 
 -- no day is longer: 11 bytes for `steps 5460`, and 5,460 lines of at most 20, a code counted with three digits
 abbrev pub room : ℕ

@@ -1,11 +1,10 @@
 // One line a record, put into a buffer from a place on.
-ghost use mathlib.Core.Path.{_≡_};
-ghost use Prim.Native.Nat.{_+_, _*_, _≤_, _<_};
-ghost use lib.ListN.{length};
-ghost use Rattle·boards.specs.Board.{boardBytes};
-ghost use Rattle·text.specs.Placed.{placed};
-ghost use Rattle·report·specs.specs.Printed.{line as lineOf, valueText};
-ghost use Rattle·report·specs.specs.Printed.{lines as linesOf};
+ghost use Rattle.std.specs.Prelude.{◌≡◌, ◌+◌, ◌*◌, ◌≤◌, ◌<◌, length};
+ghost use Rattle.boards.specs.Board.{board_bytes};
+ghost use Rattle.text.specs.Placed.{placed};
+ghost use Rattle.report.specs.Printed.{line as line_of, value_text};
+ghost use Rattle.report.specs.Printed.{lines as lines_of};
+
 use crate::step::run;
 use dayfile::step::step_at;
 use text::number::number;
@@ -13,8 +12,8 @@ use text::put::put;
 use updates::standing::State;
 
 fn value_text(out: &mut [u8], at: usize, state: State, value: u32) -> usize
-    requires { ⌜ at + length (valueText state value) ≤ length (now out) ⌝ }
-    ensures { λ r. ⌜ (r ≡ at + length (valueText state value)) × (now (out .exit) ≡ placed (now (out .entry)) at (valueText state value)) ⌝ }
+    requires { at + length (value_text state value) ≤ length out.old }
+    ensures { (result ≡ at + length (value_text state value)) × (out.new ≡ placed out.old at (value_text state value)) }
 {
     match state {
         State::Struck => put(out, at, b"struck\n"),
@@ -25,8 +24,8 @@ fn value_text(out: &mut [u8], at: usize, state: State, value: u32) -> usize
 
 // At most 20 bytes: 4 digits, 3 and 10, each with a mark behind.
 fn line(out: &mut [u8], at: usize, index: u32, code: u8, state: State, value: u32) -> usize
-    requires { ⌜ (index < 10000) × (at + 20 ≤ length (now out)) ⌝ }
-    ensures { λ r. ⌜ (r ≤ at + 20) × (r ≡ at + length (lineOf index code state value)) × (now (out .exit) ≡ placed (now (out .entry)) at (lineOf index code state value)) ⌝ }
+    requires { (index < 10000) × (at + 20 ≤ length out.old) }
+    ensures { (result ≤ at + 20) × (result ≡ at + length (line_of index code state value)) × (out.new ≡ placed out.old at (line_of index code state value)) }
 {
     let a = number(out, at, index as u64, b' ');
     let b = number(out, a, code as u64, b' ');
@@ -42,8 +41,8 @@ pub(crate) fn lines(
     out: &mut [u8],
     at: usize,
 ) -> usize
-    requires { ⌜ (n ≤ 5460) × (at + 20 * n ≤ length (now out)) × (length (now board) ≡ boardBytes) ⌝ }
-    ensures { λ r. ⌜ (r ≤ at + 20 * n) × (r ≡ at + length (linesOf (now (t .entry)) (now (f .entry)) n)) × (now (out .exit) ≡ placed (now (out .entry)) at (linesOf (now (t .entry)) (now (f .entry)) n)) ⌝ }
+    requires { (n ≤ 5460) × (at + 20 * n ≤ length out.old) × (length board.old ≡ board_bytes) }
+    ensures { (result ≤ at + 20 * n) × (result ≡ at + length (lines_of t.old f.now n)) × (out.new ≡ placed out.old at (lines_of t.old f.now n)) }
 {
     let mut end = at;
     let mut i: u32 = 0;

@@ -1,16 +1,15 @@
 // The size of the output, and the whole text.
-ghost use mathlib.Core.Path.{_≡_};
-ghost use Prim.Native.Nat.{_≤_};
-ghost use lib.ListN.{length};
-ghost use Rattle·text.specs.Placed.{placed};
-ghost use Rattle·report·specs.specs.Printed.{day, room, shown};
+ghost use Rattle.std.specs.Prelude.{◌≡◌, ◌≤◌, length};
+ghost use Rattle.text.specs.Placed.{placed};
+ghost use Rattle.report.specs.Printed.{day, room, shown};
+
 use crate::lines::lines;
 use boards::check::Board;
-use dayfile::file::FileCheck;
-use dayfile::file::check_file;
+use dayfile::file::{FileCheck, check_file};
 use text::number::number;
 use text::put::put;
 
+#[derive(Drop)]
 pub struct Output;
 
 impl Output {
@@ -20,8 +19,8 @@ impl Output {
 
 // The text of a good file: `steps n`, and the lines.
 fn put_day(f: &[u8], n: u32, out: &mut [u8]) -> usize
-    requires { ⌜ (n ≤ 5460) × (room ≤ length (now out)) ⌝ }
-    ensures { λ r. ⌜ (r ≡ length (day (now (f .entry)) n)) × (now (out .exit) ≡ placed (now (out .entry)) 0 (day (now (f .entry)) n)) ⌝ }
+    requires { (n ≤ 5460) × (room ≤ length out.old) }
+    ensures { (result ≡ length (day f.now n)) × (out.new ≡ placed out.old 0 (day f.now n)) }
 {
     let mut t = io::large_buffer();
     let mut board = [0u8; Board::BYTES];
@@ -34,7 +33,7 @@ fn put_day(f: &[u8], n: u32, out: &mut [u8]) -> usize
 // What the file prints as, at the start of the buffer; the answer is its length. A buffer that is too short for some day is
 // left as it is, and the answer is 0.
 pub fn report(f: &[u8], out: &mut [u8]) -> usize
-    ensures { λ r. ⌜ (r ≡ length (shown (now (f .entry)) (now (out .entry)))) × (now (out .exit) ≡ placed (now (out .entry)) 0 (shown (now (f .entry)) (now (out .entry)))) ⌝ }
+    ensures { (result ≡ length (shown f.now out.old)) × (out.new ≡ placed out.old 0 (shown f.now out.old)) }
 {
     if out.len() < Output::BYTES {
         return 0;

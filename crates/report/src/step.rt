@@ -1,17 +1,16 @@
 // One step on the table, with a board lent to the steps that take one. The printed day does not show it.
-ghost use mathlib.Core.Path.{_≡_};
-ghost use lib.ListN.{length};
-ghost use Rattle·boards.specs.Board.{boardBytes};
-ghost use Rattle·table.specs.Answers.{leftRead};
-ghost use Rattle·updates.specs.declared.standing.State.the-variants.{Neither};
-ghost use Rattle·report·specs.specs.Run.{stepOut};
+ghost use Rattle.std.specs.Prelude.{◌≡◌, length};
+ghost use Rattle.boards.specs.Board.{board_bytes};
+ghost use Rattle.table.specs.Answers.{left_read};
+ghost use Rattle.updates.specs.declared.standing.State.TheVariants.{Neither};
+ghost use Rattle.report.specs.Run.{step_out};
+
 use dayfile::step::Step;
-use table::answer::Answer;
-use table::answer::Reading;
+use table::answer::{Answer, Reading};
 use updates::standing::State;
 
 fn without_state(a: Answer) -> Reading
-    ensures { λ r. ⌜ r ≡ record { code = a .code; state = Neither; value = a .value } ⌝ }
+    ensures { result ≡ record { code = a.code; state = Neither; value = a.value } }
 {
     Reading {
         code: a.code,
@@ -22,8 +21,8 @@ fn without_state(a: Answer) -> Reading
 
 // Code 13 is the program's own: an unknown step (01: strange step) changes nothing.
 pub(crate) fn run(t: &mut [u8], board: &mut [u8], step: Step) -> Reading
-    requires { ⌜ length (now board) ≡ boardBytes ⌝ }
-    ensures { λ a. ⌜ leftRead a (now (t .exit)) ≡ stepOut (now (t .entry)) step ⌝ }
+    requires { length board.old ≡ board_bytes }
+    ensures { left_read result t.new ≡ step_out t.old step }
 {
     match step {
         Step::Update {
@@ -41,10 +40,7 @@ pub(crate) fn run(t: &mut [u8], board: &mut [u8], step: Step) -> Reading
         Step::Yield(client) => without_state(announcing::yields::yields(t, board, client)),
         Step::Fork(revision) => without_state(forking::fork::fork(t, revision)),
         Step::Join(joiner, joinee) => without_state(announcing::join::join(
-            t,
-            board,
-            joiner,
-            joinee,
+            t, board, joiner, joinee,
         )),
         Step::Unknown => Reading {
             code: 13,

@@ -1,12 +1,10 @@
 // A new day: the main revision is out, and nothing has happened.
-ghost use mathlib.Core.Bool.{cond};
-ghost use mathlib.Core.List.{[], _∷_};
-ghost use mathlib.Core.Path.{_≡_};
-ghost use lib.ListN.{length};
-ghost use Rattle·cells.specs.Sizes.{lowerBytes};
-ghost use Rattle·cells.specs.Parts.{glue, singlePart, split, startedPart, wrote};
-ghost use Rattle·cells.specs.Steps.{freshBytes};
-ghost use Rattle·revisions·specs.specs.Pieces.{freshCounts, freshRevisions};
+ghost use Rattle.std.specs.Prelude.{cond, [], ◌∷◌, ◌≡◌, length};
+ghost use Rattle.cells.specs.Sizes.{lower_bytes};
+ghost use Rattle.cells.specs.Parts.{glue, single_part, split, started_part, wrote};
+ghost use Rattle.cells.specs.Steps.{fresh_bytes};
+ghost use Rattle.revisions.specs.Pieces.{fresh_counts, fresh_revisions};
+
 use buffers::clear::clear;
 use buffers::put::put;
 use places::parts;
@@ -15,8 +13,8 @@ use stores::fresh::caught;
 
 // States, layout and queue.
 fn put_revisions(d: &mut [u8])
-    requires { ⌜ length (now d) ≡ lowerBytes ⌝ }
-    ensures { λ _. ⌜ now (d .exit) ≡ glue (freshRevisions (split (now (d .entry)))) ⌝ }
+    requires { length d.old ≡ lower_bytes }
+    ensures { d.new ≡ glue (fresh_revisions (split d.old)) }
 {
     let state = Table::fresh_state();
     let layout = Table::fresh_layout();
@@ -28,8 +26,8 @@ fn put_revisions(d: &mut [u8])
 
 // Open transactions, counters and signature.
 fn put_counts(d: &mut [u8])
-    requires { ⌜ length (now d) ≡ lowerBytes ⌝ }
-    ensures { λ _. ⌜ now (d .exit) ≡ glue (freshCounts (split (now (d .entry)))) ⌝ }
+    requires { length d.old ≡ lower_bytes }
+    ensures { d.new ≡ glue (fresh_counts (split d.old)) }
 {
     let opened = Table::fresh_opened();
     let counters = Table::fresh_counters();
@@ -41,8 +39,8 @@ fn put_counts(d: &mut [u8])
 
 // The choice of a single-main day (02, U8).
 fn put_choice(d: &mut [u8], single: bool)
-    requires { ⌜ length (now d) ≡ lowerBytes ⌝ }
-    ensures { λ _. ⌜ now (d .exit) ≡ wrote (now (d .entry)) singlePart (cond single 1 0 ∷ []) ⌝ }
+    requires { length d.old ≡ lower_bytes }
+    ensures { d.new ≡ wrote d.old single_part (cond single 1 0 ∷ []) }
 {
     let choice = Table::fresh_single(single);
     put(d, parts::SINGLE, &choice);
@@ -50,16 +48,16 @@ fn put_choice(d: &mut [u8], single: bool)
 
 // The main box is started (02, U14).
 fn put_started(d: &mut [u8])
-    requires { ⌜ length (now d) ≡ lowerBytes ⌝ }
-    ensures { λ _. ⌜ now (d .exit) ≡ wrote (now (d .entry)) startedPart (1 ∷ 0 ∷ []) ⌝ }
+    requires { length d.old ≡ lower_bytes }
+    ensures { d.new ≡ wrote d.old started_part (1 ∷ 0 ∷ []) }
 {
     let started = Table::fresh_started();
     put(d, parts::STARTED, &started);
 }
 
 pub fn fresh(d: &mut [u8], single: bool)
-    requires { ⌜ length (now d) ≡ lowerBytes ⌝ }
-    ensures { λ _. ⌜ now (d .exit) ≡ freshBytes single ⌝ }
+    requires { length d.old ≡ lower_bytes }
+    ensures { d.new ≡ fresh_bytes single }
 {
     clear(d);
     caught(d);

@@ -1,17 +1,14 @@
 // What a forked revision inherits: from the main revision by count alone; from any other its count, its row and its own list.
-ghost use mathlib.Core.Path.{_≡_};
-ghost use mathlib.Core.Bool.{true};
-ghost use Prim.Native.Nat.{_<_};
-ghost use lib.ListN.{length};
-ghost use Rattle·cells.specs.Sizes.{lowerBytes, revisions};
-ghost use Rattle·cells.specs.Parts.{glue, split};
-ghost use Rattle·cells.specs.Flags.{rowBytes};
-ghost use Rattle·cells.specs.Decode.{cells};
-ghost use Rattle·cells.specs.Range.{inRange};
-ghost use Rattle·cells.specs.CellSteps.{forkRow};
-ghost use Rattle·cells.specs.Steps.{inheritParts};
-use fields::read;
-use fields::row;
+ghost use Rattle.std.specs.Prelude.{◌≡◌, true, ◌<◌, length};
+ghost use Rattle.cells.specs.Sizes.{lower_bytes, revisions};
+ghost use Rattle.cells.specs.Parts.{glue, split};
+ghost use Rattle.cells.specs.Flags.{row_bytes};
+ghost use Rattle.cells.specs.Decode.{cells};
+ghost use Rattle.cells.specs.Range.{in_range};
+ghost use Rattle.cells.specs.CellSteps.{fork_row};
+ghost use Rattle.cells.specs.Steps.{inherit_parts};
+
+use fields::{read, row};
 use flags::bits;
 use order::links;
 use sizes::numbers::Revision;
@@ -19,15 +16,15 @@ use sizes::table::Table;
 use stores::write;
 
 fn number(x: u16) -> usize
-    ensures { λ r. ⌜ r ≡ x ⌝ }
+    ensures { result ≡ x }
 {
     x as usize
 }
 
 // The row of the parent, which is not the main revision, with the updates of its own list.
 fn forked_row(d: &[u8], parent: Revision) -> [u8; Table::ROW]
-    requires { ⌜ (length (now d) ≡ lowerBytes) × (inRange (now d) ≡ true) × (0 < parent .0) × (parent .0 < revisions) ⌝ }
-    ensures { λ row. ⌜ row ≡ rowBytes 512 (forkRow (cells (now (d .entry))) (parent .0)) ⌝ }
+    requires { (length d.now ≡ lower_bytes) × (in_range d.now ≡ true) × (0 < parent.0) × (parent.0 < revisions) }
+    ensures { result ≡ row_bytes 512 (fork_row (cells d.now) parent.0) }
 {
     let mut own = links::room();
     let n = links::own_list(d, parent, &mut own);
@@ -45,8 +42,8 @@ fn forked_row(d: &[u8], parent: Revision) -> [u8; Table::ROW]
 }
 
 fn by_count(d: &mut [u8], child: Revision)
-    requires { ⌜ (length (now d) ≡ lowerBytes) × (child .0 < revisions) ⌝ }
-    ensures { λ _. ⌜ now (d .exit) ≡ glue (inheritParts (split (now (d .entry))) 0 (child .0)) ⌝ }
+    requires { (length d.old ≡ lower_bytes) × (child.0 < revisions) }
+    ensures { d.new ≡ glue (inherit_parts (split d.old) 0 child.0) }
 {
     let base = read::count(d, Revision::main());
     write::used(d, child, 0);
@@ -55,8 +52,8 @@ fn by_count(d: &mut [u8], child: Revision)
 }
 
 fn by_row(d: &mut [u8], parent: Revision, child: Revision)
-    requires { ⌜ (length (now d) ≡ lowerBytes) × (inRange (now d) ≡ true) × (0 < parent .0) × (parent .0 < revisions) × (0 < child .0) × (child .0 < revisions) ⌝ }
-    ensures { λ _. ⌜ now (d .exit) ≡ glue (inheritParts (split (now (d .entry))) (parent .0) (child .0)) ⌝ }
+    requires { (length d.old ≡ lower_bytes) × (in_range d.old ≡ true) × (0 < parent.0) × (parent.0 < revisions) × (0 < child.0) × (child.0 < revisions) }
+    ensures { d.new ≡ glue (inherit_parts (split d.old) parent.0 child.0) }
 {
     let base = read::base(d, parent);
     let flags = forked_row(d, parent);
@@ -67,8 +64,8 @@ fn by_row(d: &mut [u8], parent: Revision, child: Revision)
 }
 
 pub fn inherit(d: &mut [u8], parent: Revision, child: Revision)
-    requires { ⌜ (length (now d) ≡ lowerBytes) × (inRange (now d) ≡ true) × (parent .0 < revisions) × (0 < child .0) × (child .0 < revisions) ⌝ }
-    ensures { λ _. ⌜ now (d .exit) ≡ glue (inheritParts (split (now (d .entry))) (parent .0) (child .0)) ⌝ }
+    requires { (length d.old ≡ lower_bytes) × (in_range d.old ≡ true) × (parent.0 < revisions) × (0 < child.0) × (child.0 < revisions) }
+    ensures { d.new ≡ glue (inherit_parts (split d.old) parent.0 child.0) }
 {
     if parent.0 == 0 {
         by_count(d, child);

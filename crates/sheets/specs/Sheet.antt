@@ -1,9 +1,7 @@
 -- No claim rests on this file: it serves the code. The lines of a listing in the bytes of a sheet.
-use Prim.Native.Nat.{ℕ, _*_}
-use mathlib.Core.List.{List, [], _∷_, _++_}
-use lib.ListN.{length, drop}
-use Rattle·entries.specs.declared.entry.Entry.{Entry}
-use Rattle·sheets·specs.specs.Lines.{line}
+use Rattle.std.specs.Prelude.{ℕ, ◌*◌, List, [], ◌∷◌, ◌++◌, length, drop}
+use Rattle.entries.specs.declared.entry.Entry.{Entry}
+use Rattle.sheets.specs.Lines.{line}
 
 -- the lines of some numbers, in their order
 unfoldable pub lines : (ℕ → Entry) → List ℕ → List ℕ

@@ -1,20 +1,19 @@
 // The lines of some numbers put into a sheet, in their order.
-ghost use mathlib.Core.Path.{_≡_};
-ghost use Prim.Native.Nat.{_*_, _+_, _≤_};
-ghost use lib.ListN.{length, take};
-ghost use Rattle·lists.specs.Arranged.{replaced};
-ghost use Rattle·entries.specs.Sizes.{entryBytes};
-ghost use Rattle·entries.specs.Entries.{entryAt};
-ghost use Rattle·sheets·specs.specs.Lines.{line};
-ghost use Rattle·sheets·specs.specs.Sheet.{sheet};
+ghost use Rattle.std.specs.Prelude.{◌≡◌, ◌*◌, ◌+◌, ◌≤◌, length, take};
+ghost use Rattle.lists.specs.Arranged.{replaced};
+ghost use Rattle.entries.specs.Sizes.{entry_bytes};
+ghost use Rattle.entries.specs.Entries.{entry_at};
+ghost use Rattle.sheets.specs.Lines.{line};
+ghost use Rattle.sheets.specs.Sheet.{sheet};
+
 use bundles::record::write;
 use bundles::sizes::Record;
 use updates::kind::number;
 
 // Line i is of update n.
 fn put(t: &[u8], n: u16, s: &mut [u8], i: usize)
-    requires { ⌜ (length (now t) ≡ entryBytes) × (12 * i + 12 ≤ length (now s)) ⌝ }
-    ensures { λ _. ⌜ now (s .exit) ≡ replaced (now (s .entry)) (12 * i) 12 (line (entryAt (now (t .entry)) n) n) ⌝ }
+    requires { (length t.now ≡ entry_bytes) × (12 * i + 12 ≤ length s.old) }
+    ensures { s.new ≡ replaced s.old (12 * i) 12 (line (entry_at t.now n) n) }
 {
     let e = entries::read::read(t, n);
     let kind = e.kind;
@@ -32,8 +31,8 @@ fn put(t: &[u8], n: u16, s: &mut [u8], i: usize)
 
 // The lines of the first `count` numbers of `order`; the other bytes stay.
 pub fn lines(t: &[u8], order: &[u16], count: usize, s: &mut [u8])
-    requires { ⌜ (length (now t) ≡ entryBytes) × (count ≤ length (now order)) × (12 * count ≤ length (now s)) ⌝ }
-    ensures { λ _. ⌜ now (s .exit) ≡ sheet (entryAt (now (t .entry))) (take count (now (order .entry))) (now (s .entry)) ⌝ }
+    requires { (length t.now ≡ entry_bytes) × (count ≤ length order.now) × (12 * count ≤ length s.old) }
+    ensures { s.new ≡ sheet (entry_at t.now) (take count order.now) s.old }
 {
     let mut i: usize = 0;
     while i < count {

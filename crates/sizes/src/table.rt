@@ -1,11 +1,9 @@
 // The table's type: its sizes, and the parts of a fresh day (01: "64 boxes, 16 tablets, 1,000 bibs and 4,096 updates at most").
-ghost use mathlib.Core.Bool.{cond};
-ghost use mathlib.Core.Path.{_≡_};
-ghost use mathlib.Core.List.{[], _∷_};
-ghost use lib.ListN.{replicate, set};
-ghost use Rattle·cells.specs.Sizes.{clients, closed, main, revisions, stateOut};
-ghost use Rattle·cells.specs.Range.{signature};
+ghost use Rattle.std.specs.Prelude.{cond, ◌≡◌, [], ◌∷◌, replicate, set};
+ghost use Rattle.cells.specs.Sizes.{clients, closed, main, revisions, state_out};
+ghost use Rattle.cells.specs.Range.{signature};
 
+#[derive(Drop)]
 pub struct Table;
 
 impl Table {
@@ -82,7 +80,7 @@ impl Table {
 
     // The main revision is out, and no other number was given out.
     pub fn fresh_state() -> [u8; Table::REVISIONS]
-        ensures { λ r. ⌜ r ≡ set (replicate revisions 0) main stateOut ⌝ }
+        ensures { result ≡ set (replicate revisions 0) main state_out }
     {
         let mut state = [Table::STATE_NEVER as u8; Table::REVISIONS];
         state[0] = Table::STATE_OUT as u8;
@@ -91,56 +89,56 @@ impl Table {
 
     // The main revision stands alone in the layout.
     pub fn fresh_layout() -> [u8; Table::REVISIONS]
-        ensures { λ r. ⌜ r ≡ replicate revisions main ⌝ }
+        ensures { result ≡ replicate revisions main }
     {
         [0; Table::REVISIONS]
     }
 
     // No update was taken; one revision is out, and one number given out.
     pub fn fresh_counters() -> [u8; 4]
-        ensures { λ r. ⌜ r ≡ 0 ∷ 0 ∷ 1 ∷ 1 ∷ [] ⌝ }
+        ensures { result ≡ 0 ∷ 0 ∷ 1 ∷ 1 ∷ [] }
     {
         [0, 0, 1, 1]
     }
 
     // 02, U8: "Fresh gains a choice of such a day."
     pub fn fresh_single(single: bool) -> [u8; 1]
-        ensures { λ r. ⌜ r ≡ cond single 1 0 ∷ [] ⌝ }
+        ensures { result ≡ cond single 1 0 ∷ [] }
     {
         if single { [1] } else { [0] }
     }
 
     // 02, U14: one box was started, the main one.
     pub fn fresh_started() -> [u8; 2]
-        ensures { λ r. ⌜ r ≡ 1 ∷ 0 ∷ [] ⌝ }
+        ensures { result ≡ 1 ∷ 0 ∷ [] }
     {
         [1, 0]
     }
 
     // A client without events may start anywhere: every caught-up flag, eight to a byte.
     pub fn fresh_caught() -> [[u8; Table::FLAGS]; Table::CLIENTS]
-        ensures { λ r. ⌜ r ≡ replicate clients (replicate 8 255) ⌝ }
+        ensures { result ≡ replicate clients (replicate 8 255) }
     {
         [[255; Table::FLAGS]; Table::CLIENTS]
     }
 
     // No number was joined.
     pub fn fresh_queue() -> [u8; Table::REVISIONS]
-        ensures { λ r. ⌜ r ≡ replicate revisions 1 ⌝ }
+        ensures { result ≡ replicate revisions 1 }
     {
         [Table::UNQUEUED; Table::REVISIONS]
     }
 
     // No transaction is open.
     pub fn fresh_opened() -> [u8; Table::CLIENTS]
-        ensures { λ r. ⌜ r ≡ replicate clients closed ⌝ }
+        ensures { result ≡ replicate clients closed }
     {
         [Table::CLOSED as u8; Table::CLIENTS]
     }
 
     // What tells that the bytes are a table with this layout.
     pub fn signature() -> [u8; 8]
-        ensures { λ r. ⌜ r ≡ signature ⌝ }
+        ensures { result ≡ signature }
     {
         [83, 73, 76, 84, 84, 79, 78, 71]
     }

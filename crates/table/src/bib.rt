@@ -1,15 +1,17 @@
 // Code 5 of a bib.
-ghost use mathlib.Core.Path.{_≡_};
-ghost use Rattle·table·specs.specs.Checks.{bibCheck};
+ghost use Rattle.std.specs.Prelude.{◌≡◌};
+ghost use Rattle.table.specs.Checks.{bib_check};
+
 use sizes::table::Table;
 
+#[derive(Drop)]
 pub enum BibCheck {
     Known,
     Unknown,
 }
 
 pub fn check_bib(n: u16) -> BibCheck
-    ensures { λ r. ⌜ r ≡ bibCheck n ⌝ }
+    ensures { result ≡ bib_check n }
 {
     if n < Table::BIBS {
         BibCheck::Known

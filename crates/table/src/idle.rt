@@ -1,17 +1,15 @@
 // Checks 3, 4 and 7 of a revision that must not be busy: for fork and list.
-ghost use mathlib.Core.Path.{_≡_};
-ghost use lib.ListN.{length};
-ghost use Rattle·cells.specs.Sizes as Lower;
-ghost use Rattle·table·specs.specs.Checks.{idleCheck};
-ghost use Rattle·table·specs.specs.Found.{idleCode};
-use checks::busy::UseCheck;
-use checks::busy::check_use;
-use checks::given::GivenCheck;
-use checks::given::check_given;
-use checks::joined::JoinedCheck;
-use checks::joined::check_joined;
+ghost use Rattle.std.specs.Prelude.{◌≡◌, length};
+ghost use Rattle.cells.specs.Sizes as Lower;
+ghost use Rattle.table.specs.Checks.{idle_check};
+ghost use Rattle.table.specs.Found.{idle_code};
+
+use checks::busy::{UseCheck, check_use};
+use checks::given::{GivenCheck, check_given};
+use checks::joined::{JoinedCheck, check_joined};
 use sizes::numbers::Revision;
 
+#[derive(Drop)]
 pub enum IdleCheck {
     Idle(Revision),
     Refused(u8),
@@ -20,7 +18,7 @@ pub enum IdleCheck {
 impl IdleCheck {
     // The code of the check that ends the call; 0 where none does.
     pub fn code(self) -> u8
-        ensures { λ k. ⌜ k ≡ idleCode self ⌝ }
+        ensures { result ≡ idle_code self }
     {
         let IdleCheck::Refused(code) = self else {
             return 0;
@@ -30,8 +28,8 @@ impl IdleCheck {
 }
 
 pub fn check_idle(d: &[u8], n: u8) -> IdleCheck
-    requires { ⌜ length (now d) ≡ Lower.lowerBytes ⌝ }
-    ensures { λ r. ⌜ r ≡ idleCheck (now (d .entry)) n ⌝ }
+    requires { length d.now ≡ Lower.lower_bytes }
+    ensures { result ≡ idle_check d.now n }
 {
     let GivenCheck::Given(r) = check_given(d, n) else {
         return IdleCheck::Refused(3);

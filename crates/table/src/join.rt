@@ -1,26 +1,20 @@
 // The checks of a join, on the lower half: 3, 4, 15, 16, 7 and 11.
-ghost use mathlib.Core.Path.{_≡_};
-ghost use lib.ListN.{length};
-ghost use Rattle·cells.specs.Sizes as Lower;
-ghost use Rattle·table·specs.specs.Checks.{joinCheck, joinIn};
+ghost use Rattle.std.specs.Prelude.{◌≡◌, length};
+ghost use Rattle.cells.specs.Sizes as Lower;
+ghost use Rattle.table.specs.Checks.{join_check, JoinIn};
+
 use crate::pair::PairCheck;
-use checks::busy::UseCheck;
-use checks::busy::check_use;
-use checks::given::GivenCheck;
-use checks::given::check_given;
-use checks::joinable::JoinableCheck;
-use checks::joinable::check_joinable;
-use checks::joined::JoinedCheck;
-use checks::joined::check_joined;
-use checks::line::LineCheck;
-use checks::line::check_line;
-use checks::marked::MarkedCheck;
-use checks::marked::check_marked;
+use checks::busy::{UseCheck, check_use};
+use checks::given::{GivenCheck, check_given};
+use checks::joinable::{JoinableCheck, check_joinable};
+use checks::joined::{JoinedCheck, check_joined};
+use checks::line::{LineCheck, check_line};
+use checks::marked::{MarkedCheck, check_marked};
 
 // Checks 3, 4, 15, 16, 7, 11: each of the joiner, then of the joinee; 15 of the joiner alone.
 pub fn check_join(d: &[u8], joiner: u8, joinee: u8) -> PairCheck
-    requires { ⌜ length (now d) ≡ Lower.lowerBytes ⌝ }
-    ensures { λ r. ⌜ (r ≡ joinCheck (now (d .entry)) joiner joinee) × joinIn r ⌝ }
+    requires { length d.now ≡ Lower.lower_bytes }
+    ensures { (result ≡ join_check d.now joiner joinee) × JoinIn result }
 {
     let GivenCheck::Given(a) = check_given(d, joiner) else {
         return PairCheck::Refused(3);

@@ -1,4 +1,6 @@
 // The table of 65,536 bytes: what the calls answer and leave, and the checks that they share. The calls stand above.
+#![tactic(auto)]
+
 pub mod answer; // answer.rt: what a call answers
 pub mod bib; // bib.rt: the check of a bib
 pub mod board; // board.rt: the board's step behind a call

@@ -1,22 +1,24 @@
 // Code 1: the buffer has the length of a table, and is a table.
-ghost use mathlib.Core.Path.{_≡_};
-ghost use Rattle·table·specs.specs.Checks.{lengthCheck, tableCheck};
-use ranges::range::RangeCheck;
-use ranges::range::check_range;
+ghost use Rattle.std.specs.Prelude.{◌≡◌};
+ghost use Rattle.table.specs.Checks.{length_check, table_check};
+
+use ranges::range::{RangeCheck, check_range};
 use sizes::table::Table;
 
+#[derive(Drop)]
 pub enum LengthCheck {
     Right,
     Wrong,
 }
 
+#[derive(Drop)]
 pub enum TableCheck {
     Sound,
     Damaged,
 }
 
 pub fn check_length(t: &[u8]) -> LengthCheck
-    ensures { λ r. ⌜ r ≡ lengthCheck (now (t .entry)) ⌝ }
+    ensures { result ≡ length_check t.now }
 {
     if t.len() == Table::BYTES {
         return LengthCheck::Right;
@@ -25,7 +27,7 @@ pub fn check_length(t: &[u8]) -> LengthCheck
 }
 
 pub fn check_table(t: &[u8]) -> TableCheck
-    ensures { λ r. ⌜ r ≡ tableCheck (now (t .entry)) ⌝ }
+    ensures { result ≡ table_check t.now }
 {
     let LengthCheck::Right = check_length(t) else {
         return TableCheck::Damaged;

@@ -1,8 +1,8 @@
 -- Text and numbers as bytes, computed.
-use mathlib.Core.Path.{_≡_, refl}
-use mathlib.Core.List.{[], _∷_}
-use Rattle·text·specs.specs.Placed.{placed, ascii}
-use Rattle·text·specs.specs.Decimal.{places, decimal, ended}
+use mathlib.Core.Path.{◌≡◌, refl}
+use mathlib.Core.List.{[], ◌∷◌}
+use Rattle.text.specs.Placed.{placed, ascii}
+use Rattle.text.specs.Decimal.{places, decimal, ended}
 
 bad : ascii "bad\n" ≡ 98 ∷ 97 ∷ 100 ∷ 10 ∷ []
 bad = refl
@@ -23,6 +23,6 @@ largest : decimal 18446744073709551615 ≡ ascii "18446744073709551615"
 unfolding decimal places
 largest = refl
 
-in-the-middle : placed (ascii "0123456789") 3 (ended 65000 32) ≡ ascii "01265000 9"
+in_the_middle : placed (ascii "0123456789") 3 (ended 65000 32) ≡ ascii "01265000 9"
 unfolding placed decimal places
-in-the-middle = refl
+in_the_middle = refl

@@ -1,11 +1,9 @@
 -- No claim rests on this file: it serves the code.
 -- Text in a buffer: from a place on it is the text, and everything else is as it was.
-use Prim.Native.Nat.{ℕ}
-use mathlib.Core.List.{List, [], _∷_}
+use Rattle.std.specs.Prelude.{ℕ, List, [], ◌∷◌, length}
 use Prim.Native.Char.{code}
 use Prim.Native.String as Quoted
-use lib.ListN.{length}
-use Rattle·lists.specs.Arranged.{replaced}
+use Rattle.lists.specs.Arranged.{replaced}
 
 unfoldable pub placed : List ℕ → ℕ → List ℕ → List ℕ
 placed out at s = replaced out at (length s) s
@@ -13,4 +11,4 @@ placed out at s = replaced out at (length s) s
 -- a quoted text as bytes, one a character
 abbrev pub ascii : Quoted.String → List ℕ
 ascii Quoted.[] = []
-ascii (Quoted._∷_ c s) = code c ∷ ascii s
+ascii (Quoted.◌∷◌ c s) = code c ∷ ascii s

@@ -1,12 +1,10 @@
 // Bytes put into a buffer from a place on; the answer is the place behind them.
-ghost use mathlib.Core.Path.{_≡_};
-ghost use Prim.Native.Nat.{_+_, _≤_};
-ghost use lib.ListN.{length};
-ghost use Rattle·text·specs.specs.Placed.{placed};
+ghost use Rattle.std.specs.Prelude.{◌≡◌, ◌+◌, ◌≤◌, length};
+ghost use Rattle.text.specs.Placed.{placed};
 
 pub fn put(out: &mut [u8], at: usize, s: &[u8]) -> usize
-    requires { ⌜ at + length (now s) ≤ length (now out) ⌝ }
-    ensures { λ r. ⌜ (r ≡ at + length (now (s .entry))) × (now (out .exit) ≡ placed (now (out .entry)) at (now (s .entry))) ⌝ }
+    requires { at + length s.now ≤ length out.old }
+    ensures { (result ≡ at + length s.now) × (out.new ≡ placed out.old at s.now) }
 {
     let mut i = 0;
     while i < s.len() {

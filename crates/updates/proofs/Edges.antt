@@ -1,16 +1,15 @@
 -- Every row of 01's edges of one bib holds, by computing the table; so does what a query tells of each standing.
-use mathlib.Core.Path.{_≡_, refl}
-use mathlib.Core.List.{[], _∷_}
-use Rattle·updates·specs.specs.Effect.{earliest, penalized, effect, stateOf, valueIn}
-use Rattle·updates·specs.specs.Applied.{applied}
-use Rattle·updates·specs.specs.Edges.{edges, computed, expected, shown}
-use Rattle·updates·specs.specs.declared.standing.Standing.the-variants.{Struck, At}
-use Rattle·updates·specs.specs.declared.standing.State.the-variants as state
+use Rattle.std.proofs.Common.{◌≡◌, [], ◌∷◌, refl}
+use Rattle.updates.specs.Effect.{earliest, penalized, effect, state_of, value_in}
+use Rattle.updates.specs.Applied.{applied}
+use Rattle.updates.specs.Edges.{edges, computed, expected, shown}
+use Rattle.updates.specs.declared.standing.Standing.TheVariants.{Struck, At}
+use Rattle.updates.specs.declared.standing.State.TheVariants as state
 
-pub edges-hold : computed edges ≡ expected edges
+pub edges_hold : computed edges ≡ expected edges
 unfolding applied effect earliest penalized
-edges-hold = refl
+edges_hold = refl
 
-states-shown : shown (Struck ∷ At 0 ∷ At 9 ∷ []) ≡ (state.Struck, 0) ∷ (state.Neither, 0) ∷ (state.Timed, 9) ∷ []
-unfolding stateOf valueIn
-states-shown = refl
+states_shown : shown (Struck ∷ At 0 ∷ At 9 ∷ []) ≡ (state.Struck, 0) ∷ (state.Neither, 0) ∷ (state.Timed, 9) ∷ []
+unfolding state_of value_in
+states_shown = refl

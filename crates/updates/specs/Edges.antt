@@ -1,13 +1,12 @@
 -- 01, "Edges of a race day": those that speak of one bib alone, as one table of updates with the standing they give; and 02, U2 and U3.
-use Prim.Native.Nat.{ℕ}
-use mathlib.Core.List.{List, [], _∷_}
-use Rattle·updates·specs.specs.Applied.{Update, applied, freshStanding}
-use Rattle·updates·specs.specs.Effect.{stateOf, valueIn}
-use Rattle·updates·specs.specs.declared.standing.Standing.{Standing}
-use Rattle·updates·specs.specs.declared.standing.Standing.the-variants.{Struck, At}
-use Rattle·updates·specs.specs.declared.standing.State.{State}
-use Rattle·updates·specs.specs.declared.kind.Kind.{Kind}
-use Rattle·updates·specs.specs.declared.kind.Kind.the-variants.{Time, Earliest, Penalty, Strike}
+use Rattle.std.specs.Prelude.{ℕ, List, [], ◌∷◌}
+use Rattle.updates.specs.Applied.{Update, applied, fresh_standing}
+use Rattle.updates.specs.Effect.{state_of, value_in}
+use Rattle.updates.specs.declared.standing.Standing.{Standing}
+use Rattle.updates.specs.declared.standing.Standing.TheVariants.{Struck, At}
+use Rattle.updates.specs.declared.standing.State.{State}
+use Rattle.updates.specs.declared.kind.Kind.{Kind}
+use Rattle.updates.specs.declared.kind.Kind.TheVariants.{Time, Earliest, Penalty, Strike}
 
 pub record Edge : Type 0 where
   pub updates : List Update
@@ -47,13 +46,13 @@ edges =
 
 abbrev pub computed : List Edge → List Standing
 computed [] = []
-computed (e ∷ es) = applied (e .updates) freshStanding ∷ computed es
+computed (e ∷ es) = applied e.updates fresh_standing ∷ computed es
 
 abbrev pub expected : List Edge → List Standing
 expected [] = []
-expected (e ∷ es) = e .standing ∷ expected es
+expected (e ∷ es) = e.standing ∷ expected es
 
 -- what a query tells of each standing: its state and its value
 abbrev pub shown : List Standing → List (State × ℕ)
 shown [] = []
-shown (s ∷ ss) = (stateOf s, valueIn s) ∷ shown ss
+shown (s ∷ ss) = (state_of s, value_in s) ∷ shown ss

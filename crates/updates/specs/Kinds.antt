@@ -1,40 +1,38 @@
 -- The numbers of the four kinds of update, 01, "Updates (each total)"; and code 5, "bib above 999, or update kind not 1 to 4".
-use Prim.Native.Nat.{ℕ}
-use mathlib.Core.Bool.{Bool, true, false, cond, not}
-use lib.Dec.{eqb, ltb}
-use Rattle·updates·specs.specs.declared.kind.Kind.{Kind}
-use Rattle·updates·specs.specs.declared.kind.Kind.the-variants.{Time, Earliest, Penalty, Strike}
-use Rattle·updates·specs.specs.declared.kind.KindCheck.{KindCheck}
-use Rattle·updates·specs.specs.declared.kind.KindCheck.the-variants.{Known, Unknown}
+use Rattle.std.specs.Prelude.{ℕ, Bool, true, false, cond, not, ◌==◌, nat_lt}
+use Rattle.updates.specs.declared.kind.Kind.{Kind}
+use Rattle.updates.specs.declared.kind.Kind.TheVariants.{Time, Earliest, Penalty, Strike}
+use Rattle.updates.specs.declared.kind.KindCheck.{KindCheck}
+use Rattle.updates.specs.declared.kind.KindCheck.TheVariants.{Known, Unknown}
 
 -- "1. Time", "2. Earliest", "3. Penalty", "4. Strike"
-unfoldable pub kindNumber : Kind → ℕ
-kindNumber Time = 1
-kindNumber Earliest = 2
-kindNumber Penalty = 3
-kindNumber Strike = 4
+unfoldable pub kind_number : Kind → ℕ
+kind_number Time = 1
+kind_number Earliest = 2
+kind_number Penalty = 3
+kind_number Strike = 4
 
 -- the kind whose number the byte is, if there is one
-unfoldable pub kindCheck : ℕ → KindCheck
-kindCheck n =
-    cond (eqb n 1) (Known Time)
-    (cond (eqb n 2) (Known Earliest) (cond (eqb n 3) (Known Penalty) (cond (eqb n 4) (Known Strike) Unknown)))
+unfoldable pub kind_check : ℕ → KindCheck
+kind_check n =
+    cond (n == 1) (Known Time)
+    (cond (n == 2) (Known Earliest) (cond (n == 3) (Known Penalty) (cond (n == 4) (Known Strike) Unknown)))
 
 -- "bib above 999"
-abbrev pub badBib : ℕ → Bool
-badBib bib = not (ltb bib 1000)
+abbrev pub bad_bib : ℕ → Bool
+bad_bib bib = not (nat_lt bib 1000)
 
 -- "update kind not 1 to 4"; and the kind that a byte names, which no call asks where it names none
-abbrev pub isUnknown : KindCheck → Bool
-isUnknown Unknown = true
-isUnknown (Known kind) = false
+abbrev pub is_unknown : KindCheck → Bool
+is_unknown Unknown = true
+is_unknown (Known kind) = false
 
-abbrev pub badKind : ℕ → Bool
-badKind k = isUnknown (kindCheck k)
+abbrev pub bad_kind : ℕ → Bool
+bad_kind k = is_unknown (kind_check k)
 
-abbrev pub kindIn : KindCheck → Kind
-kindIn Unknown = Time
-kindIn (Known kind) = kind
+abbrev pub kind_in : KindCheck → Kind
+kind_in Unknown = Time
+kind_in (Known kind) = kind
 
-abbrev pub kindOf : ℕ → Kind
-kindOf k = kindIn (kindCheck k)
+abbrev pub kind_of : ℕ → Kind
+kind_of k = kind_in (kind_check k)

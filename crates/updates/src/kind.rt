@@ -1,8 +1,9 @@
 // The four kinds of update, and the range check by which alone a kind byte becomes one.
-ghost use mathlib.Core.Path.{_≡_};
-ghost use Rattle·updates·specs.specs.Absolute.{absolute};
-ghost use Rattle·updates·specs.specs.Kinds.{kindNumber, kindCheck};
+ghost use Rattle.std.specs.Prelude.{◌≡◌};
+ghost use Rattle.updates.specs.Absolute.{absolute};
+ghost use Rattle.updates.specs.Kinds.{kind_number, kind_check};
 
+#[derive(Clone, Copy)]
 pub enum Kind {
     Time,
     Earliest,
@@ -11,6 +12,7 @@ pub enum Kind {
 }
 
 // What the range check of a kind byte finds.
+#[derive(Drop)]
 pub enum KindCheck {
     Known(Kind),
     Unknown,
@@ -18,7 +20,7 @@ pub enum KindCheck {
 
 // The kind that a byte names; 01 numbers them 1 to 4.
 pub fn check_kind(byte: u8) -> KindCheck
-    ensures { λ r. ⌜ r ≡ kindCheck byte ⌝ }
+    ensures { result ≡ kind_check byte }
 {
     match byte {
         1 => KindCheck::Known(Kind::Time),
@@ -31,7 +33,7 @@ pub fn check_kind(byte: u8) -> KindCheck
 
 // The byte that names a kind.
 pub fn number(kind: Kind) -> u8
-    ensures { λ r. ⌜ r ≡ kindNumber kind ⌝ }
+    ensures { result ≡ kind_number kind }
 {
     match kind {
         Kind::Time => 1,
@@ -43,7 +45,7 @@ pub fn number(kind: Kind) -> u8
 
 // Whether the effect is the same whatever stood before, so that no update before this one counts.
 pub fn is_absolute(kind: Kind) -> bool
-    ensures { λ r. ⌜ r ≡ absolute kind ⌝ }
+    ensures { result ≡ absolute kind }
 {
     match kind {
         Kind::Time => true,

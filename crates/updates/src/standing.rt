@@ -1,17 +1,20 @@
 // A bib's standing (02, U2), and what one update makes of it: the four effects, each total.
-ghost use mathlib.Core.Path.{_≡_};
-ghost use Rattle·updates·specs.specs.Effect.{effect};
-ghost use Rattle·updates·specs.specs.declared.kind.Kind.the-variants.{Earliest, Penalty};
+ghost use Rattle.std.specs.Prelude.{◌≡◌};
+ghost use Rattle.updates.specs.Effect.{effect};
+ghost use Rattle.updates.specs.declared.kind.Kind.TheVariants.{Earliest, Penalty};
+
 use crate::kind::Kind;
 use crate::value;
 
 // Struck, or else a value.
+#[derive(Drop)]
 pub enum Standing {
     Struck,
     At(u32),
 }
 
 // What a query tells of a standing beside its value.
+#[derive(Drop)]
 pub enum State {
     Neither,
     Timed,
@@ -19,7 +22,7 @@ pub enum State {
 }
 
 fn earliest(v: u32, standing: Standing) -> Standing
-    ensures { λ r. ⌜ r ≡ effect Earliest v standing ⌝ }
+    ensures { result ≡ effect Earliest v standing }
 {
     match standing {
         Standing::Struck => Standing::Struck,
@@ -28,7 +31,7 @@ fn earliest(v: u32, standing: Standing) -> Standing
 }
 
 fn penalty(v: u32, standing: Standing) -> Standing
-    ensures { λ r. ⌜ r ≡ effect Penalty v standing ⌝ }
+    ensures { result ≡ effect Penalty v standing }
 {
     match standing {
         Standing::Struck => Standing::Struck,
@@ -38,7 +41,7 @@ fn penalty(v: u32, standing: Standing) -> Standing
 
 // The standing after one update.
 pub fn apply(kind: Kind, v: u32, standing: Standing) -> Standing
-    ensures { λ r. ⌜ r ≡ effect kind v standing ⌝ }
+    ensures { result ≡ effect kind v standing }
 {
     match kind {
         Kind::Time => Standing::At(v),

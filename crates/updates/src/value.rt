@@ -1,10 +1,10 @@
 // The earlier of two times, and a time with a penalty.
-ghost use mathlib.Core.Path.{_≡_};
-ghost use Rattle·updates·specs.specs.Effect.{earliest, penalized};
+ghost use Rattle.std.specs.Prelude.{◌≡◌};
+ghost use Rattle.updates.specs.Effect.{earliest, penalized};
 
 // 0 is no time. The cases stand as on a rule sheet.
 pub fn earlier(value: u32, v: u32) -> u32
-    ensures { λ r. ⌜ r ≡ earliest value v ⌝ }
+    ensures { result ≡ earliest value v }
 {
     if value == 0 && v == 0 {
         // neither
@@ -27,7 +27,7 @@ pub fn earlier(value: u32, v: u32) -> u32
 
 // A penalty belongs to a finish: without a time it has no effect.
 pub fn penalty(value: u32, v: u32) -> u32
-    ensures { λ r. ⌜ r ≡ penalized value v ⌝ }
+    ensures { result ≡ penalized value v }
 {
     if value == 0 {
         return 0;

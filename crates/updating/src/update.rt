@@ -1,53 +1,38 @@
 // The call update: an update of a bib at a revision, of a table alone or of one that shares its log (02, U12).
-ghost use mathlib.Core.Bool.{true};
-ghost use mathlib.Core.List.{_++_};
-ghost use mathlib.Core.Path.{_≡_};
-ghost use Prim.Native.Nat.{_<_};
-ghost use lib.ListN.{length};
-ghost use Rattle·cells.specs.Sizes as Lower;
-ghost use Rattle·cells.specs.Sizes.{clients, revisions, updates};
-ghost use Rattle·cells.specs.Range.{inRange};
-ghost use Rattle·cells.specs.Steps.{updateBytes};
-ghost use Rattle·entries.specs.Sizes.{bibRange};
-ghost use Rattle·entries.specs.Stored.{entry};
-ghost use Rattle·entries.specs.Entries.{wrote};
-ghost use Rattle·table.specs.Halves.{cellsOf, high, isTable, low};
-ghost use Rattle·table.specs.Out.{tableBytes};
-ghost use Rattle·table.specs.Answers.{left};
-ghost use Rattle·table.specs.Calls.{updateOut};
-ghost use Rattle·table.specs.Shared.{above, updateShared};
-ghost use Rattle·updating·specs.specs.Checks.{updateCheck, updateCode, updateIn};
+ghost use Rattle.std.specs.Prelude.{true, ◌++◌, ◌≡◌, ◌<◌, length};
+ghost use Rattle.cells.specs.Sizes as Lower;
+ghost use Rattle.cells.specs.Sizes.{clients, revisions, updates};
+ghost use Rattle.cells.specs.Range.{in_range};
+ghost use Rattle.cells.specs.Steps.{update_bytes};
+ghost use Rattle.entries.specs.Sizes.{bib_range};
+ghost use Rattle.entries.specs.Stored.{entry};
+ghost use Rattle.entries.specs.Entries.{wrote};
+ghost use Rattle.table.specs.Halves.{cells_of, high, is_table, low};
+ghost use Rattle.table.specs.Out.{table_bytes};
+ghost use Rattle.table.specs.Answers.{left};
+ghost use Rattle.table.specs.Calls.{update_out};
+ghost use Rattle.table.specs.Shared.{above, update_shared};
+ghost use Rattle.updating.specs.Checks.{update_check, update_code, UpdateIn};
+
 use crate::room::check_room;
-use checks::busy::UseCheck;
-use checks::busy::check_use_by_other;
-use checks::client::ClientCheck;
-use checks::client::check_client;
-use checks::given::GivenCheck;
-use checks::given::check_given;
-use checks::joined::JoinedCheck;
-use checks::joined::check_joined;
-use checks::log::LogCheck;
-use checks::log::check_log;
-use checks::marked::MarkedCheck;
-use checks::marked::check_marked;
-use checks::open::OpenCheck;
-use checks::open::check_open;
-use checks::stale::StaleCheck;
-use checks::stale::check_stale;
-use sizes::numbers::Client;
-use sizes::numbers::Revision;
+use checks::busy::{UseCheck, check_use_by_other};
+use checks::client::{ClientCheck, check_client};
+use checks::given::{GivenCheck, check_given};
+use checks::joined::{JoinedCheck, check_joined};
+use checks::log::{LogCheck, check_log};
+use checks::marked::{MarkedCheck, check_marked};
+use checks::open::{OpenCheck, check_open};
+use checks::stale::{StaleCheck, check_stale};
+use sizes::numbers::{Client, Revision};
 use sizes::table::Table;
 use table::answer::Answer;
-use table::bib::BibCheck;
-use table::bib::check_bib;
-use table::counts;
-use table::sound;
+use table::bib::{BibCheck, check_bib};
 use table::sound::TableCheck;
-use updates::kind::Kind;
-use updates::kind::KindCheck;
-use updates::kind::check_kind;
+use table::{counts, sound};
+use updates::kind::{Kind, KindCheck, check_kind};
 
 // What checks 2 to 9, and 16 after 4, find.
+#[derive(Drop)]
 pub enum UpdateCheck {
     Allowed(Client, Revision, Kind),
     Refused(u8),
@@ -56,7 +41,7 @@ pub enum UpdateCheck {
 impl UpdateCheck {
     // The code of the check that ends the call; 0 where none does.
     pub fn code(self) -> u8
-        ensures { λ k. ⌜ k ≡ updateCode self ⌝ }
+        ensures { result ≡ update_code self }
     {
         let UpdateCheck::Refused(code) = self else {
             return 0;
@@ -67,8 +52,8 @@ impl UpdateCheck {
 
 // Checks 2 to 9, and 16 after 4, on the lower half.
 fn check_lower(d: &[u8], client: u8, revision: u8, kind: u8, bib: u16) -> UpdateCheck
-    requires { ⌜ length (now d) ≡ Lower.lowerBytes ⌝ }
-    ensures { λ a. ⌜ (a ≡ updateCheck (now (d .entry)) client revision kind bib) × updateIn (now (d .entry)) bib a ⌝ }
+    requires { length d.now ≡ Lower.lower_bytes }
+    ensures { (result ≡ update_check d.now client revision kind bib) × UpdateIn d.now bib result }
 {
     let ClientCheck::Known(c) = check_client(client) else {
         return UpdateCheck::Refused(2);
@@ -105,24 +90,24 @@ fn check_lower(d: &[u8], client: u8, revision: u8, kind: u8, bib: u16) -> Update
 
 // The same of a whole table.
 pub fn check_update(t: &[u8], client: u8, revision: u8, kind: u8, bib: u16) -> UpdateCheck
-    requires { ⌜ length (now t) ≡ tableBytes ⌝ }
-    ensures { λ a. ⌜ (a ≡ updateCheck (low (now (t .entry))) client revision kind bib) × updateIn (low (now (t .entry))) bib a ⌝ }
+    requires { length t.now ≡ table_bytes }
+    ensures { (result ≡ update_check (low t.now) client revision kind bib) × UpdateIn (low t.now) bib result }
 {
     check_lower(&t[0..Table::LOWER], client, revision, kind, bib)
 }
 
 // The update is r's last event; its number is the answer.
 fn append(t: &mut [u8], c: Client, r: Revision) -> usize
-    requires { ⌜ (length (now t) ≡ tableBytes) × (inRange (low (now t)) ≡ true) × (c .0 < clients) × (r .0 < revisions) × (cellsOf (now t) .updates < updates) ⌝ }
-    ensures { λ u. ⌜ (u ≡ cellsOf (now (t .entry)) .updates) × (now (t .exit) ≡ updateBytes (low (now (t .entry))) (c .0) (r .0) ++ high (now (t .entry))) ⌝ }
+    requires { (length t.old ≡ table_bytes) × (in_range (low t.old) ≡ true) × (c.0 < clients) × (r.0 < revisions) × ((cells_of t.old).updates < updates) }
+    ensures { (result ≡ (cells_of t.old).updates) × (t.new ≡ update_bytes (low t.old) c.0 r.0 ++ high t.old) }
 {
     events::record::update(&mut t[0..Table::LOWER], c, r)
 }
 
 // Entry n is stored.
 fn store(t: &mut [u8], n: usize, kind: Kind, c: Client, bib: u16, v: u32)
-    requires { ⌜ (length (now t) ≡ tableBytes) × (n < updates) × (c .0 < clients) × (bib < bibRange) ⌝ }
-    ensures { λ _. ⌜ now (t .exit) ≡ low (now (t .entry)) ++ wrote (high (now (t .entry))) n (entry kind (c .0) bib v) ⌝ }
+    requires { (length t.old ≡ table_bytes) × (n < updates) × (c.0 < clients) × (bib < bib_range) }
+    ensures { t.new ≡ low t.old ++ wrote (high t.old) n (entry kind c.0 bib v) }
 {
     entries::write::write(
         &mut t[Table::LOWER..Table::BYTES],
@@ -136,8 +121,8 @@ fn store(t: &mut [u8], n: usize, kind: Kind, c: Client, bib: u16, v: u32)
 
 // Both, for the update that the checks allow.
 pub fn put(t: &mut [u8], c: Client, r: Revision, kind: Kind, bib: u16, v: u32) -> u32
-    requires { ⌜ (length (now t) ≡ tableBytes) × (inRange (low (now t)) ≡ true) × (c .0 < clients) × (r .0 < revisions) × (cellsOf (now t) .updates < updates) × (bib < bibRange) ⌝ }
-    ensures { λ u. ⌜ (u ≡ cellsOf (now (t .entry)) .updates) × (now (t .exit) ≡ updateBytes (low (now (t .entry))) (c .0) (r .0) ++ wrote (high (now (t .entry))) (cellsOf (now (t .entry)) .updates) (entry kind (c .0) bib v)) ⌝ }
+    requires { (length t.old ≡ table_bytes) × (in_range (low t.old) ≡ true) × (c.0 < clients) × (r.0 < revisions) × ((cells_of t.old).updates < updates) × (bib < bib_range) }
+    ensures { (result ≡ (cells_of t.old).updates) × (t.new ≡ update_bytes (low t.old) c.0 r.0 ++ wrote (high t.old) (cells_of t.old).updates (entry kind c.0 bib v)) }
 {
     let u = append(t, c, r);
     store(t, u, kind, c, bib, v);
@@ -154,8 +139,8 @@ fn update_sound(
     bib: u16,
     v: u32,
 ) -> Answer
-    requires { ⌜ (isTable (now t) ≡ true) × (length (now t) ≡ tableBytes) × (inRange (low (now t)) ≡ true) ⌝ }
-    ensures { λ a. ⌜ left a (now (t .exit)) ≡ updateShared (above most) (now (t .entry)) client revision kind bib v ⌝ }
+    requires { (is_table t.old ≡ true) × (length t.old ≡ table_bytes) × (in_range (low t.old) ≡ true) }
+    ensures { left result t.new ≡ update_shared (above most) t.old client revision kind bib v }
 {
     let found = check_update(t, client, revision, kind, bib);
     let UpdateCheck::Allowed(c, r, k) = found else {
@@ -182,7 +167,7 @@ pub fn update_within(
     bib: u16,
     v: u32,
 ) -> Answer
-    ensures { λ a. ⌜ left a (now (t .exit)) ≡ updateShared (above most) (now (t .entry)) client revision kind bib v ⌝ }
+    ensures { left result t.new ≡ update_shared (above most) t.old client revision kind bib v }
 {
     let TableCheck::Sound = sound::check_table(t) else {
         return Answer { code: 1, value: 0 };
@@ -192,7 +177,7 @@ pub fn update_within(
 
 // The call on a table alone.
 pub fn update(t: &mut [u8], client: u8, revision: u8, kind: u8, bib: u16, v: u32) -> Answer
-    ensures { λ a. ⌜ left a (now (t .exit)) ≡ updateOut (now (t .entry)) client revision kind bib v ⌝ }
+    ensures { left result t.new ≡ update_out t.old client revision kind bib v }
 {
     update_within(t, Table::UPDATES, client, revision, kind, bib, v)
 }

@@ -1,34 +1,30 @@
 // A yield on bytes that are a table: a client's open transaction, if any, is closed. The call, with its board, stands above (crate announcing).
-ghost use mathlib.Core.Bool.{true};
-ghost use mathlib.Core.Path.{_≡_};
-ghost use mathlib.Core.List.{_++_};
-ghost use Prim.Native.Nat.{_<_};
-ghost use lib.ListN.{length};
-ghost use Rattle·cells.specs.Sizes.{clients};
-ghost use Rattle·cells.specs.Steps.{closeBytes};
-ghost use Rattle·boards.specs.Board.{boardBytes};
-ghost use Rattle·table.specs.Halves.{high, isTable, low};
-ghost use Rattle·table.specs.Out.{tableBytes};
-ghost use Rattle·table.specs.Answers.{left};
-ghost use Rattle·table.specs.Calls.{yieldOut};
-use checks::client::ClientCheck;
-use checks::client::check_client;
+ghost use Rattle.std.specs.Prelude.{true, ◌≡◌, ◌++◌, ◌<◌, length};
+ghost use Rattle.cells.specs.Sizes.{clients};
+ghost use Rattle.cells.specs.Steps.{close_bytes};
+ghost use Rattle.boards.specs.Board.{board_bytes};
+ghost use Rattle.table.specs.Halves.{high, is_table, low};
+ghost use Rattle.table.specs.Out.{table_bytes};
+ghost use Rattle.table.specs.Answers.{left};
+ghost use Rattle.table.specs.Calls.{yield_out};
+
+use checks::client::{ClientCheck, check_client};
 use events::transactions;
 use sizes::numbers::Client;
 use sizes::table::Table;
 use table::answer::Answer;
 
 pub fn close(t: &mut [u8], c: Client)
-    requires { ⌜ (length (now t) ≡ tableBytes) × (c .0 < clients) ⌝ }
-    ensures { λ _. ⌜ now (t .exit) ≡ closeBytes (low (now (t .entry))) (c .0) ++ high (now (t .entry)) ⌝ }
+    requires { (length t.old ≡ table_bytes) × (c.0 < clients) }
+    ensures { t.new ≡ close_bytes (low t.old) c.0 ++ high t.old }
 {
     transactions::close(&mut t[0..Table::LOWER], c);
 }
 
 // The call on bytes that are a table, with a board of the right length.
 pub fn yield_sound(t: &mut [u8], client: u8) -> Answer
-    requires { ⌜ (isTable (now t) ≡ true) × (length (now t) ≡ tableBytes) ⌝ }
-    ensures { λ a. ⌜ left a (now (t .exit)) ≡ yieldOut (now (t .entry)) client boardBytes ⌝ }
+    requires { (is_table t.old ≡ true) × (length t.old ≡ table_bytes) }
+    ensures { left result t.new ≡ yield_out t.old client board_bytes }
 {
     let ClientCheck::Known(c) = check_client(client) else {
         return Answer { code: 2, value: 0 };

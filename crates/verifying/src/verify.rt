@@ -1,37 +1,30 @@
 // The call verify (02, U13): whether an order of updates from another maker fits the table. Table and file are only read.
-ghost use mathlib.Core.Bool.{not, true};
-ghost use mathlib.Core.Path.{_≡_};
-ghost use Prim.Native.Nat.{_<_};
-ghost use lib.ListN.{length, replicate};
-ghost use Rattle·cells.specs.Sizes.{revisions, updates};
-ghost use Rattle·cells.specs.Order.{order};
-ghost use Rattle·cells.specs.Range.{inRange};
-ghost use Rattle·orderfile.specs.File.{numbersOf};
-ghost use Rattle·orderfile.specs.Test.{inOrder, rises, wrong};
-ghost use Rattle·orderfile.specs.Checks.{placeAt};
-ghost use Rattle·table.specs.Halves.{cellsOf, isTable, low};
-ghost use Rattle·table.specs.Out.{tableBytes};
-ghost use Rattle·table.specs.Calls.{fitsTable, isOut, verdict, verifyOut};
-use checks::given::GivenCheck;
-use checks::given::check_given;
-use checks::joined::JoinedCheck;
-use checks::joined::check_joined;
-use orderfile::file::ListCheck;
-use orderfile::file::check_list;
-use orderfile::places::count;
-use orderfile::places::place_all;
+ghost use Rattle.std.specs.Prelude.{not, true, ◌≡◌, ◌<◌, length, replicate};
+ghost use Rattle.cells.specs.Sizes.{revisions, updates};
+ghost use Rattle.cells.specs.Order.{order};
+ghost use Rattle.cells.specs.Range.{in_range};
+ghost use Rattle.orderfile.specs.File.{numbers_of};
+ghost use Rattle.orderfile.specs.Test.{in_order, rises, wrong};
+ghost use Rattle.orderfile.specs.Checks.{place_at};
+ghost use Rattle.table.specs.Halves.{cells_of, is_table, low};
+ghost use Rattle.table.specs.Out.{table_bytes};
+ghost use Rattle.table.specs.Calls.{fits_table, is_out, verdict, verify_out};
+
+use checks::given::{GivenCheck, check_given};
+use checks::joined::{JoinedCheck, check_joined};
+use orderfile::file::{ListCheck, check_list};
+use orderfile::places::{count, place_all};
 use orderfile::rising::rise;
 use sizes::numbers::Revision;
 use sizes::table::Table;
 use table::answer::Answer;
-use table::counts;
-use table::sound;
 use table::sound::TableCheck;
 use table::visible::visible;
+use table::{counts, sound};
 
 // A code with yes or no.
 fn answer(code: u8, agrees: bool) -> Answer
-    ensures { λ a. ⌜ a ≡ verdict code agrees ⌝ }
+    ensures { result ≡ verdict code agrees }
 {
     if agrees {
         return Answer { code, value: 1 };
@@ -41,15 +34,15 @@ fn answer(code: u8, agrees: bool) -> Answer
 
 // No update has a place yet.
 fn no_places() -> [u16; Table::UPDATES]
-    ensures { λ r. ⌜ r ≡ replicate updates 0 ⌝ }
+    ensures { result ≡ replicate updates 0 }
 {
     [0; Table::UPDATES]
 }
 
 // Whether the updates visible at r stand in order. `list` is room for them.
 fn in_order(t: &[u8], r: Revision, places: &[u16], list: &mut [u16]) -> bool
-    requires { ⌜ (length (now t) ≡ tableBytes) × (inRange (low (now t)) ≡ true) × (r .0 < revisions) × (length (now list) ≡ updates) ⌝ }
-    ensures { λ x. ⌜ x ≡ rises (placeAt (now (places .entry))) 0 (order (cellsOf (now (t .entry))) (r .0)) ⌝ }
+    requires { (length t.now ≡ table_bytes) × (in_range (low t.now) ≡ true) × (r.0 < revisions) × (length list.old ≡ updates) }
+    ensures { result ≡ rises (place_at places.now) 0 (order (cells_of t.now) r.0) }
 {
     let m = visible(t, r, list);
     rise(places, &list[..m])
@@ -57,8 +50,8 @@ fn in_order(t: &[u8], r: Revision, places: &[u16], list: &mut [u16]) -> bool
 
 // Of number n, if a revision that is out bears it, busy or not.
 fn stands(t: &[u8], n: u8, places: &[u16], list: &mut [u16]) -> bool
-    requires { ⌜ (length (now t) ≡ tableBytes) × (inRange (low (now t)) ≡ true) × (length (now list) ≡ updates) ⌝ }
-    ensures { λ x. ⌜ x ≡ not (wrong (isOut (cellsOf (now (t .entry)))) (order (cellsOf (now (t .entry)))) (placeAt (now (places .entry))) n) ⌝ }
+    requires { (length t.now ≡ table_bytes) × (in_range (low t.now) ≡ true) × (length list.old ≡ updates) }
+    ensures { result ≡ not (wrong (is_out (cells_of t.now)) (order (cells_of t.now)) (place_at places.now) n) }
 {
     let GivenCheck::Given(r) = check_given(&t[0..Table::LOWER], n) else {
         return true;
@@ -71,8 +64,8 @@ fn stands(t: &[u8], n: u8, places: &[u16], list: &mut [u16]) -> bool
 
 // Of every number.
 fn all_stand(t: &[u8], places: &[u16]) -> bool
-    requires { ⌜ (length (now t) ≡ tableBytes) × (inRange (low (now t)) ≡ true) ⌝ }
-    ensures { λ r. ⌜ r ≡ inOrder revisions (isOut (cellsOf (now (t .entry)))) (order (cellsOf (now (t .entry)))) (placeAt (now (places .entry))) ⌝ }
+    requires { (length t.now ≡ table_bytes) × (in_range (low t.now) ≡ true) }
+    ensures { result ≡ in_order revisions (is_out (cells_of t.now)) (order (cells_of t.now)) (place_at places.now) }
 {
     let mut list = order::links::room();
     let mut n: u8 = 0;
@@ -87,8 +80,8 @@ fn all_stand(t: &[u8], places: &[u16]) -> bool
 
 // As many numbers as updates were taken: each once and no other, and every revision that is out in order.
 fn fits_as_many(t: &[u8], numbers: &[u8], taken: usize) -> bool
-    requires { ⌜ (length (now t) ≡ tableBytes) × (inRange (low (now t)) ≡ true) × (length (numbersOf (now numbers)) ≡ taken) × (taken ≡ cellsOf (now t) .updates) ⌝ }
-    ensures { λ r. ⌜ r ≡ fitsTable (cellsOf (now (t .entry))) (numbersOf (now (numbers .entry))) ⌝ }
+    requires { (length t.now ≡ table_bytes) × (in_range (low t.now) ≡ true) × (length (numbers_of numbers.now) ≡ taken) × (taken ≡ (cells_of t.now).updates) }
+    ensures { result ≡ fits_table (cells_of t.now) (numbers_of numbers.now) }
 {
     let mut places = no_places();
     if !place_all(numbers, taken, &mut places) {
@@ -99,8 +92,8 @@ fn fits_as_many(t: &[u8], numbers: &[u8], taken: usize) -> bool
 
 // The numbers of a file, on a table. Another count ends it before anything is made.
 fn fits(t: &[u8], numbers: &[u8]) -> bool
-    requires { ⌜ (length (now t) ≡ tableBytes) × (inRange (low (now t)) ≡ true) ⌝ }
-    ensures { λ r. ⌜ r ≡ fitsTable (cellsOf (now (t .entry))) (numbersOf (now (numbers .entry))) ⌝ }
+    requires { (length t.now ≡ table_bytes) × (in_range (low t.now) ≡ true) }
+    ensures { result ≡ fits_table (cells_of t.now) (numbers_of numbers.now) }
 {
     let taken = counts::taken(t);
     if count(numbers) != taken {
@@ -111,8 +104,8 @@ fn fits(t: &[u8], numbers: &[u8]) -> bool
 
 // The call on bytes that are a table.
 fn verify_sound(t: &[u8], file: &[u8]) -> Answer
-    requires { ⌜ (isTable (now t) ≡ true) × (length (now t) ≡ tableBytes) × (inRange (low (now t)) ≡ true) ⌝ }
-    ensures { λ a. ⌜ a ≡ verifyOut (now (t .entry)) (now (file .entry)) ⌝ }
+    requires { (is_table t.now ≡ true) × (length t.now ≡ table_bytes) × (in_range (low t.now) ≡ true) }
+    ensures { result ≡ verify_out t.now file.now }
 {
     let ListCheck::Good(from) = check_list(file) else {
         return answer(21, false);
@@ -121,7 +114,7 @@ fn verify_sound(t: &[u8], file: &[u8]) -> Answer
 }
 
 pub fn verify(t: &[u8], file: &[u8]) -> Answer
-    ensures { λ a. ⌜ a ≡ verifyOut (now (t .entry)) (now (file .entry)) ⌝ }
+    ensures { result ≡ verify_out t.now file.now }
 {
     let TableCheck::Sound = sound::check_table(t) else {
         return answer(1, false);

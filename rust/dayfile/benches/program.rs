@@ -1,7 +1,7 @@
 //! The longest day file through two programs that print the same: the proved `day`, and `dayfile
 //! print`, which is plain Rust. They take turns; the fastest run of each counts.
 //!
-//!     rt check day
+//!     bash tools/build
 //!     cargo bench --offline --manifest-path rust/Cargo.toml -p dayfile
 
 use std::fs::File;
@@ -40,7 +40,7 @@ fn timed(mut command: Command, file: &Path) -> (Vec<u8>, Duration) {
 
 fn main() {
     let day = Path::new(env!("CARGO_MANIFEST_DIR")).join("../../target/bin/day");
-    assert!(day.is_file(), "{} is missing: run `rt check day`", day.display());
+    assert!(day.is_file(), "{} is missing: run `tools/build`", day.display());
     println!("{:30}{:>10}{:>10}{:>8}", "microseconds", "baseline", "proved", "ratio");
     for (name, queries) in [("5,460 steps", false), ("5,460 steps with 455 queries", true)] {
         let file = PathBuf::from(env!("CARGO_TARGET_TMPDIR")).join("longest.day");

@@ -1,51 +1,51 @@
 -- What a number means, as one search: the latest revision that bore it, if any did.
 use Prim.Native.Nat.{ℕ, suc, zero}
 use mathlib.Core.Bool.{cond, false≢true, true}
-use mathlib.Core.Logic.{_↔_}
-use mathlib.Core.Path.{_∙_, _≡_, ap, refl, sym}
+use mathlib.Core.Logic.{◌↔◌}
+use mathlib.Core.Path.{◌∙◌, ◌≡◌, ap, refl, sym}
 use mathlib.Core.Option.{Option, none, some}
 use lib.Dec.{eqb}
-use Rattle·lists.specs.Sums.{anyBelow, lastBelow}
-use Rattle·lists.proofs.Cases.{cases}
-use Rattle·diagram·specs.specs.Checks.{isSome}
-use Rattle·diagram·specs.specs.Day.{Day, Means, isGiven, meant}
+use Rattle.lists.specs.Sums.{any_below, last_below}
+use Rattle.lists.proofs.Cases.{cases}
+use Rattle.diagram.specs.Checks.{is_some}
+use Rattle.diagram.specs.Day.{Day, Means, is_given, meant}
 
 abbrev pub searched : (ℕ → ℕ) → ℕ → ℕ → Option ℕ
 searched of n zero = none
 searched of n (suc m) = cond (eqb (of m) n) (some m) (searched of n m)
 
 unfoldable pub found : Day → ℕ → Option ℕ
-found y n = searched (y .numbering .of) n (y .revisions)
+found y n = searched y.numbering.of n y.revisions
 
-abbrev pub orMain : Option ℕ → ℕ
-orMain none = 0
-orMain (some r) = r
+abbrev pub or_main : Option ℕ → ℕ
+or_main none = 0
+or_main (some r) = r
 
-any-searched : (of : ℕ → ℕ) (n m : ℕ) → anyBelow m (λ r. eqb (of r) n) ≡ isSome (searched of n m)
-unfolding anyBelow
-any-searched of n zero = refl
-any-searched of n (suc m) = cases (eqb (of m) n) (λ e. rw e) (λ e. rw e (any-searched of n m))
+any_searched : (of : ℕ → ℕ) (n m : ℕ) → any_below m (λ r. eqb (of r) n) ≡ is_some (searched of n m)
+unfolding any_below
+any_searched of n zero = refl
+any_searched of n (suc m) = cases (eqb (of m) n) (λ e. rw e) (λ e. rw e (any_searched of n m))
 
-last-searched : (of : ℕ → ℕ) (n m : ℕ) → lastBelow m (λ r. eqb (of r) n) ≡ orMain (searched of n m)
-last-searched of n zero = refl
-last-searched of n (suc m) = cases (eqb (of m) n) (λ e. rw e) (λ e. rw e (last-searched of n m))
+last_searched : (of : ℕ → ℕ) (n m : ℕ) → last_below m (λ r. eqb (of r) n) ≡ or_main (searched of n m)
+last_searched of n zero = refl
+last_searched of n (suc m) = cases (eqb (of m) n) (λ e. rw e) (λ e. rw e (last_searched of n m))
 
-some-is : (o : Option ℕ) → isSome o ≡ true → o ≡ some (orMain o)
-some-is none e = absurd (false≢true e)
-some-is (some r) e = refl
+some_is : (o : Option ℕ) → is_some o ≡ true → o ≡ some (or_main o)
+some_is none e = absurd (false≢true e)
+some_is (some r) e = refl
 
 module _ (y : Day) (n : ℕ) where
-  pub given-found : isGiven y n ≡ isSome (found y n)
-  unfolding isGiven found
-  given-found = any-searched (y .numbering .of) n (y .revisions)
+  pub given-found : is_given y n ≡ is_some (found y n)
+  unfolding is_given found
+  given-found = any_searched y.numbering.of n y.revisions
 
-  pub meant-found : meant y n ≡ orMain (found y n)
+  pub meant-found : meant y n ≡ or_main (found y n)
   unfolding meant found
-  meant-found = last-searched (y .numbering .of) n (y .revisions)
+  meant-found = last_searched y.numbering.of n y.revisions
 
   -- a number given out is found
-  pub is-found : isGiven y n ≡ true → found y n ≡ some (meant y n)
-  is-found e = some-is (found y n) (sym given-found ∙ e) ∙ ap some (sym meant-found)
+  pub is_found : is_given y n ≡ true → found y n ≡ some (meant y n)
+  is_found e = some_is (found y n) (sym given-found ∙ e) ∙ ap some (sym meant-found)
 
   pub found-means : (r : ℕ) → (found y n ≡ some r) ↔ Means y n r
-  found-means r = (λ e. (given-found ∙ ap isSome e, meant-found ∙ ap orMain e), λ (g, e). is-found g ∙ ap some e)
+  found-means r = (λ e. (given-found ∙ ap is_some e, meant-found ∙ ap or_main e), λ (g, e). is_found g ∙ ap some e)

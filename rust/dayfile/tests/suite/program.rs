@@ -16,7 +16,7 @@ fn printed(bytes: &[u8]) -> String {
     let program = Path::new(env!("CARGO_MANIFEST_DIR")).join("../../target/bin/day");
     assert!(
         program.is_file(),
-        "{} is missing: run `rt check day` in the repository's folder",
+        "{} is missing: run `tools/build` in the repository's folder",
         program.display()
     );
     String::from_utf8(run::output(&mut Command::new(program), bytes)).unwrap()

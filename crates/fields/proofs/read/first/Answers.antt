@@ -1,0 +1,8 @@
+-- `fields::read::first` meets its contract: the part is read in its place. Assumes nothing.
+use Rattle.cells.specs.Decode.{cells}
+use Rattle.cells.specs.Parts.{offset, size, split}
+use Rattle.fields.proofs.read.first.Goals as goal
+
+pub returns : goal.returns
+unfolding cells offset size split
+returns c = rw c.wide.ensures.0 at c.word_at.ensures

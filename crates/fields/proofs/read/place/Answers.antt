@@ -1,0 +1,8 @@
+-- `fields::read::place` meets its contract: the part is read in its place. Assumes nothing.
+use Rattle.cells.specs.Decode.{cells}
+use Rattle.cells.specs.Parts.{offset, size, split}
+use Rattle.fields.proofs.read.place.Goals as goal
+
+pub returns : goal.returns
+unfolding cells offset size split
+returns c = c.byte_at.ensures

@@ -1,0 +1,13 @@
+-- `flags::packed::fork_caught` meets its contract: what was loaded, changed and stored. Assumes nothing.
+use mathlib.Core.Path.{◌∙◌}
+use native.Mathlib.Omega.{arith}
+use Rattle.flags.proofs.Laws.{fork-caught-stored}
+use Rattle.flags.proofs.packed.fork_caught.Goals as goal
+
+pub returns : goal.returns
+returns c =
+    let s = c.args in
+    let loaded = c.load16-s in
+    let changed = c.fork_caught-z in
+    c.store16.ensures
+    ∙ fork-caught-stored s.t.now loaded.result changed.result s.parent.0 s.child.0 (omega arith) (omega arith) loaded.ensures changed.ensures

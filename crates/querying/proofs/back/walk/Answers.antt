@@ -1,0 +1,40 @@
+-- `querying::back::walk` meets its contract: the walk is done in the own list of r, or goes on behind it. Assumes nothing.
+use Prim.Native.Nat.{◌+◌}
+use mathlib.Core.List.{[]}
+use native.Mathlib.Omega.{arith}
+use lib.ListN.{drop, drop_of_length-le}
+use Rattle.lists.specs.Arranged.{flat_back}
+use Rattle.cells.specs.Sizes.{updates}
+use Rattle.cells.specs.Cells.{outs, own}
+use Rattle.cells.specs.Decode.{cells}
+use Rattle.cells.specs.Order.{inherited}
+use Rattle.entries.specs.Entries.{entry_at}
+use Rattle.entries.proofs.Walked.{walked_both, walked-done}
+use Rattle.querying.proofs.Walks.{own_walked}
+use Rattle.querying.proofs.back.walk.Goals as goal
+
+pub returns-then-k : goal.returns-then-k
+returns-then-k c =
+    let s = c.args in
+    let k = cells s.d.now in
+    let e = entry_at s.h.now in
+    let own-list = own_walked k e s.bib s.r.0 _ _ s.out.now updates _ _ c.count-base.ensures.0 c.walk_list-k.ensures in
+    let behind-it = flat_back (inherited k s.r.0) (drop (s.j + 1) (outs k)) in
+    let none = drop_of_length-le s.out.now {i = updates} (omega arith) in
+    (own-list.low, walked-done e s.bib behind-it (own k s.r.0) s.out.now _ [] _ 0 updates _ c.walk_list-k.result none own-list c.if-k.true)
+
+pub walk_behind-b-requires : goal.walk_behind-b-requires
+walk_behind-b-requires c =
+    let w = c.walk_list-k.ensures in
+    (c.requires.0, c.requires.1, c.requires.2, c.requires.3, c.requires.4, omega (arith, w.few), omega (arith, w.low))
+
+pub returns : goal.returns
+returns c =
+    let s = c.args in
+    let k = cells s.d.now in
+    let e = entry_at s.h.now in
+    let own-list = own_walked k e s.bib s.r.0 _ _ s.out.now updates _ _ c.count-base.ensures.0 c.walk_list-k.ensures in
+    let behind-it = flat_back (inherited k s.r.0) (drop (s.j + 1) (outs k)) in
+    let none = drop_of_length-le s.out.now {i = updates} (omega arith) in
+    let rest = c.walk_behind-b.ensures in
+    (omega (arith, own-list.low, rest.low), walked_both e s.bib behind-it (own k s.r.0) s.out.now _ _ _ _ updates _ _ none own-list rest)
