@@ -10,11 +10,13 @@ use Rattle.boards.specs.Board.{board_bytes, is_wrong_board}
 use Rattle.cells.specs.Steps.{fresh_bytes}
 use Rattle.entries.specs.Sizes as Upper
 use Rattle.table.specs.Halves.{is_table}
-use Rattle.table.specs.Answers.{left, refused, taken}
+use Rattle.table.specs.Answers.{refused, taken}
+use Rattle.table.specs.Told.{left}
 use Rattle.table.specs.Out.{Out, table_bytes}
 use Rattle.table.specs.Calls.{board_out, fresh_board, fresh_out, join_out, sync_out}
 use Rattle.table.specs.Light.{Light}
-use Rattle.table.specs.declared.answer.Answer.{Answer}
+use Rattle.std.specs.Prelude.{Result}
+use Rattle.table.specs.declared.refusal.Refusal.{Refusal}
 use Rattle.table.proofs.Brings.{brings-nothing}
 use Rattle.table.proofs.Light.{promised}
 
@@ -36,16 +38,8 @@ module _ (t : List ℕ) (room : ℕ) where
   unfolding sync_out
   wrong-sync h e m = rw (h, e)
 
--- fresh: the same, and a day begun with a cleared board
+-- fresh: a day begun with a cleared board
 module _ (t : List ℕ) (single : Bool) (board : List ℕ) where
-  pub no-fresh : eqb (length t) table_bytes ≡ false → (refused t 1 ≡ fresh_out t single (length board)) × (board ≡ fresh_board t single board)
-  unfolding fresh_out fresh_board
-  no-fresh h = (rw h, rw h)
-
-  pub wrong-fresh : eqb (length t) table_bytes ≡ true → is_wrong_board (length board) ≡ true → (refused t 19 ≡ fresh_out t single (length board)) × (board ≡ fresh_board t single board)
-  unfolding fresh_out fresh_board
-  wrong-fresh h e = (rw (h, e), rw (h, e))
-
   pub fresh-begun : (t' b : List ℕ) → eqb (length t) table_bytes ≡ true → length board ≡ board_bytes → t' ≡ fresh_bytes single ++ replicate Upper.entry_bytes 0 → b ≡ replicate (length board) 0
       → (taken t' 0 ≡ fresh_out t single (length board)) × (b ≡ fresh_board t single board)
   unfolding fresh_out fresh_board
@@ -53,9 +47,9 @@ module _ (t : List ℕ) (single : Bool) (board : List ℕ) where
 
 -- a join or a sync: its answer and bytes, the board, and the places at which the table differs
 module _ {t : List ℕ} {n : ℕ} {o : Out} (L : Light t n o) where
-  pub shown : (a : Answer) (t' board b : List ℕ) → left a t' ≡ o → b ≡ board_out t t' board → (left a t' ≡ o) × (b ≡ board_out t t' board) × (differences t t' ≤ n)
+  pub shown : (a : Result ℕ Refusal) (t' board b : List ℕ) → left a t' ≡ o → b ≡ board_out t t' board → (left a t' ≡ o) × (b ≡ board_out t t' board) × (differences t t' ≤ n)
   shown a t' board b e f = let p = promised L a t' e in (p.0, f, p.1)
 
   -- refused: the board stays
-  pub not-shown : (a : Answer) (board : List ℕ) → left a t ≡ o → (left a t ≡ o) × (board ≡ board_out t t board) × (differences t t ≤ n)
+  pub not-shown : (a : Result ℕ Refusal) (board : List ℕ) → left a t ≡ o → (left a t ≡ o) × (board ≡ board_out t t board) × (differences t t ≤ n)
   not-shown a board e = shown a t board board e (sym (brings-nothing t board))

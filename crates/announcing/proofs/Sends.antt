@@ -2,7 +2,7 @@
 use Prim.Native.Nat.{ℕ, suc}
 use mathlib.Core.Bool.{Bool, true, false}
 use mathlib.Core.Logic.{inl}
-use mathlib.Core.Path.{◌≡◌, refl, sym, ap, subst}
+use mathlib.Core.Path.{◌≡◌, refl, sym, ◌∙◌, ap, subst}
 use mathlib.Core.List.{List, [], ◌∷◌, ◌++◌}
 use lib.Dec.{eqb, ltb}
 use borrow.Author.Tests.{ltb-true, not-false}
@@ -10,10 +10,9 @@ use Rattle.lists.proofs.Cases.{and-true, cases}
 use Rattle.boards.specs.Board.{board_bytes, is_wrong_board}
 use Rattle.updates.specs.Kinds.{kind_of}
 use Rattle.bundles.specs.declared.entry.Entry.{Entry}
-use Rattle.bundles.specs.declared.check.BundleCheck.TheVariants.{Wrong}
-use Rattle.bundles.specs.Packed.{bundle_check}
-use Rattle.bundles.specs.Records.{entries_from, entries_in}
-use Rattle.bundles.proofs.First.{Counted, uncounted}
+use Rattle.bundles.specs.Packed.{held, rows}
+use Rattle.bundles.specs.Records.{is_wrong}
+use Rattle.bundles.proofs.First.{rows-entries}
 use Rattle.desk.specs.Calls.{Records, Update}
 use Rattle.desk.specs.Checks.{Check, ◌if◌, checks, settle}
 use Rattle.desk.proofs.Checks as Rows
@@ -32,7 +31,8 @@ use Rattle.table.specs.Answers.{after_taken, refused}
 use Rattle.table.specs.Out.{Out}
 use Rattle.table.specs.Calls.{asked, bundled, yield_out}
 use Rattle.table.specs.Shared.{batch_shared, count_in, sent_shared, update_shared}
-use Rattle.table.proofs.Brings.{Shows, stays_shown, yield-shows}
+use Rattle.table.specs.Shows.{Shows}
+use Rattle.table.proofs.Brings.{stays_shown, yield-shows}
 use Rattle.table.proofs.Halves.{low_of, lower_of, table_of, upper_length}
 use Rattle.table.proofs.Shared.{update_row}
 
@@ -51,17 +51,17 @@ module _ (t : List ℕ) (room : ℕ) where
     unfolding batch_shared
     no-bundle h = rw h
 
-    pub uncounted-bundle : is_table t ≡ true → bundle_check b ≡ Wrong → refused t 14 ≡ batch_shared full t c n (Records b) room
+    pub uncounted-bundle : is_table t ≡ true → is_wrong b ≡ true → refused t 14 ≡ batch_shared full t c n (Records b) room
     unfolding batch_shared
-    uncounted-bundle h e = rw (h, uncounted b e)
+    uncounted-bundle h e = rw (h, e)
 
-    pub wrong-bundle : is_table t ≡ true → (m : ℕ) → Counted b m → is_wrong_board room ≡ true → refused t 19 ≡ batch_shared full t c n (Records b) room
+    pub wrong-bundle : is_table t ≡ true → is_wrong b ≡ false → is_wrong_board room ≡ true → refused t 19 ≡ batch_shared full t c n (Records b) room
     unfolding batch_shared
-    wrong-bundle h m C e = rw (h, C.right, e)
+    wrong-bundle h r e = rw (h, r, e)
 
-    pub right-bundle : is_table t ≡ true → (m : ℕ) → Counted b m → room ≡ board_bytes → bundled t (sent_shared full t c n (entries_from b 0 m)) ≡ batch_shared full t c n (Records b) room
-    unfolding batch_shared entries_in
-    right-bundle h m C l = rw (h, C.right, l) (ap (λ k. bundled t (sent_shared full t c n (entries_from b 0 k))) C.count)
+    pub right-bundle : is_table t ≡ true → is_wrong b ≡ false → room ≡ board_bytes → (rs : List (List ℕ)) → rs ≡ rows b → bundled t (sent_shared full t c n (held rs)) ≡ batch_shared full t c n (Records b) room
+    unfolding batch_shared
+    right-bundle h r l rs e = rw (h, r, l) (ap (λ es. bundled t (sent_shared full t c n es)) (ap held e ∙ rows-entries b))
 
 -- t' is left of the table t, and no update more is settled
 record Keeps (t t' : List ℕ) : Type 0 where

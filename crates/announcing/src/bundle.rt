@@ -7,40 +7,22 @@ ghost use Rattle.cells.specs.Range.{in_range};
 ghost use Rattle.desk.specs.Calls.{Records};
 ghost use Rattle.table.specs.Halves.{is_table, low};
 ghost use Rattle.table.specs.Out.{table_bytes};
-ghost use Rattle.table.specs.Answers.{left};
+ghost use Rattle.table.specs.Told.{left};
 ghost use Rattle.table.specs.Calls.{board_out, bundle_out};
 ghost use Rattle.table.specs.Calls.{bundled as bundledOut};
 ghost use Rattle.table.specs.Shared.{above, batch_shared, sent_shared};
 
 use boards::check::{BoardCheck, check_board};
-use bundles::check::{BundleCheck, check_bundle};
+use bundles::check::check_bundle;
 use bundling::bundle::bundle_sound;
 use sizes::table::Table;
-use table::answer::Answer;
 use table::board::{bring, settled};
+use table::refusal::Refusal;
 use table::sound;
 use table::sound::TableCheck;
 
-// The call on bytes that are a table, a bundle of n records, and a board of the right length.
-fn bundle_shown(
-    t: &mut [u8],
-    board: &mut [u8],
-    most: usize,
-    client: u8,
-    revision: u8,
-    b: &[u8],
-    n: usize,
-) -> Answer
-    requires { (is_table t.old ≡ true) × (length t.old ≡ table_bytes) × (in_range (low t.old) ≡ true) × (length board.old ≡ board_bytes) × (12 * n ≤ length b.now) × (0 < n) × (n ≤ 64) }
-    ensures { (left result t.new ≡ bundledOut t.old (sent_shared (above most) t.old client revision (entries_from b.now 0 n))) × (board.new ≡ board_out t.old t.new board.old) }
-{
-    let before = settled(t);
-    let a = bundle_sound(t, most, client, revision, b, n);
-    bring(t, before, board);
-    a
-}
-
 // The call on a table that may have so many updates at most.
+#[tactic(auto, unfolding(table::specs::Checks::table_check, table::specs::Halves::is_table))]
 pub fn bundle_within(
     t: &mut [u8],
     board: &mut [u8],
@@ -48,23 +30,33 @@ pub fn bundle_within(
     client: u8,
     revision: u8,
     records: &[u8],
-) -> Answer
+) -> Result<u32, Refusal>
     ensures { (left result t.new ≡ batch_shared (above most) t.old client revision (Records records.now) (length board.old)) × (board.new ≡ board_out t.old t.new board.old) }
 {
     let TableCheck::Sound = sound::check_table(t) else {
-        return Answer { code: 1, value: 0 };
+        return Err(Refusal::NoTable);
     };
-    let BundleCheck::Count(n) = check_bundle(records) else {
-        return Answer { code: 14, value: 0 };
+    let Some(sent) = check_bundle(records) else {
+        return Err(Refusal::WrongBundle);
     };
     let BoardCheck::Sound = check_board(board) else {
-        return Answer { code: 19, value: 0 };
+        return Err(Refusal::WrongBoard);
     };
-    bundle_shown(t, board, most, client, revision, records, n)
+    let before = settled(t);
+    let answer = bundle_sound(t, most, client, revision, sent);
+    bring(t, before, board);
+    answer
 }
 
 // The call on a table alone.
-pub fn bundle(t: &mut [u8], board: &mut [u8], client: u8, revision: u8, records: &[u8]) -> Answer
+#[tactic(auto, using(table::proofs::Shared::batch_alone), unfolding(table::specs::Calls::bundle_out))]
+pub fn bundle(
+    t: &mut [u8],
+    board: &mut [u8],
+    client: u8,
+    revision: u8,
+    records: &[u8],
+) -> Result<u32, Refusal>
     ensures { (left result t.new ≡ bundle_out t.old client revision records.now (length board.old)) × (board.new ≡ board_out t.old t.new board.old) }
 {
     bundle_within(t, board, Table::UPDATES, client, revision, records)

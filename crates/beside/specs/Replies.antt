@@ -1,18 +1,18 @@
 -- What a call on four tables answers, by what its table's call answers.
-use Rattle.std.specs.Prelude.{ℕ, List}
+use Rattle.std.specs.Prelude.{ℕ, List, Result}
 use Rattle.desk.specs.Calls as Desk
 use Rattle.updates.specs.declared.standing.State.TheVariants.{Neither}
-use Rattle.table.specs.declared.answer.Answer.{Answer}
-use Rattle.table.specs.declared.answer.Level.{Level}
-use Rattle.table.specs.declared.answer.Prospect.{Prospect}
+use Rattle.table.specs.Out.{Answer, Level, Prospect}
+use Rattle.table.specs.Told.{code_told, reading_told}
 use Rattle.table.specs.declared.answer.Reading.{Reading}
+use Rattle.table.specs.declared.refusal.Refusal.{Refusal}
 use Rattle.beside.specs.declared.reply.Reply.{Reply}
 
 abbrev pub of_answer : Answer → Reply
 of_answer a = record { code = a.code; state = Neither; value = a.value; total = 0; gain = 0 }
 
-abbrev pub of_reading : Reading → Reply
-of_reading a = record { code = a.code; state = a.state; value = a.value; total = 0; gain = 0 }
+abbrev pub of_reading : Result Reading Refusal → Reply
+of_reading a = record { code = code_told a; state = (reading_told a).state; value = (reading_told a).value; total = 0; gain = 0 }
 
 abbrev pub of_level : Level → Reply
 of_level f = record { code = f.code; state = Neither; value = f.own; total = f.total; gain = 0 }

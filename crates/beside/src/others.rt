@@ -27,10 +27,7 @@ fn larger(taken: usize) -> usize
     requires { taken < 65536 }
     ensures { (result ≡ largerOf taken) × (result < 65536) }
 {
-    if Card::ASSURED < taken {
-        return taken;
-    }
-    Card::ASSURED
+    taken.max(Card::ASSURED)
 }
 
 // What a table has of the card at least.

@@ -2,11 +2,11 @@
 use Prim.Native.Nat.{ℕ, zero, suc, ◌+◌, ◌*◌, ◌<◌, ◌≤◌}
 use mathlib.Core.Path.{◌≡◌, refl, sym, ◌∙◌, ap}
 use mathlib.Core.Logic.{◌≢◌}
-use mathlib.Core.List.{List, [], ◌∷◌, ◌++◌, append_assoc, append-nil}
+use mathlib.Core.List.{List, ◌++◌, append_assoc, append-nil}
 use native.Mathlib.Omega.{arith}
 use lib.Dec.{eqb, ltb}
-use lib.ListN.{length, take, drop, set, length-append, length-drop, drop_of_length-le}
-use lib.Seq.{take_at, drop_at, take-append-le, drop-append-le, sets-eq, take_all}
+use lib.ListN.{length, take, drop, length-append, length-drop, drop_of_length-le}
+use lib.Seq.{take_at, drop_at, take-append-le, drop-append-le, take_all}
 use borrow.Author.Tests.{eqb-true, eqb-false, lt-ltb, ltb-true}
 use Rattle.lists.specs.Arranged.{replaced}
 use Rattle.lists.specs.Lists.{changed}
@@ -28,10 +28,6 @@ pub reads-shown : (s : Standing) → standing_in (shown s) ≡ s
 unfolding shown standing_in
 reads-shown Struck = refl
 reads-shown (At v) = ap At (number_word v)
-
--- five bytes written one by one
-pub five_set : (p : List ℕ) (a b c d e : ℕ) → length p ≡ 5 → set (set (set (set (set p 0 a) 1 b) 2 c) 3 d) 4 e ≡ a ∷ b ∷ c ∷ d ∷ e ∷ []
-five_set p a b c d e h = sets-eq (a ∷ b ∷ c ∷ d ∷ e ∷ []) p 0 (omega arith) ∙ rw (drop_of_length-le p {i = 5} (omega arith))
 
 -- an entry of any board written anew: there, and elsewhere
 module _ (board : List ℕ) (bib : ℕ) (s : Standing) (h : length board ≡ board_bytes) (l : bib < bibs) where

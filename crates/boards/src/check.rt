@@ -17,12 +17,13 @@ impl Board {
     pub const STRUCK: u8 = 1;
 }
 
-#[derive(Drop)]
+#[derive(Clone, Copy, Debug, PartialEq, Eq)]
 pub enum BoardCheck {
     Sound,
     Wrong,
 }
 
+#[tactic(auto, unfolding(crate::specs::Board::board_check))]
 pub fn check_board(board: &[u8]) -> BoardCheck
     ensures { result ≡ board_check (length board.now) }
 {

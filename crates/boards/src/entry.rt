@@ -8,6 +8,7 @@ use buffers::numbers::read;
 use updates::standing::Standing;
 
 // Five bytes read: struck if the first is 1, else the value.
+#[tactic(auto, unfolding(crate::specs::Board::standing_in))]
 fn load(p: &[u8]) -> Standing
     requires { length p.now ≡ 5 }
     ensures { result ≡ standing_in p.now }
@@ -22,7 +23,7 @@ pub fn find(board: &[u8], bib: u16) -> Standing
     requires { (length board.now ≡ board_bytes) × (bib < bibs) }
     ensures { result ≡ found board.now bib }
 {
-    let at = Board::ENTRY * (bib as usize);
+    let at = Board::ENTRY * usize::from(bib);
     let end = at + Board::ENTRY;
     load(&board[at..end])
 }
@@ -32,14 +33,12 @@ fn store(p: &mut [u8], first: u8, v: u32)
     requires { length p.old ≡ 5 }
     ensures { p.new ≡ first ∷ word v }
 {
-    p[0] = first;
-    p[1] = (v % 256) as u8;
-    p[2] = (v / 256 % 256) as u8;
-    p[3] = (v / 65536 % 256) as u8;
-    p[4] = (v / 16777216) as u8;
+    let [v0, v1, v2, v3] = v.to_le_bytes();
+    p.copy_from_slice(&[first, v0, v1, v2, v3]);
 }
 
 // The entry of a standing; a struck bib's value is 0.
+#[tactic(auto, unfolding(crate::specs::Board::shown))]
 fn show(p: &mut [u8], s: Standing)
     requires { length p.old ≡ 5 }
     ensures { p.new ≡ shown s }
@@ -50,11 +49,12 @@ fn show(p: &mut [u8], s: Standing)
     }
 }
 
+#[tactic(auto, unfolding(crate::specs::Board::wrote))]
 pub fn write(board: &mut [u8], bib: u16, s: Standing)
     requires { (length board.old ≡ board_bytes) × (bib < bibs) }
     ensures { board.new ≡ wrote board.old bib s }
 {
-    let at = Board::ENTRY * (bib as usize);
+    let at = Board::ENTRY * usize::from(bib);
     let end = at + Board::ENTRY;
     show(&mut board[at..end], s);
 }

@@ -8,6 +8,7 @@ use updates::kind::Kind;
 use updates::standing::apply;
 
 // Applied to the entry found, which is written anew. A bib above 999 has none: no call takes an update of such a bib.
+#[tactic(auto, unfolding(crate::specs::Board::wrote))]
 pub fn post(board: &mut [u8], bib: u16, kind: Kind, v: u32)
     requires { length board.old ≡ board_bytes }
     ensures { board.new ≡ posted board.old bib (record { kind = kind; v = v }) }

@@ -1,3 +1,2 @@
--- Laws of a number and its bytes, and of bytes copied.
+-- Laws of a number and its bytes.
 pub mod Widths
-pub mod Copied

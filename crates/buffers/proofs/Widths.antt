@@ -2,9 +2,9 @@
 use Prim.Native.Nat.{ℕ, suc, ◌+◌, ◌*◌, ◌-◌, ◌/◌, ◌%◌, ◌^◌, ◌<◌, ◌≤◌}
 use mathlib.Core.Path.{◌≡◌, ap, subst}
 use mathlib.Core.List.{List, [], ◌∷◌}
-use native.Mathlib.Nat.{pow-le-pow_right, pow-succ', lt_of_lt_of_le}
+use native.Mathlib.Nat.{pow-le-pow_right, pow-succ'}
 use native.Mathlib.Omega.{arith}
-use lib.ListN.{length, take, drop, get_or, length-take, drop_of_length-le}
+use lib.ListN.{length, drop, get_or, drop_of_length-le}
 use lib.Seq.{drop-cons}
 use Rattle.buffers.specs.Numbers.{number, word}
 
@@ -29,10 +29,6 @@ bound_more n i b v h l g f =
 -- up to four bytes have 32 bits
 pub bound_four : (n : ℕ) → n ≤ 4 → 256 ^ n ≤ 4294967296
 bound_four n h = pow-le-pow_right (omega arith) h
-
--- what is read from a part of at most k bytes
-pub part-below : (v k : ℕ) (p : List ℕ) → v < 256 ^ length (take k p) → v < 256 ^ k
-part-below v k p h = lt_of_lt_of_le h (pow-le-pow_right (omega arith) (rw length-take (omega arith)))
 
 -- a number of two bytes and one of four read back, of any size: what does not fit stays in the last byte
 pub number-two : (b : ℕ) → number (b % 256 ∷ b / 256 ∷ []) ≡ b

@@ -3,10 +3,10 @@ use Prim.Native.Nat.{ℕ}
 use mathlib.Core.Path.{◌≡◌, refl}
 use mathlib.Core.List.{List, [], ◌∷◌}
 use lib.ListN.{replicate}
+use mathlib.Core.Bool.{true, false}
 use Rattle.buffers.specs.Numbers.{number}
-use Rattle.bundles.specs.declared.check.BundleCheck.TheVariants.{Count, Wrong}
 use Rattle.bundles.specs.Records.{entry_in, is_wrong}
-use Rattle.bundles.specs.Packed.{record_of, bundle_check}
+use Rattle.bundles.specs.Packed.{record_of, rows}
 
 largest : entry_in (255 ∷ 9 ∷ 255 ∷ 255 ∷ 255 ∷ 255 ∷ 255 ∷ 255 ∷ 1 ∷ 2 ∷ 3 ∷ 4 ∷ []) ≡ record { kind = 255; bib = 65535; v = 4294967295 }
 unfolding number
@@ -22,22 +22,29 @@ a_record : record_of (record { kind = 3; bib = 999; v = 5000 }) ≡ 3 ∷ 0 ∷ 
 unfolding record_of
 a_record = refl
 
-none : bundle_check [] ≡ Wrong
-unfolding bundle_check is_wrong
+none : is_wrong [] ≡ true
+unfolding is_wrong
 none = refl
 
-one : bundle_check (replicate 12 0) ≡ Count 1
-unfolding bundle_check is_wrong
+one : is_wrong (replicate 12 0) ≡ false
+unfolding is_wrong
 one = refl
 
-one-byte-more : bundle_check (replicate 13 0) ≡ Wrong
-unfolding bundle_check is_wrong
+one-byte-more : is_wrong (replicate 13 0) ≡ true
+unfolding is_wrong
 one-byte-more = refl
 
-sixty_four : bundle_check (replicate 768 0) ≡ Count 64
-unfolding bundle_check is_wrong
+sixty_four : is_wrong (replicate 768 0) ≡ false
+unfolding is_wrong
 sixty_four = refl
 
-sixty_five : bundle_check (replicate 780 0) ≡ Wrong
-unfolding bundle_check is_wrong
+sixty_five : is_wrong (replicate 780 0) ≡ true
+unfolding is_wrong
 sixty_five = refl
+
+-- the records of 64 updates, and bytes behind the last whole record are in none
+all_rows : rows (replicate 768 0) ≡ replicate 64 (replicate 12 0)
+all_rows = refl
+
+whole-only : rows (replicate 13 0) ≡ replicate 12 0 ∷ []
+whole-only = refl

@@ -1,5 +1,5 @@
 -- Room for records with one record more.
-use Prim.Native.Nat.{ℕ, ◌+◌, ◌*◌, ◌-◌, ◌<◌, ◌≤◌}
+use Prim.Native.Nat.{ℕ, ◌+◌, ◌*◌, ◌-◌, ◌<◌, ◌≤◌, min}
 use mathlib.Core.Path.{◌≡◌, refl, sym, ◌∙◌, ap}
 use mathlib.Core.List.{List, ◌++◌}
 use native.Mathlib.Omega.{arith}
@@ -11,7 +11,7 @@ use Rattle.lists.proofs.Cases.{cases}
 use Rattle.lists.proofs.Rows as Rows
 use Rattle.bundles.specs.declared.entry.Entry.{Entry}
 use Rattle.bundles.specs.Packed.{record_of, records_of, with_record}
-use Rattle.bundles.specs.Packed.{at_most, filled, packed_of}
+use Rattle.bundles.specs.Packed.{filled, packed_of}
 use Rattle.bundles.proofs.Held.{record_length, records_length}
 
 pub none_filled : (es : List Entry) → replicate 768 0 ≡ filled (take 0 es)
@@ -37,17 +37,14 @@ one_more es i d small h =
     ∙ rw count (ap (λ z. records_of (take (i + 1) es) ++ z) (room-left i small))
 
 -- a list of fewer than 64 is taken whole
-pub all_taken : (es : List Entry) → take (at_most (length es)) es ≡ take 64 es
+pub all_taken : (es : List Entry) → take (min (length es) 64) es ≡ take 64 es
 all_taken es =
     cases (ltb (length es) 64)
-    (λ h. rw h (take-length es ∙ sym (take_all 64 es (let l = ltb-true (length es) 64 h in omega arith))))
-    (λ h. rw h)
-
-pub below-most : (n i : ℕ) → i < at_most n → (i < n) × (i < 64)
-below-most n i =
-    cases {C = i < at_most n → (i < n) × (i < 64)} (ltb n 64)
-    (λ h. rw h (λ l. let g = ltb-true n 64 h in (l, omega arith)))
-    (λ h. rw h (λ l. let g = ltb-false n 64 h in (omega arith, l)))
+    (λ h.
+    let l = ltb-true (length es) 64 h in
+    let m : min (length es) 64 ≡ length es = omega arith in
+    ap (λ k. take k es) m ∙ take-length es ∙ sym (take_all 64 es (omega arith)))
+    (λ h. let g = ltb-false (length es) 64 h in let m : min (length es) 64 ≡ 64 = omega arith in ap (λ k. take k es) m)
 
 -- what is said of the bytes of no more than 64 entries is said of their records
 pub packed_records : (es : List Entry) → length es ≤ 64 → take (12 * length es) (packed_of es).bytes ≡ records_of es

@@ -1,20 +1,20 @@
--- The entries of a bundle one after the other; one that is not wrong has a first.
-use Prim.Native.Nat.{ℕ, zero, suc, ◌+◌, ◌-◌, ◌*◌, ◌/◌, ◌%◌, ◌<◌, ◌≤◌}
-use mathlib.Core.Bool.{true, false, not}
+-- The entries of a bundle, whose records hold them; one that is not wrong has a first.
+use Prim.Native.Nat.{ℕ, zero, suc, ◌+◌, ◌*◌, ◌/◌, ◌%◌, ◌<◌, ◌≤◌}
+use mathlib.Core.Bool.{false, not}
 use mathlib.Core.Path.{◌≡◌, refl, ◌∙◌, ap}
-use mathlib.Core.List.{List, [], ◌∷◌}
+use mathlib.Core.List.{List, ◌∷◌}
 use native.Mathlib.Omega.{arith}
 use lib.Dec.{eqb, ltb}
-use lib.ListN.{length}
+use lib.ListN.{length, drop}
 use borrow.Author.Tests.{eqb-false, ltb-false}
+use Rattle.std.proofs.lemmas.List.{drop-drop}
+use Rattle.std.specs.Simd.{first_chunks}
 use Rattle.lists.proofs.Cases.{or-false}
-use Rattle.lists.proofs.Told.{held, failed}
 use Rattle.bundles.specs.declared.entry.Entry.{Entry}
 use Rattle.bundles.specs.Records.{entries_from, entries_in, entry_at, is_wrong}
-use Rattle.bundles.specs.Packed.{bundle_check}
-use Rattle.bundles.specs.declared.check.BundleCheck.TheVariants.{Count, Wrong}
+use Rattle.bundles.specs.Packed.{held, rows}
 
-pub some_of : (b : List ℕ) (n : ℕ) → (n ≡ 0 → ⊥) → (es : List Entry) × (entries_from b 0 n ≡ entry_at b 0 ∷ es)
+some_of : (b : List ℕ) (n : ℕ) → (n ≡ 0 → ⊥) → (es : List Entry) × (entries_from b 0 n ≡ entry_at b 0 ∷ es)
 unfolding entries_from
 some_of b zero h = absurd (h refl)
 some_of b (suc n) h = (entries_from b 1 n, refl)
@@ -25,40 +25,34 @@ first_entry b h =
     let o = (or-false (not (eqb (length b % 12) 0)) _ h).1 in
     some_of b (length b / 12) (eqb-false (length b / 12) 0 (or-false (eqb (length b / 12) 0) _ o).0)
 
-pub entries_all : (b : List ℕ) (n : ℕ) → entries_from b 0 n ≡ entries_from b 0 (n - 0)
-entries_all b n = let e : n ≡ n - 0 = omega arith in ap (entries_from b 0) e
-
--- one entry more
-pub entries_next : (b : List ℕ) (i n : ℕ) → i < n → entries_from b i (n - i) ≡ entry_at b i ∷ entries_from b (i + 1) (n - (i + 1))
+-- the records from the i-th on hold the entries from there on
+from_rows : (k i : ℕ) (b : List ℕ) → held (first_chunks 12 k (drop (12 * i) b)) ≡ entries_from b i k
 unfolding entries_from
-entries_next b i n h =
-    let e : n - i ≡ suc (n - (i + 1)) = omega arith in
-    let f : suc i ≡ i + 1 = omega arith in
-    ap (entries_from b i) e ∙ ap (λ k. entry_at b i ∷ entries_from b k (n - (i + 1))) f
+from_rows zero i b = refl
+from_rows (suc k) i b =
+    let e : 12 * i + 12 ≡ 12 * suc i = omega arith in
+    ap (λ ps. entry_at b i ∷ held (first_chunks 12 k ps)) (drop-drop 12 (12 * i) b ∙ ap (λ n. drop n b) e) ∙ ap (λ es. entry_at b i ∷ es) (from_rows k (suc i) b)
 
-pub entries_none : (b : List ℕ) (i n : ℕ) → n ≤ i → entries_from b i (n - i) ≡ []
-unfolding entries_from
-entries_none b i n h = let e : n - i ≡ 0 = omega arith in ap (entries_from b i) e
+-- the records hold the bytes' entries
+pub rows-entries : (b : List ℕ) → held (rows b) ≡ entries_in b
+unfolding entries_in
+rows-entries b = from_rows (length b / 12) 0 b
 
--- what the check of a bundle's bytes says
-pub record Counted (b : List ℕ) (n : ℕ) : Type 0 where
-  pub right : is_wrong b ≡ false
-  pub count : n ≡ length b / 12
-  pub within : 12 * n ≤ length b
-  pub some : 0 < n
-  pub most : n ≤ 64
+so_many : (k : ℕ) (b : List ℕ) → length (first_chunks 12 k b) ≡ k
+so_many zero b = refl
+so_many (suc k) b = ap suc (so_many k (drop 12 b))
 
-pub counted : (b : List ℕ) (n : ℕ) → bundle_check b ≡ Count n → Counted b n
-unfolding bundle_check is_wrong
-counted b n e =
-    let c = failed (is_wrong b) Wrong (Count (length b / 12)) (Count n) (λ h. cc) e in
-    let count : n ≡ length b / 12 = cc c.1 in
-    let o = (or-false (not (eqb (length b % 12) 0)) _ c.0).1 in
+-- the records of a bundle
+pub record Counted (rs : List (List ℕ)) : Type 0 where
+  pub some : 0 < length rs
+  pub most : length rs ≤ 64
+
+pub counted : (b : List ℕ) → is_wrong b ≡ false → Counted (rows b)
+unfolding is_wrong
+counted b e =
+    let o = (or-false (not (eqb (length b % 12) 0)) _ e).1 in
     let p = or-false (eqb (length b / 12) 0) (ltb 64 (length b / 12)) o in
     let z = eqb-false (length b / 12) 0 p.0 in
     let m = ltb-false 64 (length b / 12) p.1 in
-    record { right = c.0; count = count; within = omega arith; some = omega (arith, z); most = omega arith }
-
-pub uncounted : (b : List ℕ) → bundle_check b ≡ Wrong → is_wrong b ≡ true
-unfolding bundle_check
-uncounted b e = (held (is_wrong b) Wrong (Count (length b / 12)) Wrong (λ h. cc) e).0
+    let n = so_many (length b / 12) b in
+    record { some = omega (arith, z); most = omega arith }

@@ -1,15 +1,18 @@
 -- No claim rests on this file: it serves the code. 02, U4: ".. then as a lent list of entries": the entries as records in room for 64, and how many entries
 -- there are.
-use Rattle.std.specs.Prelude.{ℕ, ◌*◌, ◌-◌, ◌/◌, cond, List, [], ◌∷◌, ◌++◌, ltb, length, replicate, take}
+use Rattle.std.specs.Prelude.{ℕ, ◌*◌, ◌-◌, ◌/◌, cond, List, [], ◌∷◌, ◌++◌, ltb, length, map, replicate, take}
+use Rattle.std.specs.Simd.{first_chunks}
 use Rattle.lists.specs.Arranged.{replaced}
-use Rattle.bundles.specs.Records.{is_wrong, laid}
+use Rattle.bundles.specs.Records.{entry_in, laid}
 use Rattle.bundles.specs.declared.entry.Entry.{Entry}
-use Rattle.bundles.specs.declared.check.BundleCheck.{BundleCheck}
-use Rattle.bundles.specs.declared.check.BundleCheck.TheVariants.{Count, Wrong}
 use Rattle.bundles.specs.declared.pack.Packed.{Packed}
 
-unfoldable pub bundle_check : List ℕ → BundleCheck
-bundle_check b = cond (is_wrong b) Wrong (Count (length b / 12))
+-- the records that bytes are, each with its twelve, and the entries that they hold: `rows-entries`, proofs/First.antt, has the entries of the bytes in them
+abbrev pub rows : List ℕ → List (List ℕ)
+rows b = first_chunks 12 (length b / 12) b
+
+abbrev pub held : List (List ℕ) → List Entry
+held = map entry_in
 
 -- an entry as a record: what is not looked at is 0
 unfoldable pub record_of : Entry → List ℕ
@@ -22,16 +25,6 @@ records_of (e ∷ es) = record_of e ++ records_of es
 -- record i is the entry's, and the other bytes stay
 abbrev pub with_record : List ℕ → ℕ → Entry → List ℕ
 with_record b i e = replaced b (12 * i) 12 (record_of e)
-
--- "Accept 1 to 64 updates"
-abbrev pub at_most : ℕ → ℕ
-at_most n = cond (ltb n 64) n 64
-
-abbrev pub blank : ℕ → Packed
-blank n = record { bytes = replicate 768 0; count = n }
-
-abbrev pub with_entry : Packed → ℕ → Entry → Packed
-with_entry p i e = record { bytes = with_record p.bytes i e; count = p.count }
 
 -- no more than 64 entries as records, and zeros behind them
 unfoldable pub filled : List Entry → List ℕ

@@ -1,27 +1,18 @@
-// The check of a bundle's bytes: how many records they are, or that they are none.
-ghost use Rattle.std.specs.Prelude.{◌≡◌};
-ghost use Rattle.bundles.specs.Packed.{bundle_check};
+// The check of a bundle's bytes: its records, or that they are no bundle.
+ghost use Rattle.std.specs.Prelude.{◌≡◌, ◌*◌, true, false, length, MatchOption};
+ghost use Rattle.bundles.specs.Records.{is_wrong};
+ghost use Rattle.bundles.specs.Packed.{rows};
 
 use crate::sizes::{Bundle, Record};
 
-#[derive(Drop)]
-pub enum BundleCheck {
-    Count(usize),
-    Wrong,
-}
-
-pub fn check_bundle(b: &[u8]) -> BundleCheck
-    ensures { result ≡ bundle_check b.now }
+// The records that the bytes are; `None` where they are no bundle.
+#[tactic(auto, unfolding(crate::specs::Records::is_wrong))]
+pub fn check_bundle(b: &[u8]) -> Option<&[[u8; Record::BYTES]]>
+    ensures { MatchOption result (is_wrong b.now ≡ true) (λ r. (is_wrong b.now ≡ false) × (r.now ≡ rows b.now)) }
 {
-    if b.len() % Record::BYTES != 0 {
-        return BundleCheck::Wrong;
+    let (records, rest) = b.as_chunks();
+    if !rest.is_empty() || records.is_empty() || Bundle::MOST < records.len() {
+        return None;
     }
-    let n = b.len() / Record::BYTES;
-    if n == 0 {
-        return BundleCheck::Wrong;
-    }
-    if Bundle::MOST < n {
-        return BundleCheck::Wrong;
-    }
-    BundleCheck::Count(n)
+    Some(records)
 }

@@ -4,5 +4,5 @@
 pub mod sizes; // sizes.rt: the sizes of a bundle and of its records
 pub mod entry; // entry.rt: an update as it is sent
 pub mod record; // record.rt: a record read, and a record put
-pub mod check; // check.rt: how many records the bytes are
+pub mod check; // check.rt: the records that the bytes are
 pub mod pack; // pack.rt: a lent list of entries put as records

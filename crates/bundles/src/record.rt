@@ -1,6 +1,6 @@
 // A record of a bundle read as an entry, and an entry put as a record.
 ghost use Rattle.std.specs.Prelude.{◌≡◌, ◌*◌, ◌+◌, ◌≤◌, length};
-ghost use Rattle.bundles.specs.Records.{entry_at, entry_in, laid};
+ghost use Rattle.bundles.specs.Records.{entry_in, laid};
 ghost use Rattle.bundles.specs.Packed.{with_record};
 
 use crate::entry::Entry;
@@ -8,8 +8,7 @@ use crate::sizes::Record;
 use buffers::numbers::read;
 
 // The record's client and number are not looked at.
-fn decode(p: &[u8]) -> Entry
-    requires { length p.now ≡ 12 }
+pub fn entry_in(p: &[u8; Record::BYTES]) -> Entry
     ensures { result ≡ entry_in p.now }
 {
     let bib = read(&p[2..4]) as u16;
@@ -17,35 +16,19 @@ fn decode(p: &[u8]) -> Entry
     Entry { kind: p[0], bib, v }
 }
 
-pub fn entry_at(b: &[u8], i: usize) -> Entry
-    requires { 12 * i + 12 ≤ length b.now }
-    ensures { result ≡ entry_at b.now i }
-{
-    let at = Record::BYTES * i;
-    let end = at + Record::BYTES;
-    decode(&b[at..end])
-}
-
 // A record's twelve bytes. A line of the listing is laid out so too.
 pub fn write(p: &mut [u8], kind: u8, client: u8, bib: u16, v: u32, number: u32)
     requires { length p.old ≡ 12 }
     ensures { p.new ≡ laid kind client bib v number }
 {
-    p[0] = kind;
-    p[1] = client;
-    p[2] = (bib % 256) as u8;
-    p[3] = (bib / 256) as u8;
-    p[4] = (v % 256) as u8;
-    p[5] = (v / 256 % 256) as u8;
-    p[6] = (v / 65536 % 256) as u8;
-    p[7] = (v / 16777216) as u8;
-    p[8] = (number % 256) as u8;
-    p[9] = (number / 256 % 256) as u8;
-    p[10] = (number / 65536 % 256) as u8;
-    p[11] = (number / 16777216) as u8;
+    let [b0, b1] = bib.to_le_bytes();
+    let [v0, v1, v2, v3] = v.to_le_bytes();
+    let [n0, n1, n2, n3] = number.to_le_bytes();
+    p.copy_from_slice(&[kind, client, b0, b1, v0, v1, v2, v3, n0, n1, n2, n3]);
 }
 
 // Record i becomes the entry's; the other bytes stay.
+#[tactic(auto, unfolding(crate::specs::Packed::record_of))]
 pub fn put(b: &mut [u8], i: usize, e: Entry)
     requires { 12 * i + 12 ≤ length b.old }
     ensures { b.new ≡ with_record b.old i e }

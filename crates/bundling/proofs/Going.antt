@@ -10,7 +10,7 @@ use Rattle.lists.specs.Sums.{any_below}
 use Rattle.lists.proofs.Cases.{and-true, cases}
 use Rattle.updates.specs.Kinds.{kind_check}
 use Rattle.updates.specs.declared.kind.Kind.{Kind}
-use Rattle.updates.specs.declared.kind.KindCheck.TheVariants as kinds
+use Rattle.std.specs.Prelude.{Ok}
 use Rattle.bundles.specs.declared.entry.Entry.{Entry}
 use Rattle.cells.specs.Sizes.{clients, revisions, updates}
 use Rattle.cells.specs.Cells.{Cells}
@@ -27,7 +27,7 @@ use Rattle.entries.specs.Entries.{wrote}
 use Rattle.entries.proofs.Entries.{wrote-length}
 use Rattle.table.specs.Halves.{low, high, cells_of, is_table}
 use Rattle.table.specs.Out.{table_bytes}
-use Rattle.table.specs.Found.{on_kind}
+use Rattle.table.specs.Found.{on_ok}
 use Rattle.table.proofs.Halves.{low_of, lower_of, table_of, upper_length}
 use Rattle.bundling.specs.Bundles.{Going, entered}
 
@@ -51,9 +51,9 @@ module _ (t : List ℕ) (c n : ℕ) (G : Going t c n) where
   few-taken = (ranges (low t) in-range).taken
 
   -- an update that is taken
-  module _ (room : (cells_of t).updates < updates) (e : Entry) (kind : Kind) (known : kind_check e.kind ≡ kinds.Known kind) where
+  module _ (room : (cells_of t).updates < updates) (e : Entry) (kind : Kind) (known : kind_check e.kind ≡ Ok kind) where
     pub halves : entered t c n e ≡ update_bytes (low t) c n ++ wrote (high t) (cells_of t).updates (entry kind c e.bib e.v)
-    unfolding entered on_kind
+    unfolding entered on_ok
     halves = rw known
 
     new-lower : Lower (update_bytes (low t) c n)

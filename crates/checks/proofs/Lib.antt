@@ -1,2 +1,2 @@
--- Laws that serve several proofs: the checks of numbers.
+-- Laws that serve several proofs: the checks of a client number and of a name.
 pub mod Numbers

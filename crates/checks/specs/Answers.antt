@@ -1,15 +1,12 @@
 -- No claim rests on this file: it serves the code.
 -- The answer of each check: 01, "Codes of the desk". Which code an answer gives is said where the calls are.
-use Rattle.std.specs.Prelude.{ℕ, cond, List}
+use Rattle.std.specs.Prelude.{ℕ, cond, List, Option, Some, None}
 use Rattle.lists.specs.Names.{Name}
 use Rattle.cells.specs.Cells.{next_number}
 use Rattle.cells.specs.Decode.{cells}
-use Rattle.cells.specs.Checks.{is_client, given_out, joined, off_line, open_elsewhere, busy, busy_by_other, stale, log_full, none_left, joinable}
-use Rattle.cells.specs.Checks.{is_mark, bearer, no_such_mark, bad_name}
-use Rattle.checks.specs.declared.client.ClientCheck.{ClientCheck}
-use Rattle.checks.specs.declared.client.ClientCheck.TheVariants as client
-use Rattle.checks.specs.declared.given.GivenCheck.{GivenCheck}
-use Rattle.checks.specs.declared.given.GivenCheck.TheVariants as given
+use Rattle.cells.specs.Checks.{is_client, given_out, joined, off_line, open_elsewhere, busy, busy_by_other, stale, log_full, none_left, joinable, is_mark, bearer, no_such_mark, bad_name}
+use Rattle.sizes.specs.declared.numbers.Client.{Client}
+use Rattle.sizes.specs.declared.numbers.Revision.{Revision}
 use Rattle.checks.specs.declared.joined.JoinedCheck.{JoinedCheck}
 use Rattle.checks.specs.declared.joined.JoinedCheck.TheVariants as out
 use Rattle.checks.specs.declared.line.LineCheck.{LineCheck}
@@ -24,22 +21,18 @@ use Rattle.checks.specs.declared.stale.StaleCheck.{StaleCheck}
 use Rattle.checks.specs.declared.stale.StaleCheck.TheVariants as event
 use Rattle.checks.specs.declared.log.LogCheck.{LogCheck}
 use Rattle.checks.specs.declared.log.LogCheck.TheVariants as log
-use Rattle.checks.specs.declared.next.NextCheck.{NextCheck}
-use Rattle.checks.specs.declared.next.NextCheck.TheVariants as left
 use Rattle.checks.specs.declared.joinable.JoinableCheck.{JoinableCheck}
 use Rattle.checks.specs.declared.joinable.JoinableCheck.TheVariants as join
 use Rattle.checks.specs.declared.name.NameCheck.{NameCheck}
 use Rattle.checks.specs.declared.name.NameCheck.TheVariants as name
-use Rattle.checks.specs.declared.bearer.BearerCheck.{BearerCheck}
-use Rattle.checks.specs.declared.bearer.BearerCheck.TheVariants as named
 
 -- 2 "tablet above 15"
-unfoldable pub client_check : ℕ → ClientCheck
-client_check n = cond (is_client n) (client.Known (record { 0 = n })) client.Unknown
+unfoldable pub client_check : ℕ → Option Client
+client_check n = cond (is_client n) (Some (record { 0 = n })) None
 
 -- 3 "box number not yet given out"
-unfoldable pub given_check : List ℕ → ℕ → GivenCheck
-given_check d n = cond (given_out (cells d) n) (given.Given (record { 0 = n })) given.Never
+unfoldable pub given_check : List ℕ → ℕ → Option Revision
+given_check d n = cond (given_out (cells d) n) (Some (record { 0 = n })) None
 
 -- 4 "box already a joinee"
 unfoldable pub joined_check : List ℕ → ℕ → JoinedCheck
@@ -78,8 +71,8 @@ unfoldable pub log_check : List ℕ → LogCheck
 log_check d = cond (log_full (cells d)) log.Full log.Room
 
 -- 10, 02, U7: "exactly if 64 boxes are out"; else the next number
-unfoldable pub next_check : List ℕ → NextCheck
-next_check d = cond (none_left (cells d)) left.Exhausted (left.Next (record { 0 = next_number (cells d) }))
+unfoldable pub next_check : List ℕ → Option Revision
+next_check d = cond (none_left (cells d)) None (Some (record { 0 = next_number (cells d) }))
 
 -- 11 "joinee is box 0, is the joiner, its fork isn't seen, or its start is"
 unfoldable pub joinable_check : List ℕ → ℕ → ℕ → JoinableCheck
@@ -90,5 +83,5 @@ unfoldable pub name_check : List ℕ → Name → NameCheck
 name_check d n = cond (bad_name (cells d) n) name.Bad name.Fit
 
 -- 18, 02, U9: "no such mark"; else the number of the mark
-unfoldable pub bearer_check : List ℕ → Name → BearerCheck
-bearer_check d n = cond (no_such_mark (cells d) n) named.Missing (named.Found (record { 0 = bearer (cells d) n }))
+unfoldable pub bearer_check : List ℕ → Name → Option Revision
+bearer_check d n = cond (no_such_mark (cells d) n) None (Some (record { 0 = bearer (cells d) n }))

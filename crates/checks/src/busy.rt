@@ -6,7 +6,7 @@ ghost use Rattle.cells.specs.Checks.{busy, busy_by_other};
 ghost use Rattle.checks.specs.Answers.{other_use_check, use_check};
 
 use fields::read;
-use sizes::numbers::{Client, Revision, wide};
+use sizes::numbers::{Client, Revision};
 use sizes::table::Table;
 
 // How many clients there are, of the type of a client number: each number below it is a client.
@@ -23,20 +23,19 @@ fn is_on(d: &[u8], x: Client, r: Revision) -> bool
     requires { (length d.now ≡ lower_bytes) × (x.0 < clients) }
     ensures { result ≡ eqb ((cells d.now).opened x.0) r.0 }
 {
-    read::opened(d, x) == wide(r.0)
+    read::opened(d, x) == usize::from(r.0)
 }
 
 // Whether some client has an open transaction on r.
+#[tactic(auto, using(lists::proofs::Sums::any_at, lists::proofs::Sums::any_more), unfolding(lists::specs::Sums::any_below))]
 fn is_busy(d: &[u8], r: Revision) -> bool
     requires { length d.now ≡ lower_bytes }
     ensures { result ≡ busy (cells d.now) r.0 }
 {
-    let mut x: u8 = 0;
-    while x < CLIENTS {
+    for x in 0..CLIENTS {
         if is_on(d, Client(x), r) {
             return true;
         }
-        x += 1;
     }
     false
 }
@@ -46,27 +45,27 @@ fn is_other_on(d: &[u8], x: Client, c: Client, r: Revision) -> bool
     requires { (length d.now ≡ lower_bytes) × (x.0 < clients) }
     ensures { result ≡ (not (eqb x.0 c.0) && eqb ((cells d.now).opened x.0) r.0) }
 {
-    if x.0 == c.0 {
+    if x == c {
         return false;
     }
     is_on(d, x, r)
 }
 
 // Whether a client other than c has an open transaction on r.
+#[tactic(auto, using(lists::proofs::Sums::any_at, lists::proofs::Sums::any_more), unfolding(lists::specs::Sums::any_below))]
 fn is_busy_by_other(d: &[u8], c: Client, r: Revision) -> bool
     requires { length d.now ≡ lower_bytes }
     ensures { result ≡ busy_by_other (cells d.now) c.0 r.0 }
 {
-    let mut x: u8 = 0;
-    while x < CLIENTS {
+    for x in 0..CLIENTS {
         if is_other_on(d, Client(x), c, r) {
             return true;
         }
-        x += 1;
     }
     false
 }
 
+#[tactic(auto, unfolding(crate::specs::Answers::use_check))]
 pub fn check_use(d: &[u8], r: Revision) -> UseCheck
     requires { length d.now ≡ lower_bytes }
     ensures { result ≡ use_check d.now r.0 }
@@ -78,6 +77,7 @@ pub fn check_use(d: &[u8], r: Revision) -> UseCheck
 }
 
 // For update and query: in use by another client.
+#[tactic(auto, unfolding(crate::specs::Answers::other_use_check))]
 pub fn check_use_by_other(d: &[u8], c: Client, r: Revision) -> UseCheck
     requires { length d.now ≡ lower_bytes }
     ensures { result ≡ other_use_check d.now c.0 r.0 }

@@ -2,21 +2,11 @@
 ghost use Rattle.std.specs.Prelude.{◌≡◌};
 ghost use Rattle.checks.specs.Answers.{client_check};
 
-use sizes::numbers::{Client, wide};
-use sizes::table::Table;
+use sizes::numbers::Client;
 
-#[derive(Drop)]
-pub enum ClientCheck {
-    Known(Client),
-    Unknown,
-}
-
-pub fn check_client(n: u8) -> ClientCheck
+#[tactic(auto, unfolding(crate::specs::Answers::client_check, sizes::specs::Numbers::client_of))]
+pub fn check_client(n: u8) -> Option<Client>
     ensures { result ≡ client_check n }
 {
-    if wide(n) < Table::CLIENTS {
-        ClientCheck::Known(Client(n))
-    } else {
-        ClientCheck::Unknown
-    }
+    Client::try_from(n).ok()
 }

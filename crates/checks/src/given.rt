@@ -4,24 +4,19 @@ ghost use Rattle.cells.specs.Sizes.{lower_bytes};
 ghost use Rattle.checks.specs.Answers.{given_check};
 
 use fields::read;
-use sizes::numbers::{Revision, RevisionCheck, check_revision};
+use sizes::numbers::Revision;
 use sizes::table::Table;
 
-#[derive(Drop)]
-pub enum GivenCheck {
-    Given(Revision),
-    Never,
-}
-
-pub fn check_given(d: &[u8], n: u8) -> GivenCheck
+#[tactic(auto, unfolding(crate::specs::Answers::given_check, sizes::specs::Numbers::revision_of))]
+pub fn check_given(d: &[u8], n: u8) -> Option<Revision>
     requires { length d.now ≡ lower_bytes }
     ensures { result ≡ given_check d.now n }
 {
-    let RevisionCheck::Known(r) = check_revision(n) else {
-        return GivenCheck::Never;
+    let Ok(r) = Revision::try_from(n) else {
+        return None;
     };
     if read::state(d, r) == Table::STATE_NEVER {
-        return GivenCheck::Never;
+        return None;
     }
-    GivenCheck::Given(r)
+    Some(r)
 }

@@ -12,6 +12,7 @@ pub enum JoinableCheck {
     Not,
 }
 
+#[tactic(auto, unfolding(crate::specs::Answers::joinable_check))]
 pub fn check_joinable(d: &[u8], a: Revision, b: Revision) -> JoinableCheck
     requires { (length d.now ≡ lower_bytes) × (a.0 < revisions) × (b.0 < revisions) }
     ensures { result ≡ joinable_check d.now a.0 b.0 }
@@ -19,7 +20,7 @@ pub fn check_joinable(d: &[u8], a: Revision, b: Revision) -> JoinableCheck
     if b.0 == 0 {
         return JoinableCheck::Not;
     }
-    if a.0 == b.0 {
+    if a == b {
         return JoinableCheck::Not;
     }
     if read::seen(d, a, b) {

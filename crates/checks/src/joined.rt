@@ -13,6 +13,7 @@ pub enum JoinedCheck {
     Joined,
 }
 
+#[tactic(auto, unfolding(crate::specs::Answers::joined_check))]
 pub fn check_joined(d: &[u8], r: Revision) -> JoinedCheck
     requires { (length d.now ≡ lower_bytes) × (r.0 < revisions) }
     ensures { result ≡ joined_check d.now r.0 }

@@ -13,6 +13,7 @@ pub enum LineCheck {
 }
 
 // For a mark: "Single-main days have no marks".
+#[tactic(auto, unfolding(crate::specs::Answers::mark_line_check))]
 pub fn check_line_of_mark(d: &[u8]) -> LineCheck
     requires { length d.now ≡ lower_bytes }
     ensures { result ≡ mark_line_check d.now }
@@ -23,6 +24,7 @@ pub fn check_line_of_mark(d: &[u8]) -> LineCheck
     LineCheck::On
 }
 
+#[tactic(auto, unfolding(crate::specs::Answers::line_check, crate::specs::Answers::mark_line_check))]
 pub fn check_line(d: &[u8], r: Revision) -> LineCheck
     requires { length d.now ≡ lower_bytes }
     ensures { result ≡ line_check d.now r.0 }

@@ -12,6 +12,7 @@ pub enum LogCheck {
     Full,
 }
 
+#[tactic(auto, unfolding(crate::specs::Answers::log_check))]
 pub fn check_log(d: &[u8]) -> LogCheck
     requires { length d.now ≡ lower_bytes }
     ensures { result ≡ log_check d.now }

@@ -13,6 +13,7 @@ pub enum MarkedCheck {
     Marked,
 }
 
+#[tactic(auto, unfolding(crate::specs::Answers::marked_check))]
 pub fn check_marked(d: &[u8], r: Revision) -> MarkedCheck
     requires { (length d.now ≡ lower_bytes) × (r.0 < revisions) }
     ensures { result ≡ marked_check d.now r.0 }

@@ -4,8 +4,7 @@ ghost use Rattle.lists.specs.Names.{four_letters};
 ghost use Rattle.cells.specs.Sizes.{lower_bytes};
 ghost use Rattle.checks.specs.Answers.{name_check};
 
-use crate::bearer;
-use crate::bearer::BearerCheck;
+use crate::bearer::check_bearer;
 use sizes::table::Table;
 
 // The letters A and Z.
@@ -26,6 +25,7 @@ fn is_letter(b: u8) -> bool
 }
 
 // Whether the name, which may be of any length, is four letters.
+#[tactic(auto, unfolding(lists::specs::Names::four_letters))]
 fn is_four_letters(name: &[u8]) -> bool
     ensures { result ≡ four_letters name.now }
 {
@@ -35,6 +35,7 @@ fn is_four_letters(name: &[u8]) -> bool
     is_letter(name[0]) & (is_letter(name[1]) & (is_letter(name[2]) & is_letter(name[3])))
 }
 
+#[tactic(auto, unfolding(crate::specs::Answers::name_check, crate::specs::Answers::bearer_check))]
 pub fn check_name(d: &[u8], name: &[u8]) -> NameCheck
     requires { length d.now ≡ lower_bytes }
     ensures { result ≡ name_check d.now name.now }
@@ -42,8 +43,8 @@ pub fn check_name(d: &[u8], name: &[u8]) -> NameCheck
     if !is_four_letters(name) {
         return NameCheck::Bad;
     }
-    let BearerCheck::Missing = bearer::check_bearer(d, name) else {
+    if check_bearer(d, name).is_some() {
         return NameCheck::Bad;
-    };
+    }
     NameCheck::Fit
 }

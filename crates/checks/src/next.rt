@@ -9,12 +9,6 @@ use fields::read;
 use sizes::numbers::Revision;
 use sizes::table::Table;
 
-#[derive(Drop)]
-pub enum NextCheck {
-    Next(Revision),
-    Exhausted,
-}
-
 // A number never used while there is one, else the number joined longest ago. On a table in range it is 1 to 63.
 pub fn next(d: &[u8]) -> Revision
     requires { length d.now ≡ lower_bytes }
@@ -27,12 +21,13 @@ pub fn next(d: &[u8]) -> Revision
     Revision(read::queued(d, 0) as u8)
 }
 
-pub fn check_next(d: &[u8]) -> NextCheck
+#[tactic(auto, unfolding(crate::specs::Answers::next_check))]
+pub fn check_next(d: &[u8]) -> Option<Revision>
     requires { length d.now ≡ lower_bytes }
     ensures { result ≡ next_check d.now }
 {
     if Table::REVISIONS <= read::out(d) {
-        return NextCheck::Exhausted;
+        return None;
     }
-    NextCheck::Next(next(d))
+    Some(next(d))
 }

@@ -4,7 +4,7 @@ ghost use Rattle.cells.specs.Sizes.{lower_bytes, clients};
 ghost use Rattle.checks.specs.Answers.{open_check};
 
 use fields::read;
-use sizes::numbers::{Client, Revision, wide};
+use sizes::numbers::{Client, Revision};
 use sizes::table::Table;
 
 #[derive(Drop)]
@@ -13,6 +13,7 @@ pub enum OpenCheck {
     Elsewhere,
 }
 
+#[tactic(auto, unfolding(crate::specs::Answers::open_check))]
 pub fn check_open(d: &[u8], c: Client, r: Revision) -> OpenCheck
     requires { (length d.now ≡ lower_bytes) × (c.0 < clients) }
     ensures { result ≡ open_check d.now c.0 r.0 }
@@ -21,7 +22,7 @@ pub fn check_open(d: &[u8], c: Client, r: Revision) -> OpenCheck
     if on == Table::CLOSED {
         return OpenCheck::Clear;
     }
-    if on == wide(r.0) {
+    if on == usize::from(r.0) {
         return OpenCheck::Clear;
     }
     OpenCheck::Elsewhere

@@ -12,6 +12,7 @@ pub enum StaleCheck {
     Stale,
 }
 
+#[tactic(auto, unfolding(crate::specs::Answers::stale_check))]
 pub fn check_stale(d: &[u8], c: Client, r: Revision) -> StaleCheck
     requires { (length d.now ≡ lower_bytes) × (c.0 < clients) × (r.0 < revisions) }
     ensures { result ≡ stale_check d.now c.0 r.0 }

@@ -14,7 +14,7 @@ use Rattle.plain.specs.Bills.{bill_after, bill_in}
 use Rattle.plain.proofs.Bills as Plain
 use Rattle.table.specs.Out.{table_bytes}
 use Rattle.table.specs.Calls.{bill_out, fresh_out}
-use Rattle.table.specs.declared.answer.Answer.{Answer}
+use Rattle.table.specs.Out.{Answer}
 use Rattle.consistency.specs.Table.{calls, replies_on, table_after}
 use Rattle.consistency.specs.Bills.{BillsOnDays, bill_of}
 use Rattle.consistency.proofs.Fills.{same_codes}

@@ -23,7 +23,7 @@ use Rattle.plain.proofs.Orders as Plain
 use Rattle.table.specs.Halves.{low, cells_of}
 use Rattle.table.specs.Out.{table_bytes}
 use Rattle.table.specs.Calls.{asked, fits_table, fresh_out, is_out, verdict, verify_out}
-use Rattle.table.specs.declared.answer.Answer.{Answer}
+use Rattle.table.specs.Out.{Answer}
 use Rattle.consistency.specs.Table.{calls, table_after, sheet_with}
 use Rattle.consistency.specs.Orders.{OwnGetsYes, OwnOrdersOnDays, VerdictsFit}
 use Rattle.consistency.proofs.Table.Stands.{Stands, bytes-are}

@@ -10,7 +10,7 @@ use Rattle.desk.proofs.Checks.{Passed, ◌also◌, goes_on, passed_first, took}
 use Rattle.table.specs.Answers.{refused}
 use Rattle.table.specs.Out.{Out}
 use Rattle.table.specs.Calls.{asked, foreseen, join_end, join_out, no_prospect, preview_out, query_out, standing_at}
-use Rattle.table.specs.declared.answer.Prospect.{Prospect}
+use Rattle.table.specs.Out.{Prospect}
 use Rattle.consistency.specs.Previews.{PreviewsFollowJoins}
 
 -- a query that is taken tells the standing

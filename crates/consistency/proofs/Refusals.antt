@@ -21,9 +21,9 @@ use Rattle.desk.proofs.Checks.{Passed, Refused, Settled, ◌also◌, among_in, c
 use Rattle.table.specs.Answers.{after_taken, refused, taken}
 use Rattle.table.specs.Out.{Out, table_bytes}
 use Rattle.table.specs.Calls.{asked, batch_out, bill_out, bundle_out, drop_out, entries_out, fill_out, fork_out, fresh_board, fresh_out, join_out, list_out, mark_out, no_bill, no_fill, no_prospect, preview_out, query_out, sent_out, bundled, sync_out, update_out, verdict, verify_out, yield_out}
-use Rattle.table.specs.declared.answer.Answer.{Answer}
-use Rattle.table.specs.declared.answer.Level.{Level}
-use Rattle.table.specs.declared.answer.Prospect.{Prospect}
+use Rattle.table.specs.Out.{Answer}
+use Rattle.table.specs.Out.{Level}
+use Rattle.table.specs.Out.{Prospect}
 use Rattle.table.specs.Served.{level_reply, on_table, out_reply, plain_reply, prospect_reply}
 use Rattle.table.proofs.Brings.{board-blank}
 use Rattle.table.proofs.Syncs.{sync-ends}

@@ -33,9 +33,9 @@ use Rattle.table.specs.Out.{Out, table_bytes}
 use Rattle.table.specs.Calls.{as_one, asked, batch_out, bill_out, bundle_out, drop_out, entries_out, fill_out, fork_out, fresh_out, join_end, join_out, list_out, mark_out, no_bill, no_fill, no_prospect, preview_out, query_out, sent_out, bundled, sync_out, update_out, verdict, verify_out, yield_out}
 use Rattle.table.proofs.Halves.{lower_of, table_of, upper_length}
 use Rattle.table.proofs.Syncs.{joins}
-use Rattle.table.specs.declared.answer.Answer.{Answer}
-use Rattle.table.specs.declared.answer.Level.{Level}
-use Rattle.table.specs.declared.answer.Prospect.{Prospect}
+use Rattle.table.specs.Out.{Answer}
+use Rattle.table.specs.Out.{Level}
+use Rattle.table.specs.Out.{Prospect}
 use Rattle.table.specs.Served.{served}
 use Rattle.consistency.specs.Stays.{FreshMakesTable, LeavesTable, StaysTable}
 

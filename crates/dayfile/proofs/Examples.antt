@@ -3,10 +3,10 @@ use Prim.Native.Nat.{ℕ}
 use mathlib.Core.Path.{◌≡◌, refl}
 use mathlib.Core.List.{List, [], ◌∷◌, ◌++◌}
 use lib.ListN.{replicate}
+use Rattle.std.proofs.Common.{Some, None}
 use Rattle.buffers.specs.Numbers.{number}
 use Rattle.dayfile.specs.File.{file_check}
 use Rattle.dayfile.specs.Record.{step_at, step_of}
-use Rattle.dayfile.specs.declared.file.FileCheck.TheVariants.{Good, Bad}
 use Rattle.dayfile.specs.declared.step.Step.TheVariants.{Update, Query, Yield, Join, Unknown}
 
 bytes_of_61000 : number (72 ∷ 238 ∷ 0 ∷ 0 ∷ []) ≡ 61000
@@ -17,25 +17,25 @@ abbrev header : ℕ → ℕ → List ℕ
 header n offset = n ∷ 0 ∷ 0 ∷ 0 ∷ offset ∷ 0 ∷ 0 ∷ 0 ∷ []
 
 -- "A file with n = 0"
-no_steps : file_check (header 0 8) ≡ Good 0
+no_steps : file_check (header 0 8) ≡ Some 0
 unfolding file_check number
 no_steps = refl
 
 -- bytes between header and records
-a_gap : file_check (header 0 10 ++ (7 ∷ 7 ∷ [])) ≡ Good 0
+a_gap : file_check (header 0 10 ++ (7 ∷ 7 ∷ [])) ≡ Some 0
 unfolding file_check number
 a_gap = refl
 
-too_short : file_check (0 ∷ 0 ∷ 0 ∷ 0 ∷ 7 ∷ 0 ∷ 0 ∷ []) ≡ Bad
+too_short : file_check (0 ∷ 0 ∷ 0 ∷ 0 ∷ 7 ∷ 0 ∷ 0 ∷ []) ≡ None
 unfolding file_check number
 too_short = refl
 
-offset_7 : file_check (header 0 7) ≡ Bad
+offset_7 : file_check (header 0 7) ≡ None
 unfolding file_check number
 offset_7 = refl
 
 -- 12 times a count of 2 ^ 30 is 0 modulo 2 ^ 32
-no_wrap : file_check (0 ∷ 0 ∷ 0 ∷ 64 ∷ 8 ∷ 0 ∷ 0 ∷ 0 ∷ []) ≡ Bad
+no_wrap : file_check (0 ∷ 0 ∷ 0 ∷ 64 ∷ 8 ∷ 0 ∷ 0 ∷ 0 ∷ []) ≡ None
 unfolding file_check number
 no_wrap = refl
 

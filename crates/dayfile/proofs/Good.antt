@@ -7,16 +7,16 @@ use native.Mathlib.Omega.{arith}
 use lib.Dec.{eqb, ltb}
 use lib.ListN.{length, take, drop}
 use borrow.Author.Tests.{ltb-false, eqb-true, not-false, le-leb}
+use Rattle.std.proofs.Common.{Some, None}
 use Rattle.lists.proofs.Cases.{or-false}
 use Rattle.lists.proofs.Told.{failed}
 use Rattle.dayfile.specs.File.{step_count, offset, is_bad, file_check}
 use Rattle.dayfile.specs.Record.{step_at, step_of}
-use Rattle.dayfile.specs.declared.file.FileCheck.TheVariants.{Good, Bad}
 
-module _ (f : List ℕ) (n : ℕ) (h : file_check f ≡ Good n) where
-  good : (is_bad f ≡ false) × (Good (step_count f) ≡ Good n)
+module _ (f : List ℕ) (n : ℕ) (h : file_check f ≡ Some n) where
+  good : (is_bad f ≡ false) × (Some (step_count f) ≡ Some n)
   unfolding file_check
-  good = failed (is_bad f) Bad (Good (step_count f)) (Good n) (λ e. cc) h
+  good = failed (is_bad f) None (Some (step_count f)) (Some n) (λ e. cc) h
 
   pub count-is : step_count f ≡ n
   count-is = cc good.1

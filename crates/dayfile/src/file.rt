@@ -21,30 +21,24 @@ impl File {
     pub const LONGEST: usize = 65536;
 }
 
-// The count of steps, or that the file is bad.
-#[derive(Drop)]
-pub enum FileCheck {
-    Good(u32),
-    Bad,
-}
-
-// The sum is made in 64 bits: no count wraps into a fit.
-pub fn check_file(f: &[u8]) -> FileCheck
+// The count of steps; `None` where the file is bad. The sum is made in 64 bits: no count wraps into a fit.
+#[tactic(auto, unfolding(crate::specs::File::file_check))]
+pub fn check_file(f: &[u8]) -> Option<u32>
     ensures { result ≡ file_check f.now }
 {
     if f.len() < File::HEADER {
-        return FileCheck::Bad;
+        return None;
     }
     if File::LONGEST < f.len() {
-        return FileCheck::Bad;
+        return None;
     }
     let n = read(&f[0..4]);
     let offset = read(&f[4..8]);
     if offset < File::FIRST {
-        return FileCheck::Bad;
+        return None;
     }
     if offset + File::RECORD * n != f.len() as u64 {
-        return FileCheck::Bad;
+        return None;
     }
-    FileCheck::Good(n as u32)
+    Some(n as u32)
 }

@@ -39,12 +39,12 @@ fn query(p: &[u8]) -> Step
 }
 
 // Fields that a step does not use are not looked at.
+#[tactic(auto, unfolding(crate::specs::Record::step_of))]
 pub(crate) fn decode(p: &[u8]) -> Step
     requires { length p.now ≡ 12 }
     ensures { result ≡ step_of p.now }
 {
-    let step = p[0];
-    match step {
+    match p[0] {
         1 => update(p),
         2 => query(p),
         3 => Step::Yield(p[1]),

@@ -7,7 +7,7 @@ use crate::record::decode;
 use buffers::numbers::read;
 
 // Revision: 01's box. Client: 01's tablet. The numbers are as the file has them, of any size.
-#[derive(Drop)]
+#[derive(Clone, Copy, Debug, PartialEq, Eq)]
 pub enum Step {
     Update {
         client: u8,
@@ -28,13 +28,14 @@ pub enum Step {
 }
 
 // Where the file has no whole record of that index, the step is unknown (01: strange step).
+#[tactic(auto, unfolding(crate::specs::Record::step_at))]
 pub fn step_at(f: &[u8], i: u32) -> Step
     ensures { result ≡ step_at f.now i }
 {
     if f.len() < File::HEADER {
         return Step::Unknown;
     }
-    let at = read(&f[4..8]) + File::RECORD * (i as u64);
+    let at = read(&f[4..8]) + File::RECORD * u64::from(i);
     let end = at + File::RECORD;
     if end > f.len() as u64 {
         return Step::Unknown;

@@ -11,11 +11,11 @@ pub fn nineteen(
     short: &mut [u8],
     long: &mut [u8],
 ) -> io::Result<()> {
-    say::title(rt, b"19 wrong board: 4,999 bytes; 5,001 bytes")?;
+    say::title(rt, "19 wrong board: 4,999 bytes; 5,001 bytes")?;
     fresh(rt, t, short)?;
     yields(rt, t, long, 16)?;
     join(rt, t, short, 0, 64)?;
-    say::answer(rt, b"sync", announcing::sync::sync(t, long, 64))
+    say::answer(rt, "sync", announcing::sync::sync(t, long, 64))
 }
 
 // A bundle of a strange tablet has 19; one of 65 entries has 14.
@@ -31,15 +31,15 @@ pub fn after_fourteen(
 
 // The entry of bib 7.
 fn shown(rt: &impl Print, board: &[u8]) -> io::Result<()> {
-    if 40 <= board.len() {
-        say::bytes(rt, b"board", &board[35..40])?;
-    }
-    Ok(())
+    let Some(entry) = board.get(35..40) else {
+        return Ok(());
+    };
+    say::bytes(rt, "board", entry)
 }
 
 // An update alone is not shown; the yield that closes its transaction on box 0 shows it.
 pub fn yielded(rt: &impl Print, t: &mut [u8], board: &mut [u8]) -> io::Result<()> {
-    say::title(rt, b"bib 7 on the board: an update; its yield on box 0")?;
+    say::title(rt, "bib 7 on the board: an update; its yield on box 0")?;
     fresh(rt, t, board)?;
     update(rt, t, 0, 0, 1, 7, 61000)?;
     shown(rt, board)?;
@@ -51,7 +51,7 @@ pub fn yielded(rt: &impl Print, t: &mut [u8], board: &mut [u8]) -> io::Result<()
 pub fn joined(rt: &impl Print, t: &mut [u8], board: &mut [u8]) -> io::Result<()> {
     say::title(
         rt,
-        b"bib 7 on the board: a strike closed on box 1; the join into box 0",
+        "bib 7 on the board: a strike closed on box 1; the join into box 0",
     )?;
     fork(rt, t, 0)?;
     update(rt, t, 1, 1, 4, 7, 5)?;
@@ -65,7 +65,7 @@ pub fn joined(rt: &impl Print, t: &mut [u8], board: &mut [u8]) -> io::Result<()>
 pub fn bundled(rt: &impl Print, t: &mut [u8], board: &mut [u8]) -> io::Result<()> {
     say::title(
         rt,
-        b"bib 7 on the board: an update, and a bundle that continues it",
+        "bib 7 on the board: an update, and a bundle that continues it",
     )?;
     update(rt, t, 2, 0, 1, 7, 9)?;
     bundle(rt, t, board, 2, 2, 64)?;

@@ -3,7 +3,7 @@ use crate::say;
 use std::io;
 
 pub fn fresh(rt: &impl Print, t: &mut [u8], board: &mut [u8]) -> io::Result<()> {
-    say::answer(rt, b"fresh", announcing::fresh::fresh(t, board, false))
+    say::answer(rt, "fresh", announcing::fresh::fresh(t, board, false))
 }
 
 pub fn update(
@@ -17,7 +17,7 @@ pub fn update(
 ) -> io::Result<()> {
     say::answer(
         rt,
-        b"update",
+        "update",
         updating::update::update(t, client, revision, kind, bib, v),
     )
 }
@@ -25,17 +25,17 @@ pub fn update(
 pub fn query(rt: &impl Print, t: &mut [u8], client: u8, revision: u8, bib: u16) -> io::Result<()> {
     say::reading(
         rt,
-        b"query",
+        "query",
         querying::query::query(t, client, revision, bib),
     )
 }
 
 pub fn yields(rt: &impl Print, t: &mut [u8], board: &mut [u8], client: u8) -> io::Result<()> {
-    say::answer(rt, b"yield", announcing::yields::yields(t, board, client))
+    say::answer(rt, "yield", announcing::yields::yields(t, board, client))
 }
 
 pub fn fork(rt: &impl Print, t: &mut [u8], revision: u8) -> io::Result<()> {
-    say::answer(rt, b"fork", forking::fork::fork(t, revision))
+    say::answer(rt, "fork", forking::fork::fork(t, revision))
 }
 
 pub fn join(
@@ -45,18 +45,14 @@ pub fn join(
     joiner: u8,
     joinee: u8,
 ) -> io::Result<()> {
-    say::answer(
-        rt,
-        b"join",
-        announcing::join::join(t, board, joiner, joinee),
-    )
+    say::answer(rt, "join", announcing::join::join(t, board, joiner, joinee))
 }
 
 // With the sheet's bytes, if there are few.
 pub fn list(rt: &impl Print, t: &[u8], revision: u8, sheet: &mut [u8]) -> io::Result<()> {
-    say::answer(rt, b"list", listing::list::list(t, revision, sheet))?;
+    say::answer(rt, "list", listing::list::list(t, revision, sheet))?;
     if sheet.len() < 100 {
-        say::bytes(rt, b"sheet", sheet)?;
+        say::bytes(rt, "sheet", sheet)?;
     }
     Ok(())
 }

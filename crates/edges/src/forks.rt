@@ -5,17 +5,15 @@ use std::io;
 
 // Each revision from 0 on forks the next.
 pub fn chain(rt: &impl Print, t: &mut [u8], many: u8) -> io::Result<()> {
-    let mut i: u8 = 0;
-    while i < many {
+    for i in 0..many {
         fork(rt, t, i)?;
-        i += 1;
     }
     Ok(())
 }
 
 // 64 are out, and no more, until one is joined.
 pub fn all(rt: &impl Print, t: &mut [u8], board: &mut [u8]) -> io::Result<()> {
-    say::title(rt, b"forks")?;
+    say::title(rt, "forks")?;
     fresh(rt, t, board)?;
     chain(rt, t, 63)?;
     fork(rt, t, 0)?;
@@ -27,7 +25,7 @@ pub fn all(rt: &impl Print, t: &mut [u8], board: &mut [u8]) -> io::Result<()> {
 
 // Two of 62 are joined, the higher number first; then the number never used is given.
 pub fn again(rt: &impl Print, t: &mut [u8], board: &mut [u8]) -> io::Result<()> {
-    say::title(rt, b"numbers used again")?;
+    say::title(rt, "numbers used again")?;
     fresh(rt, t, board)?;
     chain(rt, t, 62)?;
     join(rt, t, board, 61, 62)?;

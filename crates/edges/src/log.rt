@@ -5,35 +5,31 @@ use crate::calls::{fork, fresh, join, list, query, update, yields};
 use crate::say;
 use std::io;
 
-fn one_if_taken(code: u8) -> u32
-    ensures { result ≤ 1 }
-{
-    if code == 0 { 1 } else { 0 }
-}
-
 // How many of so many updates of client r on revision r are taken.
-pub fn fill(t: &mut [u8], r: u8, many: u32) -> u32 {
+pub fn fill(t: &mut [u8], r: u8, many: u32) -> u32
+    ensures { result ≤ many }
+{
     let mut taken: u32 = 0;
-    let mut i: u32 = 0;
-    while i < many {
+    for i in 0..many {
         let a = updating::update::update(t, r, r, 1, (i % 1000) as u16, i);
-        taken += one_if_taken(a.code);
-        i += 1;
+        if a.is_ok() {
+            taken += 1;
+        }
     }
     taken
 }
 
 // The log is of all revisions together: 2,000 and 2,096.
 pub fn fill_up(rt: &impl Print, t: &mut [u8], board: &mut [u8]) -> io::Result<()> {
-    say::title(rt, b"log full")?;
+    say::title(rt, "log full")?;
     fresh(rt, t, board)?;
     fork(rt, t, 0)?;
-    say::count(rt, b"taken on 0:", fill(t, 0, 2000))?;
-    say::count(rt, b"taken on 1:", fill(t, 1, 2096))
+    say::count(rt, "taken on 0:", fill(t, 0, 2000))?;
+    say::count(rt, "taken on 1:", fill(t, 1, 2096))
 }
 
 pub fn beyond(rt: &impl Print, t: &mut [u8], board: &mut [u8]) -> io::Result<()> {
-    say::title(rt, b"the next")?;
+    say::title(rt, "the next")?;
     update(rt, t, 0, 0, 1, 7, 5)?;
     update(rt, t, 1, 1, 1, 7, 5)?;
     query(rt, t, 1, 1, 95)?;
@@ -42,7 +38,7 @@ pub fn beyond(rt: &impl Print, t: &mut [u8], board: &mut [u8]) -> io::Result<()>
 }
 
 pub fn joined(rt: &impl Print, t: &mut [u8], board: &mut [u8], sheet: &mut [u8]) -> io::Result<()> {
-    say::title(rt, b"lists and a join with a full log")?;
+    say::title(rt, "lists and a join with a full log")?;
     list(rt, t, 1, sheet)?;
     join(rt, t, board, 0, 1)?;
     list(rt, t, 0, sheet)?;

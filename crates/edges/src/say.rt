@@ -1,55 +1,34 @@
 // Lines on standard output.
 use std::io;
-use std::io::Write;
-use table::answer::{Answer, Reading};
+use table::answer::Reading;
+use table::refusal::Refusal;
 
-fn number(rt: &impl Print, n: u32) -> io::Result<()> {
-    print!(rt; " {n}")
-}
-
-fn wide(x: u8) -> u32 {
-    x as u32
-}
-
-fn put(rt: &impl Print, words: &[u8]) -> io::Result<()> {
-    io::writer(rt).write_all(words)
-}
-
-pub fn title(rt: &impl Print, words: &[u8]) -> io::Result<()> {
-    put(rt, words)?;
-    put(rt, b"\n")
+pub fn title(rt: &impl Print, words: &str) -> io::Result<()> {
+    rt.println(words)
 }
 
 // A name and a number.
-pub fn count(rt: &impl Print, name: &[u8], n: u32) -> io::Result<()> {
-    put(rt, name)?;
-    number(rt, n)?;
-    put(rt, b"\n")
+pub fn count(rt: &impl Print, name: &str, n: u32) -> io::Result<()> {
+    println!(rt; "{name} {n}")
 }
 
-// A call's name, code and value.
-fn told(rt: &impl Print, name: &[u8], code: u8, value: u32) -> io::Result<()> {
-    put(rt, name)?;
-    number(rt, code as u32)?;
-    number(rt, value)?;
-    put(rt, b"\n")
+// A call's name, code and value. A refusal has its number and value 0.
+pub fn answer(rt: &impl Print, name: &str, a: Result<u32, Refusal>) -> io::Result<()> {
+    match a {
+        Ok(value) => println!(rt; "{name} 0 {value}"),
+        Err(e) => println!(rt; "{name} {} 0", u8::from(e)),
+    }
 }
 
-pub fn answer(rt: &impl Print, name: &[u8], a: Answer) -> io::Result<()> {
-    told(rt, name, a.code, a.value)
-}
-
-pub fn reading(rt: &impl Print, name: &[u8], a: Reading) -> io::Result<()> {
-    told(rt, name, a.code, a.value)
+pub fn reading(rt: &impl Print, name: &str, a: Result<Reading, Refusal>) -> io::Result<()> {
+    answer(rt, name, a.map(|r| r.value))
 }
 
 // A name, and the bytes of a sheet or of a board.
-pub fn bytes(rt: &impl Print, name: &[u8], p: &[u8]) -> io::Result<()> {
-    put(rt, name)?;
-    let mut i: usize = 0;
-    while i < p.len() {
-        number(rt, wide(p[i]))?;
-        i += 1;
+pub fn bytes(rt: &impl Print, name: &str, p: &[u8]) -> io::Result<()> {
+    rt.print(name)?;
+    for x in p {
+        print!(rt; " {x}")?;
     }
-    put(rt, b"\n")
+    rt.println("")
 }

@@ -20,13 +20,13 @@ pub fn bundle(
     }; 64];
     say::answer(
         rt,
-        b"bundle",
+        "bundle",
         bundle_entries(t, board, client, 0, entries, count),
     )
 }
 
 pub fn all(rt: &impl Print, t: &mut [u8], board: &mut [u8]) -> io::Result<()> {
-    say::title(rt, b"bundles of entries: 64; 64 of kind 5; none; 65")?;
+    say::title(rt, "bundles of entries: 64; 64 of kind 5; none; 65")?;
     fresh(rt, t, board)?;
     bundle(rt, t, board, 0, 1, 64)?;
     query(rt, t, 1, 0, 7)?;

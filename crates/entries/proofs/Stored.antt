@@ -1,10 +1,8 @@
 -- An entry's six bytes decode to it.
 use Prim.Native.Nat.{ℕ, ◌+◌, ◌*◌, ◌-◌, ◌/◌, ◌%◌, ◌<◌, ◌≤◌}
-use mathlib.Core.Path.{◌≡◌, refl, ◌∙◌}
-use mathlib.Core.List.{List, [], ◌∷◌}
+use mathlib.Core.Path.{◌≡◌, refl}
 use native.Mathlib.Omega.{arith}
-use lib.ListN.{length, set, drop_of_length-le}
-use lib.Seq.{sets-eq}
+use lib.ListN.{length}
 use Rattle.updates.specs.Kinds.{kind_number}
 use Rattle.updates.specs.declared.kind.Kind.{Kind}
 use Rattle.updates.specs.declared.kind.Kind.TheVariants.{Time, Earliest, Penalty, Strike}
@@ -57,8 +55,3 @@ decoded-stored e h =
     let l : kind_number e.kind - 1 < 4 = omega arith in
     let g : e.bib / 256 < 4 = omega arith in
     rw (kind_bits c k b l g, kind_back e.kind, client_bits c k b l g, bib_bits c k b g, bib_back e.bib, v_back e.v)
-
--- six bytes written one by one
-pub six_set : (p : List ℕ) (a b c d e f : ℕ) → length p ≡ 6 → set (set (set (set (set (set p 0 a) 1 b) 2 c) 3 d) 4 e) 5 f ≡ a ∷ b ∷ c ∷ d ∷ e ∷ f ∷ []
-six_set p a b c d e f h =
-    sets-eq (a ∷ b ∷ c ∷ d ∷ e ∷ f ∷ []) p 0 (omega arith) ∙ rw (drop_of_length-le p {i = 6} (omega arith))

@@ -1,7 +1,7 @@
 -- A walk back along some numbers: what is kept stands for all that was walked through.
 use Prim.Native.Nat.{ℕ, zero, suc, ◌-◌, ◌<◌, ◌≤◌}
 use mathlib.Core.Bool.{Bool, true, false, false≢true}
-use mathlib.Core.Path.{◌≡◌, refl, sym, ap, subst, ◌∙◌}
+use mathlib.Core.Path.{◌≡◌, refl, sym, ap, ◌∙◌}
 use mathlib.Core.List.{List, [], ◌∷◌, ◌++◌, append-nil}
 use native.Mathlib.Numerals.{sub-one}
 use native.Mathlib.Omega.{arith}
@@ -14,9 +14,9 @@ use Rattle.updates.specs.Applied.{applied, fresh_standing}
 use Rattle.updates.specs.declared.standing.Standing.{Standing}
 use Rattle.updates.proofs.Laws.{from_absolute}
 use Rattle.entries.specs.declared.entry.Entry.{Entry}
-use Rattle.entries.specs.declared.kept.Kept.{Kept}
+use Rattle.std.specs.declared.ops.ControlFlow.{ControlFlow}
 use Rattle.entries.specs.Folded.{of_bib, standing_of}
-use Rattle.entries.specs.Walked.{StandsFor, Walked}
+use Rattle.entries.specs.Walked.{StandsFor, Walked, is_done, kept_from}
 use Rattle.entries.proofs.Folded.{applied_both}
 
 -- one number more in front of those kept
@@ -64,16 +64,13 @@ module _ (entries : ℕ → Entry) (bib : ℕ) where
             ∙ a.same (applied (of_bib entries bib (l ++ ms)) y) y (λ _. refl);
       }
 
-  -- while the walk goes on; once it is done, those left do not count
-  pub stands-going : {done : Bool} {l ks all : List ℕ} → done ≡ false → StandsFor entries bib done l ks all → StandsFor entries bib false l ks all
-  stands-going {l = l} {ks = ks} {all = all} e a = subst (λ d. StandsFor entries bib d l ks all) e a
-
-  pub stands-done : {done : Bool} {l ks all : List ℕ} (m : List ℕ) → done ≡ true → StandsFor entries bib done l ks all → StandsFor entries bib true m ks all
-  stands-done m e a = record { same = λ x y s. a.same x y (λ f. absurd (false≢true (sym f ∙ e))) }
+  -- once the walk is done, those left do not count
+  pub stands-done : {l ks all : List ℕ} (m : List ℕ) → StandsFor entries bib true l ks all → StandsFor entries bib true m ks all
+  stands-done m a = record { same = λ x y s. a.same x y (λ f. absurd (false≢true (sym f))) }
 
   -- a walk through all numbers, the last ones first: it is done there, or goes on through those before them
-  module _ (ls ns before mid after : List ℕ) (n m from : ℕ) (k l : Kept) (none : drop from before ≡ []) (a : Walked entries bib n ns before from mid k) where
-    all-walked : (x : Standing) → (k.done ≡ false → x ≡ applied (of_bib entries bib ls) fresh_standing) → applied (of_bib entries bib (drop k.from mid)) x ≡ standing_of entries bib (ls ++ ns)
+  module _ (ls ns before mid after : List ℕ) (n m from : ℕ) (k l : ControlFlow ℕ ℕ) (none : drop from before ≡ []) (a : Walked entries bib n ns before from mid k) where
+    all-walked : (x : Standing) → (is_done k ≡ false → x ≡ applied (of_bib entries bib ls) fresh_standing) → applied (of_bib entries bib (drop (kept_from k) mid)) x ≡ standing_of entries bib (ls ++ ns)
     unfolding applied
     all-walked x s =
         a.stands.same x (applied (of_bib entries bib ls) fresh_standing) s
@@ -81,12 +78,12 @@ module _ (entries : ℕ → Entry) (bib : ℕ) where
         ∙ ap (λ l. applied (of_bib entries bib l) (applied (of_bib entries bib ls) fresh_standing)) (append-nil ns)
         ∙ sym (applied_both entries bib ls ns fresh_standing)
 
-    pub walked-done : k.done ≡ true → standing_of entries bib (drop k.from mid) ≡ standing_of entries bib (ls ++ ns)
+    pub walked-done : is_done k ≡ true → standing_of entries bib (drop (kept_from k) mid) ≡ standing_of entries bib (ls ++ ns)
     walked-done e = all-walked fresh_standing (λ f. absurd (false≢true (sym f ∙ e)))
 
-    pub walked_both : Walked entries bib m ls mid k.from after l → standing_of entries bib (drop l.from after) ≡ standing_of entries bib (ls ++ ns)
+    pub walked_both : Walked entries bib m ls mid (kept_from k) after l → standing_of entries bib (drop (kept_from l) after) ≡ standing_of entries bib (ls ++ ns)
     unfolding applied
     walked_both b =
         b.stands.same fresh_standing fresh_standing (λ _. refl)
-        ∙ applied_both entries bib ls (drop k.from mid) fresh_standing
+        ∙ applied_both entries bib ls (drop (kept_from k) mid) fresh_standing
         ∙ all-walked (applied (of_bib entries bib ls) fresh_standing) (λ _. refl)

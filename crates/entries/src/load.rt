@@ -1,17 +1,12 @@
 // Six bytes decoded: every six bytes are some entry.
-ghost use Rattle.std.specs.Prelude.{◌≡◌, ◌<◌, length};
+ghost use Rattle.std.specs.Prelude.{◌≡◌, length};
 ghost use Rattle.entries.specs.Stored.{kind_after, decoded};
 
 use crate::entry::Entry;
 use updates::kind::Kind;
 
-fn wide(x: u8) -> u32
-    ensures { (result ≡ x) × (result < 256) }
-{
-    x as u32
-}
-
 // The kind whose number is one more than n, for n below 4.
+#[tactic(auto, unfolding(crate::specs::Stored::kind_after))]
 fn kind_after(n: u8) -> Kind
     ensures { result ≡ kind_after n }
 {
@@ -23,14 +18,15 @@ fn kind_after(n: u8) -> Kind
     }
 }
 
+#[tactic(auto, unfolding(crate::specs::Stored::decoded))]
 pub fn bib_of(p: &[u8]) -> u16
     requires { length p.now ≡ 6 }
     ensures { result ≡ (decoded p.now).bib }
 {
-    let bib = wide(p[0]) + 256 * wide(p[1] % 4);
-    bib as u16
+    u16::from_le_bytes([p[0], p[1] % 4])
 }
 
+#[tactic(auto, unfolding(crate::specs::Stored::decoded))]
 pub fn kind_of(p: &[u8]) -> Kind
     requires { length p.now ≡ 6 }
     ensures { result ≡ (decoded p.now).kind }
@@ -38,13 +34,14 @@ pub fn kind_of(p: &[u8]) -> Kind
     kind_after(p[1] / 4 % 4)
 }
 
+#[tactic(auto, unfolding(crate::specs::Stored::decoded))]
 pub fn load(p: &[u8]) -> Entry
     requires { length p.now ≡ 6 }
     ensures { result ≡ decoded p.now }
 {
     let kind = kind_of(p);
     let bib = bib_of(p);
-    let v = wide(p[2]) + 256 * wide(p[3]) + 65536 * wide(p[4]) + 16777216 * wide(p[5]);
+    let v = u32::from_le_bytes([p[2], p[3], p[4], p[5]]);
     Entry {
         kind,
         client: p[1] / 16,

@@ -1,5 +1,5 @@
 // The standing of a bib, from numbered entries.
-ghost use Rattle.std.specs.Prelude.{◌≡◌, [], ◌∷◌, ◌≤◌, length, take};
+ghost use Rattle.std.specs.Prelude.{◌≡◌, [], ◌∷◌, length};
 ghost use Rattle.updates.specs.Applied.{applied};
 ghost use Rattle.entries.specs.Sizes.{entry_bytes};
 ghost use Rattle.entries.specs.Entries.{entry_at};
@@ -9,6 +9,7 @@ use crate::read::read;
 use updates::standing::Standing;
 
 // The standing after entry n, which counts if it is of the bib.
+#[tactic(auto, unfolding(updates::specs::Applied::applied))]
 fn after(t: &[u8], n: u16, bib: u16, standing: Standing) -> Standing
     requires { length t.now ≡ entry_bytes }
     ensures { result ≡ applied (of_bib (entry_at t.now) bib (n ∷ [])) standing }
@@ -21,24 +22,12 @@ fn after(t: &[u8], n: u16, bib: u16, standing: Standing) -> Standing
     standing
 }
 
-// The standing after the entries of the first `count` numbers of `order`, from `start` on.
-fn standing_from(t: &[u8], order: &[u16], count: usize, bib: u16, start: Standing) -> Standing
-    requires { (length t.now ≡ entry_bytes) × (count ≤ length order.now) }
-    ensures { result ≡ applied (of_bib (entry_at t.now) bib (take count order.now)) start }
+// The standing after the entries of the numbers in `order`, from a fresh day on.
+pub fn standing(t: &[u8], order: &[u16], bib: u16) -> Standing
+    requires { length t.now ≡ entry_bytes }
+    ensures { result ≡ standing_of (entry_at t.now) bib order.now }
 {
-    let mut s = start;
-    let mut i: usize = 0;
-    while i < count {
-        s = after(t, order[i], bib, s);
-        i += 1;
-    }
-    s
-}
-
-// The same from a fresh day on.
-pub fn standing(t: &[u8], order: &[u16], count: usize, bib: u16) -> Standing
-    requires { (length t.now ≡ entry_bytes) × (count ≤ length order.now) }
-    ensures { result ≡ standing_of (entry_at t.now) bib (take count order.now) }
-{
-    standing_from(t, order, count, bib, Standing::At(0))
+    order
+        .iter()
+        .fold(Standing::At(0), |s, n| after(t, *n, bib, s))
 }

@@ -13,7 +13,6 @@ pub fn write(t: &mut [u8], n: u16, kind: Kind, c: Client, bib: u16, v: u32)
     requires { (length t.old ≡ entry_bytes) × (n < updates) × (c.0 < clients) × (bib < bib_range) }
     ensures { t.new ≡ wrote t.old n (entry kind c.0 bib v) }
 {
-    let at = Table::ENTRY * (n as usize);
-    let end = at + Table::ENTRY;
-    store(&mut t[at..end], kind, c, bib, v);
+    let at = Table::ENTRY * usize::from(n);
+    store(&mut t[at..at + Table::ENTRY], kind, c, bib, v);
 }

@@ -6,11 +6,10 @@ ghost use Rattle.desk.specs.Calls.{Bill, Bundle, Drop, Fill, Fork, Join, Looks, 
 ghost use Rattle.packing.specs.Packed.{packed_reply, returned};
 ghost use Rattle.exports.specs.Four.{course_exported, exported_reply, four_returned};
 
+use beside::reply::Reply;
 use federation::fresh::fresh;
-use federation::list::list;
-use federation::looks::{LookCall, looks};
-use federation::on_board::{BoardCall, on_board};
-use federation::on_table::{TableCall, on_table};
+use federation::looks::looks;
+use federation::on_table::on_table;
 use packing::pack::pack_reply;
 
 #[unsafe(no_mangle)]
@@ -43,15 +42,9 @@ pub extern "C" fn silttongs_course_update(
 ) -> u64
     ensures { four_returned result t0.new t1.new t2.new t3.new [] ≡ course_exported (four t0.old t1.old t2.old t3.old) course (Plain (Update client revision kind bib v)) }
 {
-    let none = [0u8; 0];
-    let call = TableCall::Update {
-        client,
-        revision,
-        kind,
-        bib,
-        v,
-    };
-    pack_reply(on_table(t0, t1, t2, t3, course, call, &none[..]))
+    pack_reply(on_table(t0, t1, t2, t3, course, &mut [], move |t, most, _| {
+        Reply::from(updating::update::update_within(t, most, client, revision, kind, bib, v))
+    }))
 }
 
 #[unsafe(no_mangle)]
@@ -68,8 +61,9 @@ pub extern "C" fn silttongs_course_bundle(
 ) -> u64
     ensures { four_returned result t0.new t1.new t2.new t3.new board.new ≡ course_exported (four t0.old t1.old t2.old t3.old) course (Plain (Bundle client revision (Records records.now) board.old)) }
 {
-    let call = BoardCall::Bundle(client, revision);
-    pack_reply(on_board(t0, t1, t2, t3, course, board, call, records))
+    pack_reply(on_table(t0, t1, t2, t3, course, board, move |t, most, board| {
+        Reply::from(announcing::bundle::bundle_within(t, board, most, client, revision, records))
+    }))
 }
 
 #[unsafe(no_mangle)]
@@ -85,13 +79,9 @@ pub extern "C" fn silttongs_course_query(
 ) -> u64
     ensures { four_returned result t0.new t1.new t2.new t3.new [] ≡ course_exported (four t0.old t1.old t2.old t3.old) course (Plain (Query client revision bib)) }
 {
-    let none = [0u8; 0];
-    let call = TableCall::Query {
-        client,
-        revision,
-        bib,
-    };
-    pack_reply(on_table(t0, t1, t2, t3, course, call, &none[..]))
+    pack_reply(on_table(t0, t1, t2, t3, course, &mut [], move |t, _, _| {
+        Reply::from(querying::query::query(t, client, revision, bib))
+    }))
 }
 
 #[unsafe(no_mangle)]
@@ -106,9 +96,9 @@ pub extern "C" fn silttongs_course_yield(
 ) -> u64
     ensures { four_returned result t0.new t1.new t2.new t3.new board.new ≡ course_exported (four t0.old t1.old t2.old t3.old) course (Plain (Yield client board.old)) }
 {
-    let none = [0u8; 0];
-    let call = BoardCall::Yield(client);
-    pack_reply(on_board(t0, t1, t2, t3, course, board, call, &none[..]))
+    pack_reply(on_table(t0, t1, t2, t3, course, board, move |t, _, board| {
+        Reply::from(announcing::yields::yields(t, board, client))
+    }))
 }
 
 #[unsafe(no_mangle)]
@@ -122,9 +112,9 @@ pub extern "C" fn silttongs_course_fork(
 ) -> u64
     ensures { four_returned result t0.new t1.new t2.new t3.new [] ≡ course_exported (four t0.old t1.old t2.old t3.old) course (Plain (Fork revision)) }
 {
-    let none = [0u8; 0];
-    let call = TableCall::Fork(revision);
-    pack_reply(on_table(t0, t1, t2, t3, course, call, &none[..]))
+    pack_reply(on_table(t0, t1, t2, t3, course, &mut [], move |t, _, _| {
+        Reply::from(forking::fork::fork(t, revision))
+    }))
 }
 
 #[unsafe(no_mangle)]
@@ -140,9 +130,9 @@ pub extern "C" fn silttongs_course_join(
 ) -> u64
     ensures { four_returned result t0.new t1.new t2.new t3.new board.new ≡ course_exported (four t0.old t1.old t2.old t3.old) course (Plain (Join joiner joinee board.old)) }
 {
-    let none = [0u8; 0];
-    let call = BoardCall::Join(joiner, joinee);
-    pack_reply(on_board(t0, t1, t2, t3, course, board, call, &none[..]))
+    pack_reply(on_table(t0, t1, t2, t3, course, board, move |t, _, board| {
+        Reply::from(announcing::join::join(t, board, joiner, joinee))
+    }))
 }
 
 #[unsafe(no_mangle)]
@@ -157,9 +147,9 @@ pub extern "C" fn silttongs_course_sync(
 ) -> u64
     ensures { four_returned result t0.new t1.new t2.new t3.new board.new ≡ course_exported (four t0.old t1.old t2.old t3.old) course (Plain (Sync joinee board.old)) }
 {
-    let none = [0u8; 0];
-    let call = BoardCall::Sync(joinee);
-    pack_reply(on_board(t0, t1, t2, t3, course, board, call, &none[..]))
+    pack_reply(on_table(t0, t1, t2, t3, course, board, move |t, _, board| {
+        Reply::from(announcing::sync::sync(t, board, joinee))
+    }))
 }
 
 #[unsafe(no_mangle)]
@@ -174,8 +164,9 @@ pub extern "C" fn silttongs_course_mark(
 ) -> u64
     ensures { four_returned result t0.new t1.new t2.new t3.new [] ≡ course_exported (four t0.old t1.old t2.old t3.old) course (Plain (Mark revision name.now)) }
 {
-    let call = TableCall::Mark(revision);
-    pack_reply(on_table(t0, t1, t2, t3, course, call, name))
+    pack_reply(on_table(t0, t1, t2, t3, course, &mut [], move |t, _, _| {
+        Reply::from(marking::mark::mark(t, revision, name))
+    }))
 }
 
 #[unsafe(no_mangle)]
@@ -189,8 +180,9 @@ pub extern "C" fn silttongs_course_drop(
 ) -> u64
     ensures { four_returned result t0.new t1.new t2.new t3.new [] ≡ course_exported (four t0.old t1.old t2.old t3.old) course (Plain (Drop name.now)) }
 {
-    let call = TableCall::Drop;
-    pack_reply(on_table(t0, t1, t2, t3, course, call, name))
+    pack_reply(on_table(t0, t1, t2, t3, course, &mut [], move |t, _, _| {
+        Reply::from(marking::drop::drop(t, name))
+    }))
 }
 
 #[unsafe(no_mangle)]
@@ -205,7 +197,9 @@ pub extern "C" fn silttongs_course_list(
 ) -> u64
     ensures { returned result sheet.new ≡ exported_reply (course_served (four t0.now t1.now t2.now t3.now) course (Plain (Looks (Show revision sheet.old)))).reply }
 {
-    pack_reply(list(t0, t1, t2, t3, course, revision, sheet))
+    pack_reply(looks(t0, t1, t2, t3, course, sheet, move |t, sheet| {
+        Reply::from(listing::list::list(t, revision, sheet))
+    }))
 }
 
 #[unsafe(no_mangle)]
@@ -219,8 +213,9 @@ pub extern "C" fn silttongs_course_fill(
 ) -> u64
     ensures { result ≡ packed_reply (course_served (four t0.now t1.now t2.now t3.now) course (Plain (Looks (Fill revision)))).reply }
 {
-    let none = [0u8; 0];
-    pack_reply(looks(t0, t1, t2, t3, course, LookCall::Fill(revision), &none[..]))
+    pack_reply(looks(t0, t1, t2, t3, course, &mut [], move |t, _| {
+        Reply::from(listing::fill::fill(t, revision))
+    }))
 }
 
 #[unsafe(no_mangle)]
@@ -236,9 +231,9 @@ pub extern "C" fn silttongs_course_preview(
 ) -> u64
     ensures { result ≡ packed_reply (course_served (four t0.now t1.now t2.now t3.now) course (Plain (Looks (Preview joiner joinee bib)))).reply }
 {
-    let none = [0u8; 0];
-    let look = LookCall::Preview(joiner, joinee, bib);
-    pack_reply(looks(t0, t1, t2, t3, course, look, &none[..]))
+    pack_reply(looks(t0, t1, t2, t3, course, &mut [], move |t, _| {
+        Reply::from(previewing::preview::preview(t, joiner, joinee, bib))
+    }))
 }
 
 #[unsafe(no_mangle)]
@@ -252,7 +247,9 @@ pub extern "C" fn silttongs_course_verify(
 ) -> u64
     ensures { result ≡ packed_reply (course_served (four t0.now t1.now t2.now t3.now) course (Plain (Looks (Verify order.now)))).reply }
 {
-    pack_reply(looks(t0, t1, t2, t3, course, LookCall::Verify, order))
+    pack_reply(looks(t0, t1, t2, t3, course, &mut [], move |t, _| {
+        Reply::from(verifying::verify::verify(t, order))
+    }))
 }
 
 #[unsafe(no_mangle)]
@@ -266,14 +263,7 @@ pub extern "C" fn silttongs_course_bill(
 ) -> u64
     ensures { result ≡ packed_reply (course_served (four t0.now t1.now t2.now t3.now) course (Plain (Looks (Bill (not (eqb member 0)))))).reply }
 {
-    let none = [0u8; 0];
-    pack_reply(looks(
-        t0,
-        t1,
-        t2,
-        t3,
-        course,
-        LookCall::Bill(member != 0),
-        &none[..],
-    ))
+    pack_reply(looks(t0, t1, t2, t3, course, &mut [], move |t, _| {
+        Reply::from(billing::bill::bill(t, member != 0))
+    }))
 }

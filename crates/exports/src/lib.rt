@@ -7,7 +7,8 @@ ghost use Rattle.lists.specs.Differences.{differences};
 ghost use Rattle.table.specs.Calls.{bill_out, board_out, bundle_out, drop_out, fill_out, fork_out, fresh_board, fresh_out, join_out, list_out, mark_out, preview_out, query_out, sync_out, update_out, verify_out, yield_out};
 ghost use Rattle.packing.specs.Packed.{exported, exported_answer, exported_level, exported_prospect, returned};
 
-use packing::pack::{pack, pack_gain, pack_state};
+use beside::reply::Reply;
+use packing::pack::pack_reply;
 
 pub mod courses; // courses.rt: the calls on four tables
 
@@ -16,7 +17,7 @@ pub extern "C" fn silttongs_fresh(t: &mut [u8], board: &mut [u8], single: u8) ->
     ensures { (returned result t.new ≡ exported (fresh_out t.old (not (eqb single 0)) (length board.old))) × (board.new ≡ fresh_board t.old (not (eqb single 0)) board.old) }
 {
     let a = announcing::fresh::fresh(t, board, single != 0);
-    pack(a.code, a.value)
+    pack_reply(Reply::from(a))
 }
 
 #[unsafe(no_mangle)]
@@ -31,7 +32,7 @@ pub extern "C" fn silttongs_update(
     ensures { returned result t.new ≡ exported (update_out t.old client revision kind bib v) }
 {
     let a = updating::update::update(t, client, revision, kind, bib, v);
-    pack(a.code, a.value)
+    pack_reply(Reply::from(a))
 }
 
 #[unsafe(no_mangle)]
@@ -45,7 +46,7 @@ pub extern "C" fn silttongs_bundle(
     ensures { (returned result t.new ≡ exported (bundle_out t.old client revision records.now (length board.old))) × (board.new ≡ board_out t.old t.new board.old) }
 {
     let a = announcing::bundle::bundle(t, board, client, revision, records);
-    pack(a.code, a.value)
+    pack_reply(Reply::from(a))
 }
 
 #[unsafe(no_mangle)]
@@ -53,8 +54,7 @@ pub extern "C" fn silttongs_query(t: &mut [u8], client: u8, revision: u8, bib: u
     ensures { returned result t.new ≡ exported (query_out t.old client revision bib) }
 {
     let a = querying::query::query(t, client, revision, bib);
-    let state = a.state;
-    pack_state(a.code, state, a.value)
+    pack_reply(Reply::from(a))
 }
 
 #[unsafe(no_mangle)]
@@ -62,7 +62,7 @@ pub extern "C" fn silttongs_yield(t: &mut [u8], board: &mut [u8], client: u8) ->
     ensures { (returned result t.new ≡ exported (yield_out t.old client (length board.old))) × (board.new ≡ board_out t.old t.new board.old) }
 {
     let a = announcing::yields::yields(t, board, client);
-    pack(a.code, a.value)
+    pack_reply(Reply::from(a))
 }
 
 #[unsafe(no_mangle)]
@@ -70,7 +70,7 @@ pub extern "C" fn silttongs_fork(t: &mut [u8], revision: u8) -> u64
     ensures { returned result t.new ≡ exported (fork_out t.old revision) }
 {
     let a = forking::fork::fork(t, revision);
-    pack(a.code, a.value)
+    pack_reply(Reply::from(a))
 }
 
 #[unsafe(no_mangle)]
@@ -78,7 +78,7 @@ pub extern "C" fn silttongs_join(t: &mut [u8], board: &mut [u8], joiner: u8, joi
     ensures { (returned result t.new ≡ exported (join_out t.old joiner joinee (length board.old))) × (board.new ≡ board_out t.old t.new board.old) × (differences t.old t.new ≤ 256) }
 {
     let a = announcing::join::join(t, board, joiner, joinee);
-    pack(a.code, a.value)
+    pack_reply(Reply::from(a))
 }
 
 #[unsafe(no_mangle)]
@@ -86,7 +86,7 @@ pub extern "C" fn silttongs_sync(t: &mut [u8], board: &mut [u8], joinee: u8) -> 
     ensures { (returned result t.new ≡ exported (sync_out t.old joinee (length board.old))) × (board.new ≡ board_out t.old t.new board.old) × (differences t.old t.new ≤ 512) }
 {
     let a = announcing::sync::sync(t, board, joinee);
-    pack(a.code, a.value)
+    pack_reply(Reply::from(a))
 }
 
 #[unsafe(no_mangle)]
@@ -94,7 +94,7 @@ pub extern "C" fn silttongs_mark(t: &mut [u8], revision: u8, name: &[u8]) -> u64
     ensures { returned result t.new ≡ exported (mark_out t.old revision name.now) }
 {
     let a = marking::mark::mark(t, revision, name);
-    pack(a.code, a.value)
+    pack_reply(Reply::from(a))
 }
 
 #[unsafe(no_mangle)]
@@ -102,7 +102,7 @@ pub extern "C" fn silttongs_drop(t: &mut [u8], name: &[u8]) -> u64
     ensures { returned result t.new ≡ exported (drop_out t.old name.now) }
 {
     let a = marking::drop::drop(t, name);
-    pack(a.code, a.value)
+    pack_reply(Reply::from(a))
 }
 
 #[unsafe(no_mangle)]
@@ -110,7 +110,7 @@ pub extern "C" fn silttongs_list(t: &[u8], revision: u8, sheet: &mut [u8]) -> u6
     ensures { returned result sheet.new ≡ exported (list_out t.now revision sheet.old) }
 {
     let a = listing::list::list(t, revision, sheet);
-    pack(a.code, a.value)
+    pack_reply(Reply::from(a))
 }
 
 #[unsafe(no_mangle)]
@@ -118,7 +118,7 @@ pub extern "C" fn silttongs_fill(t: &[u8], revision: u8) -> u64
     ensures { result ≡ exported_level (fill_out t.now revision) }
 {
     let f = listing::fill::fill(t, revision);
-    pack(f.code, (f.total as u32) * 65536 + (f.own as u32))
+    pack_reply(Reply::from(f))
 }
 
 #[unsafe(no_mangle)]
@@ -126,8 +126,7 @@ pub extern "C" fn silttongs_preview(t: &[u8], joiner: u8, joinee: u8, bib: u16) 
     ensures { result ≡ exported_prospect (preview_out t.now joiner joinee bib) }
 {
     let p = previewing::preview::preview(t, joiner, joinee, bib);
-    let state = p.state;
-    pack_gain(p.code, state, p.value, p.gain)
+    pack_reply(Reply::from(p))
 }
 
 #[unsafe(no_mangle)]
@@ -135,7 +134,7 @@ pub extern "C" fn silttongs_verify(t: &[u8], order: &[u8]) -> u64
     ensures { result ≡ exported_answer (verify_out t.now order.now) }
 {
     let a = verifying::verify::verify(t, order);
-    pack(a.code, a.value)
+    pack_reply(Reply::from(a))
 }
 
 #[unsafe(no_mangle)]
@@ -143,5 +142,5 @@ pub extern "C" fn silttongs_bill(t: &[u8], member: u8) -> u64
     ensures { result ≡ exported_answer (bill_out t.now (not (eqb member 0))) }
 {
     let a = billing::bill::bill(t, member != 0);
-    pack(a.code, a.value)
+    pack_reply(Reply::from(a))
 }

@@ -1,32 +1,17 @@
--- What is lent to be written besides the tables: a call on a table alone and one that only looks have no sheet and no board.
+-- What a refusal of a call leaves: the sheet and the board that it was lent.
 use Prim.Native.Nat.{ℕ}
 use mathlib.Core.Path.{◌≡◌, refl}
 use mathlib.Core.List.{List, []}
-use Rattle.desk.specs.Calls.{Looks, plainly}
+use Rattle.beside.specs.Replies.{of_answer, replied}
+use Rattle.beside.specs.declared.reply.Reply.{Reply}
 use Rattle.card.specs.Courses.{Plain, turned_away}
-use Rattle.federation.specs.Calls.{board_call, look_call, table_call}
-use Rattle.federation.specs.declared.looks.LookCall.{LookCall}
-use Rattle.federation.specs.declared.looks.LookCall.TheVariants as look
-use Rattle.federation.specs.declared.on_board.BoardCall.{BoardCall}
-use Rattle.federation.specs.declared.on_board.BoardCall.TheVariants as board
-use Rattle.federation.specs.declared.on_table.TableCall.{TableCall}
-use Rattle.federation.specs.declared.on_table.TableCall.TheVariants as table
+use Rattle.desk.specs.Calls.{Call, Look, Looks}
+use Rattle.federation.specs.Out.{served_as}
+use Rattle.federation.specs.Steps.{Lends}
+use Rattle.table.specs.Served.{sheet_of}
 
-pub table_turned : (t : List ℕ) (q : TableCall) (name : List ℕ) → record { reply = plainly 1 0 []; table = t; board = [] } ≡ turned_away 1 t (Plain (table_call q name))
-table_turned t (table.Update c n k bib v) name = refl
-table_turned t (table.Query c n bib) name = refl
-table_turned t (table.Fork n) name = refl
-table_turned t (table.Mark n) name = refl
-table_turned t table.Drop name = refl
+pub table_turned : {r : Reply} (q : Call (List ℕ)) (t board : List ℕ) → Lends q board → r ≡ of_answer (record { code = 1; value = 0 }) → served_as r [] t board ≡ turned_away 1 t (Plain q)
+table_turned q t board l e = rw (e, l.0, l.1) refl
 
-pub board-turned : (t : List ℕ) (q : BoardCall) (lent records : List ℕ) → record { reply = plainly 1 0 []; table = t; board = lent } ≡ turned_away 1 t (Plain (board_call q lent records))
-board-turned t (board.Yield c) lent records = refl
-board-turned t (board.Join n m) lent records = refl
-board-turned t (board.Sync m) lent records = refl
-board-turned t (board.Bundle c n) lent records = refl
-
-pub look_turned : (t : List ℕ) (q : LookCall) (file : List ℕ) → plainly 1 0 [] ≡ (turned_away 1 t (Plain (Looks (look_call q file)))).reply
-look_turned t (look.Fill n) file = refl
-look_turned t (look.Preview n m bib) file = refl
-look_turned t look.Verify file = refl
-look_turned t (look.Bill member) file = refl
+pub look_turned : {r : Reply} (l : Look (List ℕ)) (t sheet : List ℕ) → sheet_of (Looks l) ≡ sheet → r ≡ of_answer (record { code = 1; value = 0 }) → replied r sheet ≡ (turned_away 1 t (Plain (Looks l))).reply
+look_turned l t sheet s e = rw (e, s) refl

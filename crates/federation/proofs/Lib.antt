@@ -1,4 +1,3 @@
--- Laws of the calls on four tables: by the number of the course, of what its table answers, and of what is not lent.
+-- Laws of the calls on four tables: by the number of the course, and of a refusal.
 pub mod Numbers
-pub mod Answers
 pub mod Blank

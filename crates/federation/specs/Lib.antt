@@ -1,3 +1,3 @@
--- The calls on four tables as the code has them: each as a call of the desk, and what it leaves of the four tables and the board.
-pub mod Calls
+-- What the step of a call on four tables has to do, and what a call gives.
 pub mod Out
+pub mod Steps

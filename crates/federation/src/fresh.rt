@@ -4,12 +4,12 @@ ghost use Rattle.card.specs.Courses.{four, Fresh, made_fresh};
 ghost use Rattle.federation.specs.Out.{course_out, four_left, served_as};
 
 use beside::number::{CourseCheck, check_course};
-use beside::reply::{Reply, no_course, of_answer};
+use beside::reply::{Reply, no_course};
 
 fn make(t: &mut [u8], board: &mut [u8], single: bool) -> Reply
     ensures { served_as result [] t.new board.new ≡ made_fresh t.old single board.old }
 {
-    of_answer(announcing::fresh::fresh(t, board, single))
+    Reply::from(announcing::fresh::fresh(t, board, single))
 }
 
 pub fn fresh(
@@ -26,14 +26,10 @@ pub fn fresh(
     let CourseCheck::Known = check_course(course) else {
         return no_course();
     };
-    if course == 0 {
-        return make(t0, board, single);
+    match course {
+        0 => make(t0, board, single),
+        1 => make(t1, board, single),
+        2 => make(t2, board, single),
+        _ => make(t3, board, single),
     }
-    if course == 1 {
-        return make(t1, board, single);
-    }
-    if course == 2 {
-        return make(t2, board, single);
-    }
-    make(t3, board, single)
 }

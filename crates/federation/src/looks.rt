@@ -1,71 +1,59 @@
-// Calls that only look at a course's table, and write nothing: fill, preview, verify and bill.
-ghost use Rattle.std.specs.Prelude.{[], ◌≡◌};
+// Calls that only look at a course's table: the step is run on it, and on the sheet that the call is lent; none is an empty one.
+ghost use Rattle.std.specs.Prelude.{◌≡◌, ℕ, List};
 ghost use Rattle.card.specs.Courses.{Plain, course_served, four};
 ghost use Rattle.card.specs.Room.{served_beside};
-ghost use Rattle.desk.specs.Calls.{Looks};
-ghost use Rattle.table.specs.Served.{looked};
+ghost use Rattle.desk.specs.Calls.{Look, Looks};
 ghost use Rattle.beside.specs.Replies.{replied};
-ghost use Rattle.federation.specs.Calls.{look_call};
+ghost use Rattle.federation.specs.Steps.{LendsSheet, Shows};
 
 use beside::number::{CourseCheck, check_course};
 use beside::others::check_three;
-use beside::reply::{Reply, no_course, of_answer, of_level, of_prospect};
+use beside::reply::{Reply, no_course};
 use table::sound::TableCheck;
 
-// A verify has its file beside: an enum holds no slice.
-#[derive(Drop)]
-pub enum LookCall {
-    Fill(u8),
-    Preview(u8, u8, u16),
-    Verify,
-    Bill(bool),
-}
-
-fn on_own(t: &[u8], look: LookCall, file: &[u8]) -> Reply
-    ensures { replied result [] ≡ looked t.now (look_call look file.now) }
-{
-    match look {
-        LookCall::Fill(revision) => of_level(listing::fill::fill(t, revision)),
-        LookCall::Preview(joiner, joinee, bib) => {
-            of_prospect(previewing::preview::preview(t, joiner, joinee, bib))
-        }
-        LookCall::Verify => of_answer(verifying::verify::verify(t, file)),
-        LookCall::Bill(member) => of_answer(billing::bill::bill(t, member)),
-    }
-}
-
-// The call on the table t beside the other three.
-fn on_beside(t: &[u8], a: &[u8], b: &[u8], c: &[u8], look: LookCall, file: &[u8]) -> Reply
-    ensures { replied result [] ≡ (served_beside a.now b.now c.now t.now (Looks (look_call look file.now))).reply }
+// The step on the table t, with the sheet, beside the other three.
+fn on_beside<F: FnOnce(&[u8], &mut [u8]) -> Reply>(
+    t: &[u8],
+    a: &[u8],
+    b: &[u8],
+    c: &[u8],
+    sheet: &mut [u8],
+    step: F,
+) -> Reply
+    ghost look: { Look (List ℕ) }
+    requires callable { F.IsAlwaysCallable step }
+    requires lends { LendsSheet look sheet.old }
+    requires shows { Shows (F.post step) look sheet.old }
+    ensures { replied result sheet.new ≡ (served_beside a.now b.now c.now t.now (Looks look)).reply }
 {
     let TableCheck::Sound = check_three(a, b, c) else {
         return no_course();
     };
-    on_own(t, look, file)
+    step(t, sheet)
 }
 
-pub fn looks(
+pub fn looks<F: FnOnce(&[u8], &mut [u8]) -> Reply>(
     t0: &[u8],
     t1: &[u8],
     t2: &[u8],
     t3: &[u8],
     course: u8,
-    look: LookCall,
-    file: &[u8],
+    sheet: &mut [u8],
+    step: F,
 ) -> Reply
-    ensures { replied result [] ≡ (course_served (four t0.now t1.now t2.now t3.now) course (Plain (Looks (look_call look file.now)))).reply }
+    ghost look: { Look (List ℕ) }
+    requires callable { F.IsAlwaysCallable step }
+    requires lends { LendsSheet look sheet.old }
+    requires shows { Shows (F.post step) look sheet.old }
+    ensures { replied result sheet.new ≡ (course_served (four t0.now t1.now t2.now t3.now) course (Plain (Looks look))).reply }
 {
     let CourseCheck::Known = check_course(course) else {
         return no_course();
     };
-    if course == 0 {
-        return on_beside(t0, t1, t2, t3, look, file);
+    match course {
+        0 => on_beside(t0, t1, t2, t3, sheet, step),
+        1 => on_beside(t1, t0, t2, t3, sheet, step),
+        2 => on_beside(t2, t0, t1, t3, sheet, step),
+        _ => on_beside(t3, t0, t1, t2, sheet, step),
     }
-    if course == 1 {
-        return on_beside(t1, t0, t2, t3, look, file);
-    }
-    if course == 2 {
-        return on_beside(t2, t0, t1, t3, look, file);
-    }
-    on_beside(t3, t0, t1, t2, look, file)
 }

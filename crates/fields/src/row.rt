@@ -15,12 +15,9 @@ fn copy(d: &[u8], x: usize) -> [u8; Table::ROW]
     requires { (length d.now ≡ lower_bytes) × (x < 63) }
     ensures { result ≡ row_bytes 512 (λ u. bit (byte d.now (512 * x + u / 8)) (u % 8)) }
 {
+    let at = Table::ROW * x;
     let mut row = [0; Table::ROW];
-    let mut i: usize = 0;
-    while i < Table::ROW {
-        row[i] = flags::bits::same(d[Table::ROW * x + i]);
-        i += 1;
-    }
+    row.copy_from_slice(&d[at..at + Table::ROW]);
     row
 }
 

@@ -1,19 +1,25 @@
 -- Bytes by their bits: the bits of an or and of an exclusive or; one bit alone.
 use Prim.Native.Nat.{ℕ, zero, suc, ◌+◌, ◌*◌, ◌/◌, ◌%◌, ◌^◌, ◌<◌}
 use mathlib.Core.Bool.{Bool, true, not, cond, ◌||◌, ◌&&◌, or-false}
-use mathlib.Core.Path.{◌≡◌, refl, sym, ◌∙◌, ap}
+use mathlib.Core.Path.{◌≡◌, refl, sym, ◌∙◌, ap, subst}
 use native.Mathlib.Omega.{arith}
 use lib.Bits.{bit_or, bit_xor, or_lt, or_mod, or_shr, xor_lt, xor_mod, xor_shr}
 use lib.Dec.{eqb}
 use lib.Pow.{pow-lt}
 use borrow.Author.Tests.{eqb-true}
+use borrow.Rule.Slice.PartMut.{mid_of}
+use mathlib.Core.List.{List}
+use lib.ListN.{length, drop}
+use lib.Seq.{get_or-drop}
 use Rattle.lists.specs.Lists.{changed}
 use Rattle.lists.proofs.Cases.{cases, or_right}
 use Rattle.cells.specs.Tables.{every}
-use Rattle.cells.specs.Flags.{bit, byte_of}
-use Rattle.cells.proofs.Tables.{every_at}
-use Rattle.cells.proofs.Flags.{bit_byte, byte_same}
-use Rattle.cells.proofs.Bytes.{bits_byte}
+use Rattle.cells.specs.Words.{Bytes, byte}
+use Rattle.cells.specs.Flags.{bit, byte_of, flag_at, row_bytes}
+use Rattle.cells.proofs.Tables.{every_at, tab_of, tab_same}
+use Rattle.cells.proofs.Flags.{bit_byte, byte_same, row_bytes_same}
+use Rattle.cells.proofs.Parts.{mid_byte}
+use Rattle.cells.proofs.Bytes.{bits_byte, take_bytes}
 
 pub byte_is : (b : ℕ) (f : ℕ → Bool) → b < 256 → ((j : ℕ) → j < 8 → bit b j ≡ f j) → b ≡ byte_of f
 byte_is b f h e = sym (bits_byte b h) ∙ byte_same (bit b) f e
@@ -87,3 +93,20 @@ pub same_bytes : (op : Bool → Bool → Bool) (g h : ℕ → ℕ) (k : ℕ) →
 same_bytes op g h k =
     byte_same (λ j. op (bit (g k) j) (bit (h k) j)) (λ j. op (bit (g ((8 * k + j) / 8)) ((8 * k + j) % 8)) (bit (h ((8 * k + j) / 8)) ((8 * k + j) % 8)))
     (λ j l. rw (at_place g k j l, at_place h k j l))
+
+-- bytes are those of their own flags
+pub bytes_row : (l : List ℕ) (w : ℕ) → length l ≡ w → Bytes l → l ≡ row_bytes w (flag_at l)
+unfolding row_bytes
+bytes_row l w e h = tab_of l 0 w e ∙ tab_same _ (λ i. byte_of (λ j. flag_at l (8 * i + j))) w (λ i g. sym (bits_byte (byte l i) (h i)) ∙ same_byte (byte l) i)
+
+-- and bytes copied from `at` on of t have the flags that lie there
+pub row_copied : (t l : List ℕ) (at w : ℕ) → l ≡ mid_of at w t → length l ≡ w → Bytes t → l ≡ row_bytes w (λ y. bit (byte t (at + y / 8)) (y % 8))
+row_copied t l at w e n h =
+    let lent : Bytes (mid_of at w t) = take_bytes w (drop at t) (λ i. subst (λ b. b < 256) (sym (get_or-drop at t i 0)) (h (at + i))) in
+    bytes_row l w n (subst Bytes (sym e) lent)
+    ∙ row_bytes_same w (flag_at l) _ (λ y g. ap (λ b. bit b (y % 8)) (ap (λ z. byte z (y / 8)) e ∙ sym (mid_byte t at w (y / 8) (omega arith))))
+
+-- a row whose every byte has the flags of f is the row of f
+pub row_made : (l : List ℕ) (f : ℕ → Bool) → length l ≡ 8 → ((k : ℕ) → k < 8 → byte l k ≡ byte_of (λ j. f (8 * k + j))) → l ≡ row_bytes 8 f
+unfolding row_bytes
+row_made l f e h = tab_of l 0 8 e ∙ tab_same _ (λ k. byte_of (λ j. f (8 * k + j))) 8 h

@@ -1,16 +1,18 @@
 -- A row of flags as one number: the bits of a number by its bytes, the lowest first, and of a power of two.
-use Prim.Native.Nat.{ℕ, suc, ◌+◌, ◌*◌, ◌-◌, ◌/◌, ◌%◌, ◌^◌, ◌<◌, ◌≤◌}
-use mathlib.Core.Path.{◌≡◌, sym, ◌∙◌, ap, subst}
+use Prim.Native.Nat.{ℕ, zero, suc, ◌+◌, ◌*◌, ◌-◌, ◌/◌, ◌%◌, ◌^◌, ◌<◌, ◌≤◌}
+use mathlib.Core.Path.{◌≡◌, refl, sym, ◌∙◌, ap, subst}
 use mathlib.Core.List.{List}
 use native.Mathlib.Nat.{div-eq_of_lt}
 use native.Mathlib.Omega.{arith}
 use lib.Bits.{shifted_even}
 use lib.Dec.{eqb, ltb}
-use lib.Pow.{field, high, low, mod-mod-pow, pow-add, pow-lt, pow_mono, shl_exact, shl-shr, shr-shr}
+use lib.Pow.{field, high, low, mod-mod-pow, pow-add, pow-lt, shl_exact, shl-shr, shr-shr}
 use borrow.Author.Tests.{eqb-true, eqb-false, ltb-true, ltb-false}
 use Rattle.lists.proofs.Cases.{cases}
-use Rattle.cells.specs.Words.{byte}
-use Rattle.cells.specs.Flags.{bit, byte_of, flag_at}
+use Rattle.std.specs.Int.{from_le_bytes, to_le_bytes, w64}
+use Rattle.cells.specs.Tables.{tab}
+use Rattle.cells.specs.Words.{Bytes, byte}
+use Rattle.cells.specs.Flags.{bit, byte_of, flag_at, row_bytes}
 use Rattle.flags.proofs.Bytes.{at_place, byte_is}
 
 -- the bits of the lowest byte
@@ -39,18 +41,25 @@ told_more row k w b z l h e t y q =
     let to : 8 * k + (y - 8) ≡ 8 * (k - 1) + y = omega arith in
     ap (bit (w * 256 + b)) up ∙ high_bit w b (y - 8) h ∙ t (y - 8) (omega arith) ∙ ap (flag_at row) to)
 
-pub told_all : (row : List ℕ) (k w : ℕ) → k ≡ 0 → Told row k w → (y : ℕ) → y < 64 → bit w y ≡ flag_at row y
-told_all row k w e t y h = let z : 8 * k + y ≡ y = omega arith in t y (omega arith) ∙ ap (flag_at row) z
+-- the last n bytes of a row as a number
+last_bytes : List ℕ → ℕ → ℕ
+last_bytes row zero = 0
+last_bytes row (suc n) = last_bytes row n * 256 + byte row (8 - suc n)
 
-pub bound_more : (k w b : ℕ) → 0 < k → k ≤ 8 → b < 256 → w < 2 ^ (8 * (8 - k)) → w * 256 + b < 2 ^ (8 * (8 - (k - 1)))
-bound_more k w b z l h g =
-    let e : 8 * (8 - k) + 8 ≡ 8 * (8 - (k - 1)) = omega arith in
-    let p = pow-add 2 (8 * (8 - k)) 8 in
-    subst (λ n. w * 256 + b < 2 ^ n) e (rw p (omega arith))
+told_last : (row : List ℕ) (n : ℕ) → n ≤ 8 → Bytes row → Told row (8 - n) (last_bytes row n)
+unfolding last_bytes
+told_last row zero h f = λ y l. absurd (omega arith)
+told_last row (suc n) h f =
+    let e : 8 - n - 1 ≡ 8 - suc n = omega arith in
+    subst (λ k. Told row k (last_bytes row n * 256 + byte row (8 - suc n))) e
+    (told_more row (8 - n) (last_bytes row n) (byte row (8 - suc n)) (omega arith) (omega arith) (f (8 - suc n)) (ap (byte row) (sym e)) (told_last row n (omega arith) f))
 
--- seven bytes and one more have 64 bits
-pub bound_eight : (k : ℕ) → 0 < k → 2 ^ (8 * (8 - k)) ≤ 72057594037927936
-bound_eight k h = pow_mono {j = 56} (omega arith)
+-- all eight
+pub told_all : (row : List ℕ) → Bytes row → (y : ℕ) → y < 64 → bit (from_le_bytes w64 row) y ≡ flag_at row y
+unfolding last_bytes
+told_all row f y h =
+    let e : from_le_bytes w64 row ≡ last_bytes row 8 = omega arith in
+    ap (λ n. bit n y) e ∙ told_last row 8 (omega arith) f y (omega arith) ∙ ap (flag_at row) (omega arith)
 
 -- byte k of a number
 pub byte_at : (n k : ℕ) → n / 2 ^ (8 * k) % 256 ≡ byte_of (λ j. bit n (8 * k + j))
@@ -58,8 +67,12 @@ byte_at n k =
     let m = n / 2 ^ (8 * k) in
     byte_is (m % 256) (λ j. bit n (8 * k + j)) (omega arith) (λ j h. low_bit m j h ∙ ap (λ x. eqb (x % 2) 1) (shr-shr n (8 * k) j))
 
-pub byte_next : (n k : ℕ) → n / 2 ^ (8 * k) / 256 ≡ n / 2 ^ (8 * (k + 1))
-byte_next n k = let e : 8 * k + 8 ≡ 8 * (k + 1) = omega arith in shr-shr n (8 * k) 8 ∙ ap (λ x. n / 2 ^ x) e
+-- and all eight of a word
+pub word_row : (n : ℕ) → to_le_bytes w64 n ≡ row_bytes 8 (bit n)
+unfolding row_bytes tab
+word_row n =
+    let z : n / 1 ≡ n = omega arith in
+    rw (← byte_at n 0, ← byte_at n 1, ← byte_at n 2, ← byte_at n 3, ← byte_at n 4, ← byte_at n 5, ← byte_at n 6, ← byte_at n 7, z) refl
 
 -- one bit alone
 bit_below : (r y : ℕ) → y < r → 1 * 2 ^ r / 2 ^ y % 2 ≡ 0

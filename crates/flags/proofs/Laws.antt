@@ -9,7 +9,7 @@ use lib.ListN.{length, length-append, set, take, drop, get_or, replicate, length
 use lib.Seq.{take_at, length-take-le}
 use borrow.Author.Tests.{eq-eqb, eqb-true, eqb-false, ne_eqb, lt-ltb}
 use Rattle.lists.specs.Lists.{changed}
-use Rattle.lists.proofs.Cases.{cases, or_right}
+use Rattle.lists.proofs.Cases.{cases}
 use Rattle.cells.specs.Tables.{tab}
 use Rattle.cells.specs.Words.{byte}
 use Rattle.cells.specs.Flags.{bit, byte_of, flag_at, flag_in, row_bytes, put_row, pack, rows, flag_of}
@@ -41,23 +41,6 @@ set_flag w f u v h e = set-tab g w (u / 8) v (omega arith) ∙ tab_same (changed
 pub no_flags : (w : ℕ) → replicate w 0 ≡ row_bytes w (λ y. false)
 unfolding row_bytes
 no_flags w = tab_of (replicate w 0) 0 w (length-replicate w 0) ∙ tab_same _ _ w (λ i h. get_or-replicate w i 0 0 h)
-
--- the flags of w as told
-pub flags_on : (row w : List ℕ) (on : Bool) → on ≡ true → row_bytes 8 (λ y. flag_at row y || flag_at w y) ≡ row_bytes 8 (λ y. cond (flag_at w y) on (flag_at row y))
-flags_on row w on q = row_bytes_same 8 _ (λ y. cond (flag_at w y) on (flag_at row y)) (λ y h. cases (flag_at w y) (λ e. rw (e, q) (or_right (flag_at row y) true refl)) (λ e. rw e (or-false (flag_at row y))))
-
-pub flags_off : (row w : List ℕ) (on : Bool) → on ≡ false → row_bytes 8 (λ y. flag_at row y && not (flag_at w y)) ≡ row_bytes 8 (λ y. cond (flag_at w y) on (flag_at row y))
-flags_off row w on q = row_bytes_same 8 _ (λ y. cond (flag_at w y) on (flag_at row y)) (λ y h. cases (flag_at w y) (λ e. rw (e, q) (and-false (flag_at row y))) (λ e. rw e (and-true (flag_at row y))))
-
--- the flags of w too, if told so
-pub gain_on : (row w : List ℕ) (on : Bool) → on ≡ true → row_bytes 8 (λ y. flag_at row y || flag_at w y) ≡ row_bytes 8 (λ y. flag_at row y || (on && flag_at w y))
-gain_on row w on q = row_bytes_same 8 _ (λ y. flag_at row y || (on && flag_at w y)) (λ y h. rw q)
-
-pub gain_off : (row w : List ℕ) (on : Bool) → on ≡ false
-    → row_bytes 8 (λ y. flag_at row y || flag_at (replicate 8 0) y) ≡ row_bytes 8 (λ y. flag_at row y || (on && flag_at w y))
-gain_off row w on q =
-    row_bytes_same 8 _ (λ y. flag_at row y || (on && flag_at w y))
-    (λ y h. rw q (ap (λ z. flag_at row y || z) (ap (λ z. flag_at z y) (no_flags 8) ∙ flag_row_bytes 8 (λ z. false) y h)))
 
 -- the flag of a too, if that of b is there
 pub joined_row : (row w : List ℕ) (a b : ℕ) → w ≡ row_bytes 8 (λ y. eqb y a)

@@ -10,13 +10,6 @@ pub fn flag(b: u8, k: usize) -> bool
     (b >> k) % 2 == 1
 }
 
-// The byte itself, said to be the byte of its own flags.
-pub fn same(b: u8) -> u8
-    ensures { result ≡ byte_of (bit b) }
-{
-    b
-}
-
 // The flags of b, and flag k.
 pub fn set(b: u8, k: usize) -> u8
     requires { k < 8 }

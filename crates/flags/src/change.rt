@@ -1,5 +1,6 @@
 // What a fork and a join make of the flags, by value: rows of flags in, rows of flags out.
-ghost use Rattle.std.specs.Prelude.{◌≡◌, cond, not, ◌||◌, ◌&&◌, ◌<◌, eqb};
+ghost use Rattle.std.specs.Prelude.{◌≡◌, cond, not, ◌||◌, ◌&&◌, ◌<◌, eqb, ℕ, length};
+ghost use Rattle.cells.specs.Words.{byte};
 ghost use Rattle.cells.specs.Sizes.{clients, revisions};
 ghost use Rattle.cells.specs.Flags.{flag_at, row_bytes, rows, flag_of};
 ghost use Rattle.cells.specs.CellSteps.{fork_caught, join_caught};
@@ -23,30 +24,34 @@ fn flag(row: [u8; Table::FLAGS], r: Revision) -> bool
     (words::word(row) >> wide(r.0)) % 2 == 1
 }
 
+// Each byte of two rows, made one.
+fn both<F: Fn(u8, u8) -> u8>(
+    a: [u8; Table::FLAGS],
+    b: [u8; Table::FLAGS],
+    f: F,
+) -> [u8; Table::FLAGS]
+    requires { F.IsAlwaysCallable f }
+    ensures { (length result ≡ 8) × ((k : ℕ) → k < 8 → F.post f (byte a k) (byte b k) (byte result k)) }
+{
+    let mut z = [0; Table::FLAGS];
+    for k in 0..Table::FLAGS {
+        z[k] = f(a[k], b[k]);
+    }
+    z
+}
+
 // The flags of either row.
 pub fn either(a: [u8; Table::FLAGS], b: [u8; Table::FLAGS]) -> [u8; Table::FLAGS]
     ensures { result ≡ row_bytes 8 (λ y. flag_at a y || flag_at b y) }
 {
-    let mut z = [0; Table::FLAGS];
-    let mut k: usize = 0;
-    while k < Table::FLAGS {
-        z[k] = bits::either(a[k], b[k]);
-        k += 1;
-    }
-    z
+    both(a, b, bits::either)
 }
 
 // The flags of a that b has not.
 fn without(a: [u8; Table::FLAGS], b: [u8; Table::FLAGS]) -> [u8; Table::FLAGS]
     ensures { result ≡ row_bytes 8 (λ y. flag_at a y && not (flag_at b y)) }
 {
-    let mut z = [0; Table::FLAGS];
-    let mut k: usize = 0;
-    while k < Table::FLAGS {
-        z[k] = bits::without(a[k], b[k]);
-        k += 1;
-    }
-    z
+    both(a, b, bits::without)
 }
 
 // The row with the flags of w as told. A loop over rows makes w once.
@@ -74,11 +79,8 @@ pub fn clear(
     ensures { result ≡ rows 16 (λ x y. flag_of s x y && not (flag_at w y)) }
 {
     let mut z = [[0; Table::FLAGS]; rows::BLOCK];
-    let mut x: usize = 0;
-    while x < rows::BLOCK {
-        let row = s[x];
-        z[x] = without(row, w);
-        x += 1;
+    for x in 0..rows::BLOCK {
+        z[x] = without(s[x], w);
     }
     z
 }
@@ -103,11 +105,9 @@ pub fn fork_caught(
 {
     let column = only(child);
     let mut z = [[0; Table::FLAGS]; Table::CLIENTS];
-    let mut x: usize = 0;
-    while x < Table::CLIENTS {
+    for x in 0..Table::CLIENTS {
         let row = caught[x];
         z[x] = with(row, column, flag(row, parent));
-        x += 1;
     }
     z
 }
@@ -123,11 +123,9 @@ pub fn join_caught(
 {
     let column = only(a);
     let mut z = [[0; Table::FLAGS]; Table::CLIENTS];
-    let mut x: usize = 0;
-    while x < Table::CLIENTS {
+    for x in 0..Table::CLIENTS {
         let row = caught[x];
         z[x] = gain(row, column, flag(row, b));
-        x += 1;
     }
     z
 }

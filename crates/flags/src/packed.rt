@@ -24,12 +24,10 @@ fn clear(t: &mut [u8], w: [u8; Table::FLAGS])
     requires { length t.old ≡ 512 }
     ensures { t.new ≡ pack revisions (λ x y. flag_in 8 revisions t.old x y && not (flag_at w y)) }
 {
-    let mut x: usize = 0;
-    while x < Table::REVISIONS {
-        let at = Table::FLAGS * x;
+    for k in 0..Table::REVISIONS / rows::BLOCK {
+        let at = Table::FLAGS * (rows::BLOCK * k);
         let end = at + Table::FLAGS * rows::BLOCK;
         clear_block(&mut t[at..end], w);
-        x += rows::BLOCK;
     }
 }
 

@@ -13,10 +13,10 @@ use Rattle.cells.specs.Checks.{none_left}
 use Rattle.cells.proofs.Range.{next_ranged, ranges}
 use Rattle.sizes.specs.declared.numbers.Revision.{Revision}
 use Rattle.checks.specs.Answers.{next_check}
-use Rattle.checks.specs.declared.next.NextCheck.TheVariants as left
+use Rattle.std.specs.Prelude.{Some}
 
 -- code 10
-pub next : (d : List ℕ) → in_range d ≡ true → (x : Revision) → next_check d ≡ left.Next x → (0 < x.0) × (x.0 < revisions)
+pub next : (d : List ℕ) → in_range d ≡ true → (x : Revision) → next_check d ≡ Some x → (0 < x.0) × (x.0 < revisions)
 unfolding next_check
 next d i x e =
     let p = failed (none_left (cells d)) _ _ _ (λ d. cc) e in

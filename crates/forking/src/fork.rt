@@ -6,19 +6,18 @@ ghost use Rattle.cells.specs.Range.{in_range};
 ghost use Rattle.cells.specs.Steps.{fork_bytes};
 ghost use Rattle.table.specs.Halves.{high, is_table, low};
 ghost use Rattle.table.specs.Out.{table_bytes};
-ghost use Rattle.table.specs.Answers.{left};
+ghost use Rattle.table.specs.Told.{left};
 ghost use Rattle.table.specs.Calls.{fork_out};
 ghost use Rattle.forking.specs.Checks.{fork_check, ForkIn};
 
 use checks::busy::{UseCheck, check_use};
-use checks::given::{GivenCheck, check_given};
+use checks::given::check_given;
 use checks::joined::{JoinedCheck, check_joined};
 use checks::line::{LineCheck, check_line};
-use checks::next::{NextCheck, check_next};
+use checks::next::check_next;
 use sizes::numbers::Revision;
 use sizes::table::Table;
-use table::answer::Answer;
-use table::pair::PairCheck;
+use table::refusal::Refusal;
 use table::sound;
 use table::sound::TableCheck;
 
@@ -31,52 +30,45 @@ pub fn start(t: &mut [u8], p: Revision, c: Revision)
 }
 
 // Checks 3, 4, 15, 7, 10: the revision, and the number of the new one.
-fn check_fork(d: &[u8], revision: u8) -> PairCheck
+#[tactic(auto, using(crate::proofs::Checks::next), unfolding(crate::specs::Checks::fork_check, table::specs::Found::on_some, checks::specs::Answers::given_check, checks::specs::Answers::joined_check, checks::specs::Answers::line_check, checks::specs::Answers::use_check))]
+fn check_fork(d: &[u8], revision: u8) -> Result<(Revision, Revision), Refusal>
     requires { (length d.now ≡ Lower.lower_bytes) × (in_range d.now ≡ true) }
     ensures { (result ≡ fork_check d.now revision) × ForkIn result }
 {
-    let GivenCheck::Given(p) = check_given(d, revision) else {
-        return PairCheck::Refused(3);
+    let Some(p) = check_given(d, revision) else {
+        return Err(Refusal::NeverSent);
     };
     let JoinedCheck::Out = check_joined(d, p) else {
-        return PairCheck::Refused(4);
+        return Err(Refusal::Joined);
     };
     let LineCheck::On = check_line(d, p) else {
-        return PairCheck::Refused(15);
+        return Err(Refusal::OffTheLine);
     };
     let UseCheck::Free = check_use(d, p) else {
-        return PairCheck::Refused(7);
+        return Err(Refusal::Busy);
     };
-    let NextCheck::Next(c) = check_next(d) else {
-        return PairCheck::Refused(10);
+    let Some(c) = check_next(d) else {
+        return Err(Refusal::NoneLeft);
     };
-    PairCheck::Allowed(p, c)
+    Ok((p, c))
 }
 
 // The call on bytes that are a table.
-fn fork_sound(t: &mut [u8], revision: u8) -> Answer
+fn fork_sound(t: &mut [u8], revision: u8) -> Result<u32, Refusal>
     requires { (is_table t.old ≡ true) × (length t.old ≡ table_bytes) × (in_range (low t.old) ≡ true) }
     ensures { left result t.new ≡ fork_out t.old revision }
 {
-    let found = check_fork(&t[0..Table::LOWER], revision);
-    let PairCheck::Allowed(p, c) = found else {
-        return Answer {
-            code: found.code(),
-            value: 0,
-        };
-    };
+    let (p, c) = check_fork(&t[0..Table::LOWER], revision)?;
     start(t, p, c);
-    Answer {
-        code: 0,
-        value: c.0 as u32,
-    }
+    Ok(u32::from(c.0))
 }
 
-pub fn fork(t: &mut [u8], revision: u8) -> Answer
+#[tactic(auto, unfolding(table::specs::Calls::fork_out, table::specs::Checks::table_check, table::specs::Halves::is_table))]
+pub fn fork(t: &mut [u8], revision: u8) -> Result<u32, Refusal>
     ensures { left result t.new ≡ fork_out t.old revision }
 {
     let TableCheck::Sound = sound::check_table(t) else {
-        return Answer { code: 1, value: 0 };
+        return Err(Refusal::NoTable);
     };
     fork_sound(t, revision)
 }

@@ -16,12 +16,7 @@ fn queue_end(d: &[u8]) -> usize
     requires { (length d.now ≡ lower_bytes) × (in_range d.now ≡ true) }
     ensures { (result ≡ (cells d.now).given - (cells d.now).out) × (result < revisions) }
 {
-    let given = read::given(d);
-    let out = read::out(d);
-    if given < out {
-        return 0;
-    }
-    given - out
+    read::given(d).saturating_sub(read::out(d))
 }
 
 // One revision fewer is out, and one at least. On a day the main revision is.
@@ -29,10 +24,7 @@ fn one_fewer(n: usize) -> usize
     requires { n < 256 }
     ensures { (result ≡ one_fewer n) × (result < 256) }
 {
-    if 1 < n {
-        return n - 1;
-    }
-    1
+    n.saturating_sub(1).max(1)
 }
 
 pub fn drop(d: &mut [u8], r: Revision)

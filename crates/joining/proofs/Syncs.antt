@@ -19,19 +19,21 @@ use Rattle.table.specs.Halves.{high, is_table, low}
 use Rattle.table.specs.Out.{table_bytes}
 use Rattle.table.specs.Answers.{refused, taken}
 use Rattle.table.specs.Calls.{as_one, fork_out, join_end, sync_out}
-use Rattle.table.specs.Found.{on_pair}
+use Rattle.table.specs.Found.{on_ok}
 use Rattle.table.specs.Checks.{join_check}
-use Rattle.table.specs.declared.pair.PairCheck.{PairCheck}
-use Rattle.table.specs.declared.pair.PairCheck.TheVariants as pair
-use Rattle.table.proofs.Calls.{either, given_is, pair_cond}
+use Rattle.std.specs.Prelude.{Result, Ok, Err}
+use Rattle.table.specs.declared.refusal.Refusal.{Refusal}
+use Rattle.table.specs.Told.{code_of}
+use Rattle.table.specs.declared.refusal.Refusal.TheVariants.{NeverSent, Joined, OffTheLine, Marked, Busy, NotJoinable}
+use Rattle.table.proofs.Calls.{either, given_is, ok_cond}
 use Rattle.table.proofs.Halves.{high_of, low_of, lower_of}
 use Rattle.table.proofs.Syncs.{left-lower, left-table, sync-forks}
 use Rattle.forking.proofs.Calls.{same_taken}
 
 -- the call on a table, from what the join's checks find
-pub sync_by : (t : List ℕ) → is_table t ≡ true → (m : ℕ) (z : PairCheck) → join_check (low t) 0 m ≡ z → on_pair z (refused t) (λ a b. as_one t (fork_out (join_end t 0 m).lent 0)) ≡ sync_out t m board_bytes
-unfolding join_check sync_out on_pair
-sync_by t h m z e = rw (← e) (simp (given_is, pair_cond, either, h))
+pub sync_by : (t : List ℕ) → is_table t ≡ true → (m : ℕ) (z : Result (Revision × Revision) Refusal) → join_check (low t) 0 m ≡ z → on_ok z (λ e. refused t (code_of e)) (λ p. as_one t (fork_out (join_end t 0 m).lent 0)) ≡ sync_out t m board_bytes
+unfolding join_check sync_out on_ok
+sync_by t h m z e = rw (← e) (simp (given_is, ok_cond, either, h))
 
 -- what a join's checks leave of the joiner
 pub record Joins (d : List ℕ) (n m : ℕ) (a b : Revision) : Type 0 where
@@ -43,21 +45,21 @@ pub record Joins (d : List ℕ) (n m : ℕ) (a b : Revision) : Type 0 where
 
 checks_are : (d : List ℕ) (n m : ℕ)
     → join_check d n m
-    ≡ cond (not (given_out (cells d) n)) (pair.Refused 3) (
-    cond (not (given_out (cells d) m)) (pair.Refused 3) (
-    cond (joined (cells d) n) (pair.Refused 4) (
-    cond (joined (cells d) m) (pair.Refused 4) (
-    cond (off_line (cells d) n) (pair.Refused 15) (
-    cond (is_mark (cells d) n) (pair.Refused 16) (
-    cond (is_mark (cells d) m) (pair.Refused 16) (
-    cond (busy (cells d) n) (pair.Refused 7) (
-    cond (busy (cells d) m) (pair.Refused 7) (
-    cond (not (joinable (cells d) n m)) (pair.Refused 11) (
-    pair.Allowed (record { 0 = n }) (record { 0 = m })))))))))))
+    ≡ cond (not (given_out (cells d) n)) (Err NeverSent) (
+    cond (not (given_out (cells d) m)) (Err NeverSent) (
+    cond (joined (cells d) n) (Err Joined) (
+    cond (joined (cells d) m) (Err Joined) (
+    cond (off_line (cells d) n) (Err OffTheLine) (
+    cond (is_mark (cells d) n) (Err Marked) (
+    cond (is_mark (cells d) m) (Err Marked) (
+    cond (busy (cells d) n) (Err Busy) (
+    cond (busy (cells d) m) (Err Busy) (
+    cond (not (joinable (cells d) n m)) (Err NotJoinable) (
+    Ok (record { 0 = n }, record { 0 = m })))))))))))
 unfolding join_check
 checks_are d n m = simp given_is
 
-pub joins : (d : List ℕ) (n m : ℕ) (a b : Revision) → join_check d n m ≡ pair.Allowed a b → Joins d n m a b
+pub joins : (d : List ℕ) (n m : ℕ) (a b : Revision) → join_check d n m ≡ Ok (a, b) → Joins d n m a b
 joins d n m a b e =
     let given-n = failed (not (given_out (cells d) n)) _ _ _ (λ h. cc) (sym (checks_are d n m) ∙ e) in
     let given-m = failed (not (given_out (cells d) m)) _ _ _ (λ h. cc) given-n.1 in
@@ -69,10 +71,11 @@ joins d n m a b e =
     let idle-n = failed (busy (cells d) n) _ _ _ (λ h. cc) plain-m.1 in
     let idle-m = failed (busy (cells d) m) _ _ _ (λ h. cc) idle-n.1 in
     let found = (failed (not (joinable (cells d) n m)) _ _ _ (λ h. cc) idle-m.1).1 in
-    record { joiner = cc found; joinee = cc found; given = not-false (given_out (cells d) n) given-n.0; out = out-n.0; idle = idle-n.0 }
+    let pair : ◌≡◌ {A = Revision × Revision} (record { 0 = n }, record { 0 = m }) (a, b) = cc found in
+    record { joiner = sym (ap (λ (p : Revision × Revision). p.0.0) pair); joinee = sym (ap (λ (p : Revision × Revision). p.1.0) pair); given = not-false (given_out (cells d) n) given-n.0; out = out-n.0; idle = idle-n.0 }
 
 -- the table that the join leaves
-module _ (t : List ℕ) (h : is_table t ≡ true) (m : ℕ) (a b : Revision) (e : join_check (low t) 0 m ≡ pair.Allowed a b) (bl : b.0 < revisions) (pos : 0 < b.0) where
+module _ (t : List ℕ) (h : is_table t ≡ true) (m : ℕ) (a b : Revision) (e : join_check (low t) 0 m ≡ Ok (a, b)) (bl : b.0 < revisions) (pos : 0 < b.0) where
   abbrev J : Joins (low t) 0 m a b
   J = joins (low t) 0 m a b e
 
@@ -90,7 +93,7 @@ module _ (t : List ℕ) (h : is_table t ≡ true) (m : ℕ) (a b : Revision) (e 
     next-in c f = let n = next_ranged (cells (low t₁)) (ranges (low t₁) joined-lower.1) in (rw f n.0, rw f n.1)
 
     pub sync-done : (c : Revision) (t₂ : List ℕ) → c ≡ record { 0 = next_number (cells (low t₁)) } → t₂ ≡ fork_bytes (low t₁) a.0 c.0 ++ high t₁ → taken t₂ c.0 ≡ sync_out t m board_bytes
-    unfolding on_pair
+    unfolding on_ok
     sync-done c t₂ f g =
         let ml = rw J.joinee at bl in
         let mp = rw J.joinee at pos in
@@ -100,4 +103,4 @@ module _ (t : List ℕ) (h : is_table t ≡ true) (m : ℕ) (a b : Revision) (e 
         let high₁ : high t₁ ≡ high t = ap high was ∙ high_of d (high t) long in
         let next₁ : c.0 ≡ next_number (cells d) = ap (λ r. r.0) f ∙ ap (λ l. next_number (cells l)) low₁ in
         same_taken _ _ _ _ (g ∙ rw (low₁, high₁, J.joiner, next₁)) next₁
-        ∙ ap (as_one t) (sym (sync-forks t h m ml mp J.given J.out J.idle)) ∙ sync_by t h m (pair.Allowed a b) e
+        ∙ ap (as_one t) (sym (sync-forks t h m ml mp J.given J.out J.idle)) ∙ sync_by t h m (Ok (a, b)) e

@@ -7,14 +7,13 @@ ghost use Rattle.cells.specs.Range.{in_range};
 ghost use Rattle.cells.specs.Steps.{join_bytes};
 ghost use Rattle.table.specs.Halves.{cells_of, high, is_table, low};
 ghost use Rattle.table.specs.Out.{table_bytes};
-ghost use Rattle.table.specs.Answers.{left};
+ghost use Rattle.table.specs.Told.{left};
 ghost use Rattle.table.specs.Calls.{join_out};
 
 use sizes::numbers::Revision;
 use sizes::table::Table;
-use table::answer::Answer;
 use table::join::check_join;
-use table::pair::PairCheck;
+use table::refusal::Refusal;
 
 // b is joined into a. How many updates a gained is the answer.
 pub fn join_lower(t: &mut [u8], a: Revision, b: Revision) -> u32
@@ -26,17 +25,11 @@ pub fn join_lower(t: &mut [u8], a: Revision, b: Revision) -> u32
 }
 
 // The checks, then the work; the board has the right length.
-pub fn join_sound(t: &mut [u8], joiner: u8, joinee: u8) -> Answer
+pub fn join_sound(t: &mut [u8], joiner: u8, joinee: u8) -> Result<u32, Refusal>
     requires { (is_table t.old ≡ true) × (length t.old ≡ table_bytes) × (in_range (low t.old) ≡ true) }
     ensures { left result t.new ≡ join_out t.old joiner joinee board_bytes }
 {
-    let found = check_join(&t[0..Table::LOWER], joiner, joinee);
-    let PairCheck::Allowed(a, b) = found else {
-        return Answer {
-            code: found.code(),
-            value: 0,
-        };
-    };
+    let (a, b) = check_join(&t[0..Table::LOWER], joiner, joinee)?;
     let value = join_lower(t, a, b);
-    Answer { code: 0, value }
+    Ok(value)
 }

@@ -5,34 +5,24 @@ ghost use Rattle.boards.specs.Board.{board_bytes};
 ghost use Rattle.cells.specs.Range.{in_range};
 ghost use Rattle.table.specs.Halves.{is_table, low};
 ghost use Rattle.table.specs.Out.{table_bytes};
-ghost use Rattle.table.specs.Answers.{left};
+ghost use Rattle.table.specs.Told.{left};
 ghost use Rattle.table.specs.Calls.{sync_out};
 
 use crate::join::join_lower;
 use checks::next::next;
 use forking::fork::start;
 use sizes::table::Table;
-use table::answer::Answer;
 use table::join::check_join;
-use table::pair::PairCheck;
+use table::refusal::Refusal;
 
 // The join's checks, then the work; the board has the right length. Once the join is taken its fork is: the joinee's number is free.
-pub fn sync_sound(t: &mut [u8], joinee: u8) -> Answer
+pub fn sync_sound(t: &mut [u8], joinee: u8) -> Result<u32, Refusal>
     requires { (is_table t.old ≡ true) × (length t.old ≡ table_bytes) × (in_range (low t.old) ≡ true) }
     ensures { left result t.new ≡ sync_out t.old joinee board_bytes }
 {
-    let found = check_join(&t[0..Table::LOWER], 0, joinee);
-    let PairCheck::Allowed(a, b) = found else {
-        return Answer {
-            code: found.code(),
-            value: 0,
-        };
-    };
+    let (a, b) = check_join(&t[0..Table::LOWER], 0, joinee)?;
     join_lower(t, a, b);
     let c = next(&t[0..Table::LOWER]);
     start(t, a, c);
-    Answer {
-        code: 0,
-        value: c.0 as u32,
-    }
+    Ok(u32::from(c.0))
 }

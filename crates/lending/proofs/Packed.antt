@@ -10,8 +10,7 @@ use borrow.Author.Tests.{lt-ltb, ltb-false}
 use Rattle.lists.proofs.Cases.{cases}
 use Rattle.bundles.specs.declared.entry.Entry.{Entry}
 use Rattle.bundles.specs.Records.{is_wrong}
-use Rattle.bundles.specs.Packed.{records_of}
-use Rattle.bundles.specs.Packed.{among, packed_of, records_in}
+use Rattle.bundles.specs.Packed.{among, packed_of, records_in, records_of}
 use Rattle.bundles.proofs.Filled.{packed_records}
 use Rattle.bundles.proofs.Held.{entries_of_records, wrong_records}
 use Rattle.table.specs.Answers.{refused}

@@ -36,10 +36,7 @@ fn first_or(d: &[u8], r: Revision, u: usize) -> usize
 pub fn counted(n: usize) -> usize
     ensures { (result ≡ counted n) × (result < 65536) }
 {
-    if n < Table::UPDATES {
-        return n;
-    }
-    Table::UPDATES
+    n.min(Table::UPDATES)
 }
 
 // The next update number goes to the end of r's own list. The number is the answer.

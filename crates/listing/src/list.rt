@@ -6,7 +6,8 @@ ghost use Rattle.entries.specs.Entries.{entry_at};
 ghost use Rattle.sheets.specs.Sheet as Sheet;
 ghost use Rattle.table.specs.Halves.{high, is_table, low};
 ghost use Rattle.table.specs.Out.{table_bytes};
-ghost use Rattle.table.specs.Answers.{left, taken};
+ghost use Rattle.table.specs.Answers.{taken};
+ghost use Rattle.table.specs.Told.{left};
 ghost use Rattle.table.specs.Calls.{list_out};
 ghost use Rattle.table.specs.Found.{check, shown_out};
 ghost use Rattle.listing.specs.Checks.{sheet_check};
@@ -14,8 +15,7 @@ ghost use Rattle.listing.specs.Checks.{sheet_check};
 use bundles::sizes::Record;
 use sizes::numbers::Revision;
 use sizes::table::Table;
-use table::answer::Answer;
-use table::idle::IdleCheck;
+use table::refusal::Refusal;
 use table::sound::TableCheck;
 use table::visible::visible;
 use table::{idle, sound};
@@ -28,6 +28,7 @@ pub enum SheetCheck {
 }
 
 // n lines of 12 bytes.
+#[tactic(auto, unfolding(crate::specs::Checks::sheet_check))]
 fn check_sheet(sheet: &[u8], n: usize) -> SheetCheck
     requires { n ≤ updates }
     ensures { result ≡ sheet_check (length sheet.now) n }
@@ -39,51 +40,44 @@ fn check_sheet(sheet: &[u8], n: usize) -> SheetCheck
     }
 }
 
-// The lines of the first n numbers of `order`, if the sheet has room for them.
-fn put(t: &[u8], order: &[u16], n: usize, sheet: &mut [u8]) -> Answer
-    requires { (length t.now ≡ table_bytes) × (n ≤ updates) × (n ≤ length order.now) }
-    ensures { left result sheet.new ≡ check (ltb (length sheet.old) (12 * n)) 12 sheet.old (taken (Sheet.sheet (entry_at (high t.now)) (take n order.now) sheet.old) n) }
+// The lines of the numbers in `order`, if the sheet has room for them.
+#[tactic(auto, unfolding(crate::specs::Checks::sheet_check))]
+fn put(t: &[u8], order: &[u16], sheet: &mut [u8]) -> Result<u32, Refusal>
+    requires { (length t.now ≡ table_bytes) × (length order.now ≤ updates) }
+    ensures { left result sheet.new ≡ check (ltb (length sheet.old) (12 * length order.now)) 12 sheet.old (taken (Sheet.sheet (entry_at (high t.now)) order.now sheet.old) (length order.now)) }
 {
+    let n = order.len();
     let SheetCheck::Fits = check_sheet(sheet, n) else {
-        return Answer { code: 12, value: 0 };
+        return Err(Refusal::SheetShort);
     };
-    sheets::lines::lines(&t[Table::LOWER..Table::BYTES], order, n, sheet);
-    Answer {
-        code: 0,
-        value: n as u32,
-    }
+    sheets::lines::lines(&t[Table::LOWER..Table::BYTES], order, sheet);
+    Ok(n as u32)
 }
 
 // What is visible at r, if the sheet has room for it.
-fn show(t: &[u8], r: Revision, sheet: &mut [u8]) -> Answer
+fn show(t: &[u8], r: Revision, sheet: &mut [u8]) -> Result<u32, Refusal>
     requires { (length t.now ≡ table_bytes) × (in_range (low t.now) ≡ true) × (r.0 < revisions) }
     ensures { left result sheet.new ≡ shown_out t.now r.0 sheet.old }
 {
     let mut out = order::links::room();
     let n = visible(t, r, &mut out);
-    put(t, &out, n, sheet)
+    put(t, &out[..n], sheet)
 }
 
 // The call on bytes that are a table.
-fn list_sound(t: &[u8], revision: u8, sheet: &mut [u8]) -> Answer
+fn list_sound(t: &[u8], revision: u8, sheet: &mut [u8]) -> Result<u32, Refusal>
     requires { (is_table t.now ≡ true) × (length t.now ≡ table_bytes) × (in_range (low t.now) ≡ true) }
     ensures { left result sheet.new ≡ list_out t.now revision sheet.old }
 {
-    let found = idle::check_idle(&t[0..Table::LOWER], revision);
-    let IdleCheck::Idle(r) = found else {
-        return Answer {
-            code: found.code(),
-            value: 0,
-        };
-    };
+    let r = idle::check_idle(&t[0..Table::LOWER], revision)?;
     show(t, r, sheet)
 }
 
-pub fn list(t: &[u8], revision: u8, sheet: &mut [u8]) -> Answer
+pub fn list(t: &[u8], revision: u8, sheet: &mut [u8]) -> Result<u32, Refusal>
     ensures { left result sheet.new ≡ list_out t.now revision sheet.old }
 {
     let TableCheck::Sound = sound::check_table(t) else {
-        return Answer { code: 1, value: 0 };
+        return Err(Refusal::NoTable);
     };
     list_sound(t, revision, sheet)
 }

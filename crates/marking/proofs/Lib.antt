@@ -1,3 +1,3 @@
--- Laws of the checks of marks, and the calls from what their checks find.
+-- A law of the checks of marks, and a mark from what its checks find.
 pub mod Checks
 pub mod Calls

@@ -5,13 +5,13 @@ ghost use Rattle.cells.specs.Range.{in_range};
 ghost use Rattle.cells.specs.Steps.{drop_bytes};
 ghost use Rattle.table.specs.Halves.{high, is_table, low};
 ghost use Rattle.table.specs.Out.{table_bytes};
-ghost use Rattle.table.specs.Answers.{left};
+ghost use Rattle.table.specs.Told.{left};
 ghost use Rattle.table.specs.Calls.{drop_out};
 
-use checks::bearer::{BearerCheck, check_bearer};
+use checks::bearer::check_bearer;
 use sizes::numbers::Revision;
 use sizes::table::Table;
-use table::answer::Answer;
+use table::refusal::Refusal;
 use table::sound;
 use table::sound::TableCheck;
 
@@ -24,23 +24,24 @@ fn drop_lower(t: &mut [u8], r: Revision)
 }
 
 // The call on bytes that are a table: check 18.
-fn drop_sound(t: &mut [u8], name: &[u8]) -> Answer
+#[tactic(auto, unfolding(table::specs::Calls::drop_out, table::specs::Halves::low, checks::specs::Answers::bearer_check))]
+fn drop_sound(t: &mut [u8], name: &[u8]) -> Result<u32, Refusal>
     requires { (is_table t.old ≡ true) × (length t.old ≡ table_bytes) × (in_range (low t.old) ≡ true) }
     ensures { left result t.new ≡ drop_out t.old name.now }
 {
-    let found = check_bearer(&t[0..Table::LOWER], name);
-    let BearerCheck::Found(r) = found else {
-        return Answer { code: 18, value: 0 };
+    let Some(r) = check_bearer(&t[0..Table::LOWER], name) else {
+        return Err(Refusal::NoSuchMark);
     };
     drop_lower(t, r);
-    Answer { code: 0, value: 0 }
+    Ok(0)
 }
 
-pub fn drop(t: &mut [u8], name: &[u8]) -> Answer
+#[tactic(auto, unfolding(table::specs::Calls::drop_out, table::specs::Checks::table_check, table::specs::Halves::is_table))]
+pub fn drop(t: &mut [u8], name: &[u8]) -> Result<u32, Refusal>
     ensures { left result t.new ≡ drop_out t.old name.now }
 {
     let TableCheck::Sound = sound::check_table(t) else {
-        return Answer { code: 1, value: 0 };
+        return Err(Refusal::NoTable);
     };
     drop_sound(t, name)
 }

@@ -9,6 +9,7 @@ mod steps; // steps.rt: the calls that a round is made of
 mod tally; // tally.rt: what the calls answered
 
 use boards::check::Board;
+use rounds::Sent;
 use sizes::table::Table;
 use std::io;
 use tally::Tally;
@@ -19,20 +20,17 @@ const ROUNDS: u32 = 6700;
 const LATE: usize = 20;
 
 fn meeting(rt: &impl Print, t: &mut [u8], board: &mut [u8], sheet: &mut [u8]) -> io::Result<()> {
-    let mut sent = [0u8; LATE];
-    let mut nested = [0u8; LATE];
-    let mut tally = Tally::new();
-    let mut i: u32 = 0;
-    while i < ROUNDS {
+    let mut late: [Option<Sent>; LATE] = [None; LATE];
+    let mut tally = Tally::default();
+    for i in 0..ROUNDS {
         let slot = (i % 20) as usize;
-        let gone = rounds::send(t, board, i, tally);
-        tally = rounds::receive(t, board, sent[slot], nested[slot], gone.tally);
-        sent[slot] = gone.sender;
-        nested[slot] = gone.nested;
-        i += 1;
-        if i % 100 == 0 {
-            say::tally(rt, i, tally)?;
-            probes::probe(rt, t, sheet, gone.sender, i - 1)?;
+        let sent = rounds::send(t, board, i, &mut tally);
+        if let Some(back) = late[slot].replace(sent) {
+            rounds::receive(t, board, back, &mut tally);
+        }
+        if i % 100 == 99 {
+            say::tally(rt, i + 1, &tally)?;
+            probes::probe(rt, t, sheet, sent.sender, i)?;
         }
     }
     Ok(())
@@ -42,6 +40,6 @@ fn main(rt: HostRuntime) -> io::Result<()> {
     let mut t = [0u8; Table::BYTES];
     let mut board = [0u8; Board::BYTES];
     let mut sheet = [0u8; Table::BYTES];
-    announcing::fresh::fresh(&mut t, &mut board, false);
+    let _ = announcing::fresh::fresh(&mut t, &mut board, false);
     meeting(&rt, &mut t, &mut board, &mut sheet)
 }

@@ -2,76 +2,38 @@
 use crate::steps::{enters, forks, joins, looks};
 use crate::tally::Tally;
 
-// The boxes that a round leaves out: one from the main revision, and one from that, or 0 if it was handed in.
-#[derive(Drop)]
+// The boxes that a round leaves out: one from the main revision, and one from that unless it was handed in.
+#[derive(Clone, Copy, Debug)]
 pub struct Sent {
     pub sender: u8,
-    pub nested: u8,
-    pub tally: Tally,
+    pub nested: Option<u8>,
 }
 
 // A client writes on the innermost box, and another looks at the main revision.
-fn write(t: &mut [u8], board: &mut [u8], i: u32, revision: u8, tally: Tally) -> Tally {
-    let entered = enters(t, board, (i % 16) as u8, revision, i, tally);
-    looks(t, board, ((i % 16 + 8) % 16) as u8, i, entered)
+fn write(t: &mut [u8], board: &mut [u8], i: u32, revision: u8, tally: &mut Tally) {
+    enters(t, board, (i % 16) as u8, revision, i, tally);
+    looks(t, board, ((i % 16 + 8) % 16) as u8, i, tally);
 }
 
-// Every third round the middle box is handed in at once too.
-fn fold(t: &mut [u8], board: &mut [u8], i: u32, outer: u8, middle: u8, tally: Tally) -> Sent {
+// The innermost of three boxes, each from the one before, is handed in at once; every third round the middle one too.
+pub fn send(t: &mut [u8], board: &mut [u8], i: u32, tally: &mut Tally) -> Sent {
+    let sender = forks(t, 0, tally);
+    let middle = forks(t, sender, tally);
+    let inner = forks(t, middle, tally);
+    write(t, board, i, inner, tally);
+    joins(t, board, middle, inner, tally);
+    let mut nested = Some(middle);
     if i % 3 == 0 {
-        return Sent {
-            sender: outer,
-            nested: 0,
-            tally: joins(t, board, outer, middle, tally),
-        };
+        joins(t, board, sender, middle, tally);
+        nested = None;
     }
-    Sent {
-        sender: outer,
-        nested: middle,
-        tally,
-    }
-}
-
-// Three boxes, each from the one before.
-#[derive(Drop)]
-struct Boxes {
-    outer: u8,
-    middle: u8,
-    inner: u8,
-    tally: Tally,
-}
-
-fn three(t: &mut [u8], tally: Tally) -> Boxes {
-    let a = forks(t, 0, tally);
-    let b = forks(t, a.number, a.tally);
-    let c = forks(t, b.number, b.tally);
-    let heard = c.tally;
-    Boxes {
-        outer: a.number,
-        middle: b.number,
-        inner: c.number,
-        tally: heard,
-    }
-}
-
-// The innermost of three is handed in at once.
-pub fn send(t: &mut [u8], board: &mut [u8], i: u32, tally: Tally) -> Sent {
-    let boxes = three(t, tally);
-    let written = write(t, board, i, boxes.inner, boxes.tally);
-    let joined = joins(t, board, boxes.middle, boxes.inner, written);
-    fold(t, board, i, boxes.outer, boxes.middle, joined)
-}
-
-// A late box comes in. 0 is none.
-fn late(t: &mut [u8], board: &mut [u8], revision: u8, tally: Tally) -> Tally {
-    if revision == 0 {
-        return tally;
-    }
-    joins(t, board, 0, revision, tally)
+    Sent { sender, nested }
 }
 
 // The sender comes in before the box that it sent.
-pub fn receive(t: &mut [u8], board: &mut [u8], sender: u8, nested: u8, tally: Tally) -> Tally {
-    let heard = late(t, board, sender, tally);
-    late(t, board, nested, heard)
+pub fn receive(t: &mut [u8], board: &mut [u8], late: Sent, tally: &mut Tally) {
+    joins(t, board, 0, late.sender, tally);
+    if let Some(nested) = late.nested {
+        joins(t, board, 0, nested, tally);
+    }
 }

@@ -1,45 +1,31 @@
-// Lines on standard output.
+// Lines on standard output. A refusal has its number and zeros.
 use crate::tally::Tally;
 use std::io;
-use std::io::Write;
-use table::answer::{Answer, Level, Prospect};
+use table::answer::{Level, Prospect};
+use table::refusal::Refusal;
 
-// A word, and a number behind it.
-fn field(rt: &impl Print, word: &[u8], n: u64) -> io::Result<()> {
-    io::writer(rt).write_all(word)?;
-    print!(rt; " {n}")
-}
-
-fn end(rt: &impl Print) -> io::Result<()> {
-    io::writer(rt).write_all(b"\n")
-}
-
-pub fn tally(rt: &impl Print, rounds: u32, y: Tally) -> io::Result<()> {
-    field(rt, b"rounds", rounds as u64)?;
-    field(rt, b" forks", y.forks as u64)?;
-    field(rt, b" joins", y.joins as u64)?;
-    field(rt, b" updates", y.updates as u64)?;
-    field(rt, b" sum", y.sum)?;
-    end(rt)
+pub fn tally(rt: &impl Print, rounds: u32, y: &Tally) -> io::Result<()> {
+    println!(rt; "rounds {rounds} {y}")
 }
 
 // A call's name, code and value.
-pub fn answer(rt: &impl Print, name: &[u8], a: Answer) -> io::Result<()> {
-    field(rt, name, a.code as u64)?;
-    field(rt, b"", a.value as u64)?;
-    end(rt)
+pub fn answer(rt: &impl Print, name: &str, a: Result<u32, Refusal>) -> io::Result<()> {
+    match a {
+        Ok(value) => println!(rt; "{name} 0 {value}"),
+        Err(e) => println!(rt; "{name} {} 0", u8::from(e)),
+    }
 }
 
-pub fn level(rt: &impl Print, f: Level) -> io::Result<()> {
-    field(rt, b"fill", f.code as u64)?;
-    field(rt, b"", f.own as u64)?;
-    field(rt, b"", f.total as u64)?;
-    end(rt)
+pub fn level(rt: &impl Print, a: Result<Level, Refusal>) -> io::Result<()> {
+    match a {
+        Ok(f) => println!(rt; "fill 0 {} {}", f.own, f.total),
+        Err(e) => println!(rt; "fill {} 0 0", u8::from(e)),
+    }
 }
 
-pub fn prospect(rt: &impl Print, p: Prospect) -> io::Result<()> {
-    field(rt, b"preview", p.code as u64)?;
-    field(rt, b"", p.value as u64)?;
-    field(rt, b"", p.gain as u64)?;
-    end(rt)
+pub fn prospect(rt: &impl Print, a: Result<Prospect, Refusal>) -> io::Result<()> {
+    match a {
+        Ok(p) => println!(rt; "preview 0 {} {}", p.value, p.gain),
+        Err(e) => println!(rt; "preview {} 0 0", u8::from(e)),
+    }
 }

@@ -9,46 +9,30 @@ use updating::update::update;
 // The kind Time.
 const TIME: u8 = 1;
 
-// The number of the box that a fork started, and the tally after it.
-#[derive(Drop)]
-pub struct Forked {
-    pub number: u8,
-    pub tally: Tally,
-}
-
-pub fn forks(t: &mut [u8], revision: u8, tally: Tally) -> Forked {
+// The number of the box that a fork started, 0 if it was refused.
+pub fn forks(t: &mut [u8], revision: u8, tally: &mut Tally) -> u8 {
     let a = fork(t, revision);
-    Forked {
-        number: (a.value % 256) as u8,
-        tally: tally.forked(a),
-    }
+    tally.forked(a);
+    (a.unwrap_or(0) % 256) as u8
 }
 
-pub fn joins(t: &mut [u8], board: &mut [u8], joiner: u8, joinee: u8, tally: Tally) -> Tally {
-    let a = join(t, board, joiner, joinee);
-    tally.joined(a)
+pub fn joins(t: &mut [u8], board: &mut [u8], joiner: u8, joinee: u8, tally: &mut Tally) {
+    tally.joined(join(t, board, joiner, joinee));
 }
 
-fn closes(t: &mut [u8], board: &mut [u8], client: u8, tally: Tally) -> Tally {
-    let a = yields(t, board, client);
-    tally.heard(a.code, a.value)
+fn closes(t: &mut [u8], board: &mut [u8], client: u8, tally: &mut Tally) {
+    tally.heard(yields(t, board, client));
 }
 
 // A time is entered and closed.
-pub fn enters(
-    t: &mut [u8],
-    board: &mut [u8],
-    client: u8,
-    revision: u8,
-    i: u32,
-    tally: Tally,
-) -> Tally {
-    let a = update(t, client, revision, TIME, (i % 1000) as u16, i);
-    closes(t, board, client, tally.updated(a))
+pub fn enters(t: &mut [u8], board: &mut [u8], client: u8, revision: u8, i: u32, tally: &mut Tally) {
+    tally.updated(update(t, client, revision, TIME, (i % 1000) as u16, i));
+    closes(t, board, client, tally);
 }
 
 // A bib is looked up on the main revision.
-pub fn looks(t: &mut [u8], board: &mut [u8], client: u8, i: u32, tally: Tally) -> Tally {
+pub fn looks(t: &mut [u8], board: &mut [u8], client: u8, i: u32, tally: &mut Tally) {
     let a = query(t, client, 0, (i % 1000) as u16);
-    closes(t, board, client, tally.heard(a.code, a.value))
+    tally.heard(a.map(|r| r.value));
+    closes(t, board, client, tally);
 }

@@ -1,54 +1,49 @@
 // What the calls answered: a checksum of all codes and values, and how many steps of each kind were taken.
-use std::num::wrapping_add_u32;
-use table::answer::Answer;
+use std::fmt;
+use table::refusal::Refusal;
 
-#[derive(Clone, Copy)]
+#[derive(Debug, Default, Drop)]
 pub struct Tally {
-    pub sum: u64,
-    pub forks: u32,
-    pub joins: u32,
-    pub updates: u32,
-}
-
-// 1 if the call was taken.
-fn taken(code: u8) -> u32 {
-    if code == 0 { 1 } else { 0 }
+    sum: u64,
+    forks: u32,
+    joins: u32,
+    updates: u32,
 }
 
 impl Tally {
-    pub fn new() -> Tally {
-        Tally {
-            sum: 0,
-            forks: 0,
-            joins: 0,
-            updates: 0,
-        }
+    // A refusal has its number and value 0.
+    pub fn heard(&mut self, a: Result<u32, Refusal>) {
+        let (code, value) = match a {
+            Ok(value) => (0, value),
+            Err(e) => (u8::from(e), 0),
+        };
+        self.sum = (self.sum % 1000003 * 31 + u64::from(code) * 101 + u64::from(value)) % 1000003;
     }
 
-    pub fn heard(self, code: u8, value: u32) -> Tally {
-        Tally {
-            sum: (self.sum % 1000003 * 31 + code as u64 * 101 + value as u64) % 1000003,
-            forks: self.forks,
-            joins: self.joins,
-            updates: self.updates,
-        }
+    pub fn forked(&mut self, a: Result<u32, Refusal>) {
+        self.heard(a);
+        self.forks = self.forks.wrapping_add(u32::from(a.is_ok()));
     }
 
-    pub fn forked(self, a: Answer) -> Tally {
-        let mut next = self.heard(a.code, a.value);
-        next.forks = wrapping_add_u32(next.forks, taken(a.code));
-        next
+    pub fn joined(&mut self, a: Result<u32, Refusal>) {
+        self.heard(a);
+        self.joins = self.joins.wrapping_add(u32::from(a.is_ok()));
     }
 
-    pub fn joined(self, a: Answer) -> Tally {
-        let mut next = self.heard(a.code, a.value);
-        next.joins = wrapping_add_u32(next.joins, taken(a.code));
-        next
+    pub fn updated(&mut self, a: Result<u32, Refusal>) {
+        self.heard(a);
+        self.updates = self.updates.wrapping_add(u32::from(a.is_ok()));
     }
+}
 
-    pub fn updated(self, a: Answer) -> Tally {
-        let mut next = self.heard(a.code, a.value);
-        next.updates = wrapping_add_u32(next.updates, taken(a.code));
-        next
+impl fmt::Display for Tally {
+    fn fmt<W: fmt::Write>(&self, f: &mut fmt::Formatter<W>) -> fmt::Result {
+        let Tally {
+            sum,
+            forks,
+            joins,
+            updates,
+        } = self;
+        write!(f, "forks {forks} joins {joins} updates {updates} sum {sum}")
     }
 }

@@ -47,17 +47,15 @@ fn run(d: &[u8], at: usize, n: usize, m: usize, out: &mut [u16]) -> Walk
     ensures { (result.at < updates) × (m ≤ result.left) × (result.left < n) × (with_chain d.now result.at result.left out.new ≡ with_chain d.now at n out.old) }
 {
     let mut u = at;
-    let mut i = n;
-    while m < i {
+    for i in (m..n).rev() {
         let v = read::link(d, u);
-        i -= 1;
         out[i] = u as u16;
         if v + 1 != u {
             return Walk { at: v, left: i };
         }
         u -= 1;
     }
-    Walk { at: u, left: i }
+    Walk { at: u, left: m }
 }
 
 // Of the n updates that end at `at` all but the first m, in their places, run by run. The answer is the last of those m.

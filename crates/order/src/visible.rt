@@ -11,7 +11,7 @@ ghost use Rattle.order.specs.Added.{Added, offered};
 
 use crate::links;
 use fields::read;
-use sizes::numbers::{Revision, RevisionCheck, check_revision};
+use sizes::numbers::Revision;
 use sizes::table::Table;
 
 // x goes behind the first n, if there is room.
@@ -27,6 +27,7 @@ fn push(out: &mut [u16], n: usize, x: u16) -> usize
 }
 
 // Whether r inherited u, the entry at place i of a list of which it inherited the first `base`.
+#[tactic(auto, using(crate::proofs::Laws::past_flags))]
 pub fn wanted(d: &[u8], r: Revision, base: usize, i: usize, u: usize) -> bool
     requires { (length d.now ≡ lower_bytes) × (r.0 < revisions) }
     ensures { result ≡ (ltb i base || flagged (cells d.now) r.0 u) }
@@ -41,11 +42,12 @@ pub fn wanted(d: &[u8], r: Revision, base: usize, i: usize, u: usize) -> bool
 }
 
 // The entry x at place i goes behind the first n, if r inherited it.
+#[tactic(auto, using(crate::proofs::Laws::added_none))]
 fn offer(d: &[u8], r: Revision, base: usize, i: usize, x: u16, out: &mut [u16], n: usize) -> usize
     requires { (length d.now ≡ lower_bytes) × (r.0 < revisions) × (length out.old ≡ updates) × (n ≤ updates) }
     ensures { Added out.old n (offered base (flagged (cells d.now) r.0) i x) out.new result }
 {
-    if wanted(d, r, base, i, x as usize) {
+    if wanted(d, r, base, i, usize::from(x)) {
         return push(out, n, x);
     }
     n
@@ -56,11 +58,9 @@ fn sift(d: &[u8], r: Revision, base: usize, list: &[u16], out: &mut [u16], n: us
     requires { (length d.now ≡ lower_bytes) × (r.0 < revisions) × (length out.old ≡ updates) × (n ≤ updates) }
     ensures { Added out.old n (picks base (flagged (cells d.now) r.0) list.now) out.new result }
 {
-    let mut i: usize = 0;
     let mut m = n;
-    while i < list.len() {
-        m = offer(d, r, base, i, list[i], out, m);
-        i += 1;
+    for (i, x) in list.iter().enumerate() {
+        m = offer(d, r, base, i, *x, out, m);
     }
     m
 }
@@ -98,7 +98,7 @@ pub fn at_place(d: &[u8], i: usize) -> Revision
     requires { (length d.now ≡ lower_bytes) × (in_range d.now ≡ true) × (i < revisions) }
     ensures { (result.0 ≡ byte (cells d.now).layout i) × (result.0 < revisions) }
 {
-    let RevisionCheck::Known(r) = check_revision(read::place(d, i) as u8) else {
+    let Ok(r) = Revision::try_from(read::place(d, i) as u8) else {
         return Revision::main();
     };
     r
@@ -110,15 +110,13 @@ pub fn place_of(d: &[u8], r: Revision) -> usize
     ensures { (result ≤ revisions) × (behind r.0 (outs (cells d.now)) ≡ drop (result + 1) (outs (cells d.now))) }
 {
     let n = read::out(d);
-    let mut j: usize = 0;
-    while j < n {
+    for j in 0..n {
         let x = at_place(d, j);
-        if x.0 == r.0 {
+        if x == r {
             return j;
         }
-        j += 1;
     }
-    j
+    n
 }
 
 // What r inherited from the revisions behind place j, from the left. One room does for all lists.
@@ -126,10 +124,8 @@ fn add_left(d: &[u8], r: Revision, j: usize, room: &mut [u16], out: &mut [u16]) 
     requires { (length d.now ≡ lower_bytes) × (in_range d.now ≡ true) × (r.0 < revisions) × (j ≤ revisions) × (length room.old ≡ updates) × (length out.old ≡ updates) }
     ensures { Added out.old 0 (flat_back (inherited (cells d.now) r.0) (drop (j + 1) (outs (cells d.now)))) out.new result }
 {
-    let mut i = read::out(d);
     let mut m: usize = 0;
-    while j + 1 < i {
-        i -= 1;
+    for i in (j + 1..read::out(d)).rev() {
         let x = at_place(d, i);
         let base = base_in(d, r, x);
         m = add_some(d, r, base, x, room, out, m);

@@ -18,14 +18,12 @@ pub fn fits(d: &[u8], r: Revision, j: usize) -> bool
 {
     let n = read::out(d);
     let mut left = Table::UPDATES - read::count(d, r);
-    let mut i = j + 1;
-    while i < n {
+    for i in j + 1..n {
         let many = read::count(d, at_place(d, i));
         if left < many {
             return false;
         }
         left -= many;
-        i += 1;
     }
     true
 }

@@ -1,12 +1,10 @@
 -- No claim rests on this file: it serves the code. What the check of a file finds, and places as the code keeps them.
-use Rattle.std.specs.Prelude.{ℕ, Bool, true, cond, ◌≡◌, List, get_or}
+use Rattle.std.specs.Prelude.{ℕ, Bool, true, cond, ◌≡◌, List, Option, Some, None, get_or}
 use Rattle.orderfile.specs.File.{is_bad_list, offset}
 use Rattle.orderfile.specs.Test.{is_complete, place_in}
-use Rattle.orderfile.specs.declared.file.ListCheck.{ListCheck}
-use Rattle.orderfile.specs.declared.file.ListCheck.TheVariants.{Good, Bad}
 
-unfoldable pub list_check : List ℕ → ListCheck
-list_check f = cond (is_bad_list f) Bad (Good (offset f))
+unfoldable pub list_check : List ℕ → Option ℕ
+list_check f = cond (is_bad_list f) None (Some (offset f))
 
 -- the place of u among the places kept, 0 where none is kept
 abbrev pub place_at : List ℕ → ℕ → ℕ

@@ -18,27 +18,21 @@ impl Order {
     pub const NUMBER: u64 = 2;
 }
 
-// Where the numbers begin, or that the list is bad.
-#[derive(Drop)]
-pub enum ListCheck {
-    Good(usize),
-    Bad,
-}
-
-// The sum is made in 64 bits: no count wraps into a fit.
-pub fn check_list(f: &[u8]) -> ListCheck
+// Where the numbers begin; `None` where the list is bad. The sum is made in 64 bits: no count wraps into a fit.
+#[tactic(auto, unfolding(crate::specs::Checks::list_check, crate::specs::File::is_bad_list))]
+pub fn check_list(f: &[u8]) -> Option<usize>
     ensures { result ≡ list_check f.now }
 {
     if f.len() < Order::HEADER {
-        return ListCheck::Bad;
+        return None;
     }
     let count = read(&f[0..4]);
     let offset = read(&f[4..8]);
     if offset < Order::FIRST {
-        return ListCheck::Bad;
+        return None;
     }
     if offset + Order::NUMBER * count != f.len() as u64 {
-        return ListCheck::Bad;
+        return None;
     }
-    ListCheck::Good(offset as usize)
+    Some(offset as usize)
 }

@@ -4,11 +4,12 @@ ghost use Rattle.orderfile.specs.File.{numbers_of};
 ghost use Rattle.orderfile.specs.Checks.{PlacesOf, place_at};
 
 // Number i of those in b.
+#[tactic(auto, using(crate::proofs::Numbers::number_at))]
 fn number_at(b: &[u8], i: usize) -> usize
     requires { 2 * i + 2 ≤ length b.now }
     ensures { result ≡ get_or (numbers_of b.now) i 0 }
 {
-    b[2 * i] as usize + 256 * (b[2 * i + 1] as usize)
+    usize::from(u16::from_le_bytes([b[2 * i], b[2 * i + 1]]))
 }
 
 // How many numbers b has.
@@ -24,8 +25,7 @@ pub fn place_all(b: &[u8], taken: usize, places: &mut [u16]) -> bool
     requires { (length (numbers_of b.now) ≡ taken) × (taken < 65536) × (taken ≤ length places.old) × ((u : ℕ) → place_at places.old u ≡ 0) }
     ensures { PlacesOf taken (numbers_of b.now) places.new result }
 {
-    let mut i: usize = 0;
-    while i < taken {
+    for i in 0..taken {
         let n = number_at(b, i);
         if taken <= n {
             return false;
@@ -33,8 +33,7 @@ pub fn place_all(b: &[u8], taken: usize, places: &mut [u16]) -> bool
         if places[n] != 0 {
             return false;
         }
-        i += 1;
-        places[n] = i as u16;
+        places[n] = (i + 1) as u16;
     }
     true
 }

@@ -7,10 +7,7 @@ ghost use Rattle.orderfile.specs.Checks.{place_at};
 fn place(places: &[u16], u: usize) -> u16
     ensures { result ≡ place_at places.now u }
 {
-    if u < places.len() {
-        return places[u];
-    }
-    0
+    places.get(u).copied().unwrap_or(0)
 }
 
 // Each is above the last one, and the first above 0.
@@ -18,14 +15,12 @@ pub fn rise(places: &[u16], list: &[u16]) -> bool
     ensures { result ≡ rises (place_at places.now) 0 list.now }
 {
     let mut last: u16 = 0;
-    let mut i: usize = 0;
-    while i < list.len() {
-        let p = place(places, list[i] as usize);
+    for u in list {
+        let p = place(places, usize::from(*u));
         if p <= last {
             return false;
         }
         last = p;
-        i += 1;
     }
     true
 }

@@ -3,10 +3,7 @@ use Rattle.std.specs.Prelude.{ℕ, ◌+◌, ◌*◌, List}
 use Rattle.updates.specs.declared.standing.State.{State}
 use Rattle.updates.specs.declared.standing.State.TheVariants.{Neither, Timed, Struck}
 use Rattle.desk.specs.Calls as Desk
-use Rattle.table.specs.Out.{Out}
-use Rattle.table.specs.declared.answer.Answer.{Answer}
-use Rattle.table.specs.declared.answer.Level.{Level}
-use Rattle.table.specs.declared.answer.Prospect.{Prospect}
+use Rattle.table.specs.Out.{Answer, Level, Out, Prospect}
 
 -- the value in the lower 32 bits, the code in the eight above them
 abbrev pub packed : ℕ → ℕ → ℕ

@@ -1,3 +1,4 @@
--- Laws that serve several proofs: cells read and written in a part, gaps of the layout.
-pub mod PlaceLoops
+-- Laws that serve several proofs: cells read and written in a part, names, gaps of the layout.
+pub mod Lent
+pub mod Moved
 pub mod InPart

@@ -11,11 +11,7 @@ pub fn close(t: &mut [u8], i: usize, last: u8)
     requires { (length t.old ≡ 64) × (i < 64) }
     ensures { t.new ≡ (take i t.old ++ drop (i + 1) t.old) ++ (last ∷ []) }
 {
-    let mut j = i;
-    while j < LAST_PLACE {
-        t[j] = t[j + 1];
-        j += 1;
-    }
+    t.copy_within(i + 1.., i);
     t[LAST_PLACE] = last;
 }
 
@@ -24,10 +20,6 @@ pub fn open(t: &mut [u8], i: usize, x: u8)
     requires { (length t.old ≡ 64) × (i < 64) }
     ensures { t.new ≡ take 64 (take i t.old ++ (x ∷ drop i t.old)) }
 {
-    let mut j = LAST_PLACE;
-    while i < j {
-        t[j] = t[j - 1];
-        j -= 1;
-    }
+    t.copy_within(i..LAST_PLACE, i + 1);
     t[i] = x;
 }

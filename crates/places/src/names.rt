@@ -10,12 +10,8 @@ pub fn is_name(t: &[u8], r: usize, name: &[u8]) -> bool
     requires { 4 * r + 3 < length t.now }
     ensures { result ≡ same_name (name_in t.now r) name.now }
 {
-    if name.len() != Table::NAME {
-        return false;
-    }
     let at = Table::NAME * r;
-    (t[at] == name[0])
-        & ((t[at + 1] == name[1]) & ((t[at + 2] == name[2]) & (t[at + 3] == name[3])))
+    &t[at..at + Table::NAME] == name
 }
 
 pub fn put_name(t: &mut [u8], r: usize, name: &[u8])
@@ -23,8 +19,5 @@ pub fn put_name(t: &mut [u8], r: usize, name: &[u8])
     ensures { t.new ≡ put_name t.old r name.now }
 {
     let at = Table::NAME * r;
-    t[at] = name[0];
-    t[at + 1] = name[1];
-    t[at + 2] = name[2];
-    t[at + 3] = name[3];
+    t[at..at + Table::NAME].copy_from_slice(name);
 }

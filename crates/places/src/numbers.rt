@@ -8,15 +8,14 @@ pub fn word_at(t: &[u8], r: usize) -> usize
     requires { 2 * r + 1 < length t.now }
     ensures { (result ≡ word t.now r) × (result < 65536) }
 {
-    wide(t[2 * r]) + 256 * wide(t[2 * r + 1])
+    usize::from(u16::from_le_bytes([t[2 * r], t[2 * r + 1]]))
 }
 
 pub fn put_word(t: &mut [u8], r: usize, v: usize)
     requires { (2 * r + 1 < length t.old) × (v < 65536) }
     ensures { t.new ≡ put_word t.old r v }
 {
-    t[2 * r] = (v % 256) as u8;
-    t[2 * r + 1] = (v / 256) as u8;
+    t[2 * r..2 * r + 2].copy_from_slice(&(v as u16).to_le_bytes());
 }
 
 pub fn half_at(t: &[u8], u: usize) -> usize

@@ -7,8 +7,9 @@ use lib.Dec.{eqb}
 use borrow.Author.Tests.{eqb-true, not-false}
 use Rattle.lists.specs.Names.{Name}
 use Rattle.lists.proofs.Cases.{or-false}
-use Rattle.updates.specs.declared.kind.KindCheck.{KindCheck}
-use Rattle.updates.specs.declared.kind.KindCheck.TheVariants.{Known, Unknown}
+use Rattle.std.specs.Prelude.{Result, Ok, Err}
+use Rattle.updates.specs.declared.kind.Kind.{Kind}
+use Rattle.updates.specs.declared.kind.UnknownKind.{UnknownKind}
 use Rattle.updates.specs.Kinds.{bad_bib, bad_kind, is_unknown, kind_check, kind_in, kind_of}
 use Rattle.boards.specs.Board.{board_bytes, is_wrong_board}
 use Rattle.desk.specs.Calls.{Call, Update, Query, Yield, Fork, Join, Mark, Drop, Looks, Preview}
@@ -41,11 +42,11 @@ pub right_board : (room : ℕ) → is_wrong_board room ≡ false → room ≡ bo
 right_board room e = eqb-true room board_bytes (not-false _ e)
 
 -- a byte that is no unknown kind is its kind
-is_kind : (k : KindCheck) → is_unknown k ≡ false → k ≡ Known (kind_in k)
-is_kind Unknown e = absurd (true≢false e)
-is_kind (Known kind) e = refl
+is_kind : (k : Result Kind UnknownKind) → is_unknown k ≡ false → k ≡ Ok (kind_in k)
+is_kind (Err x) e = absurd (true≢false e)
+is_kind (Ok kind) e = refl
 
-pub known-kind : (bib k : ℕ) → (bad_bib bib || bad_kind k) ≡ false → (bad_bib bib ≡ false) × (kind_check k ≡ Known (kind_of k))
+pub known-kind : (bib k : ℕ) → (bad_bib bib || bad_kind k) ≡ false → (bad_bib bib ≡ false) × (kind_check k ≡ Ok (kind_of k))
 known-kind bib k e = let o = or-false (bad_bib bib) (bad_kind k) e in (o.0, is_kind (kind_check k) o.1)
 
 -- code 3 does not apply to a number that means something

@@ -12,8 +12,9 @@ use borrow.Author.Tests.{eqb-true, eqb-false, eq-eqb, ne_eqb, le-ltb, lt-ltb, lt
 use Rattle.lists.proofs.Cases.{cases, or-false}
 use Rattle.updates.specs.declared.kind.Kind.{Kind}
 use Rattle.updates.specs.declared.kind.Kind.TheVariants.{Time, Earliest, Penalty, Strike}
-use Rattle.updates.specs.declared.kind.KindCheck.TheVariants.{Known, Unknown}
-use Rattle.updates.specs.Kinds.{bad_bib, bad_kind, is_unknown, kind_check}
+use Rattle.std.specs.Prelude.{Result, Ok, Err}
+use Rattle.updates.specs.declared.kind.UnknownKind.{UnknownKind}
+use Rattle.updates.specs.Kinds.{bad_bib, bad_kind, is_unknown, kind_check, unknown}
 use Rattle.bundles.specs.declared.entry.Entry.{Entry}
 use Rattle.bundles.specs.Records.{is_wrong}
 use Rattle.orderfile.specs.File.{count, offset, is_bad_list}
@@ -52,16 +53,16 @@ good_bib bib e = ltb-true bib 1000 (not-false _ e)
 bib_good : (bib : ℕ) → bib < 1000 → bad_bib bib ≡ false
 bib_good bib l = rw (lt-ltb bib 1000 l)
 
-good_kind : (k : ℕ) (kind : Kind) → kind_check k ≡ Known kind → IsKind k
+good_kind : (k : ℕ) (kind : Kind) → kind_check k ≡ Ok kind → IsKind k
 unfolding kind_check
 good_kind k kind e =
     cases (eqb k 1) (λ a. let z = eqb-true k 1 a in (omega arith, omega arith)) (λ a.
     cases (eqb k 2) (λ b. let z = eqb-true k 2 b in (omega arith, omega arith)) (λ b.
     cases (eqb k 3) (λ c. let z = eqb-true k 3 c in (omega arith, omega arith)) (λ c.
     cases (eqb k 4) (λ d. let z = eqb-true k 4 d in (omega arith, omega arith)) (λ d.
-    absurd (let z : Unknown ≡ Known kind = rw (a, b, c, d) at e in let w : ◌≡◌ {A = ℕ} 0 1 = cc in omega arith)))))
+    absurd (let z : ◌≡◌ {A = Result Kind UnknownKind} (Err unknown) (Ok kind) = rw (a, b, c, d) at e in let w : ◌≡◌ {A = ℕ} 0 1 = cc in omega arith)))))
 
-kind_good : (k : ℕ) → IsKind k → (kind : Kind) × (kind_check k ≡ Known kind)
+kind_good : (k : ℕ) → IsKind k → (kind : Kind) × (kind_check k ≡ Ok kind)
 unfolding kind_check
 kind_good k (l, h) =
     cases (eqb k 1) (λ a. (Time, rw a)) (λ a.

@@ -1,6 +1,6 @@
 // The updates brought to the main revision's settled ones, found along the links and posted in listed order. The cost is in proportion to
 // them: no earlier update is looked at, and no other entry of the board.
-ghost use Rattle.std.specs.Prelude.{◌≡◌, true, ◌≤◌, ◌<◌, length, take};
+ghost use Rattle.std.specs.Prelude.{◌≡◌, true, ◌≤◌, ◌<◌, length};
 ghost use Rattle.cells.specs.Sizes.{lower_bytes, main, updates};
 ghost use Rattle.cells.specs.Cells.{Settles, chain, settled_since};
 ghost use Rattle.cells.specs.Decode.{cells};
@@ -25,15 +25,13 @@ fn post_entry(t: &[u8], n: u16, board: &mut [u8])
     post(board, e.bib, kind, e.v);
 }
 
-// The entries of the first `count` numbers of `order`.
-fn post_all(t: &[u8], order: &[u16], count: usize, board: &mut [u8])
-    requires { (length t.now ≡ entry_bytes) × (count ≤ length order.now) × (length board.old ≡ board_bytes) }
-    ensures { board.new ≡ entries_posted t.now (take count order.now) board.old }
+// The entries of the numbers in `order`.
+fn post_all(t: &[u8], order: &[u16], board: &mut [u8])
+    requires { (length t.now ≡ entry_bytes) × (length board.old ≡ board_bytes) }
+    ensures { board.new ≡ entries_posted t.now order.now board.old }
 {
-    let mut i: usize = 0;
-    while i < count {
-        post_entry(t, order[i], board);
-        i += 1;
+    for n in order {
+        post_entry(t, *n, board);
     }
 }
 
@@ -44,7 +42,7 @@ fn post_last(d: &[u8], t: &[u8], n: usize, room: &mut [u16], board: &mut [u8])
 {
     let at = read::last(d, Revision::main());
     links::gather(d, at, n, room);
-    post_all(t, room, n, board);
+    post_all(t, &room[..n], board);
 }
 
 // Room for a transaction or a gain of the usual size: all that a bundle has. A larger one has room for every update.

@@ -9,8 +9,8 @@ use Rattle.text.specs.Decimal.{ended}
 use Rattle.boards.specs.Board.{board_bytes}
 use Rattle.dayfile.specs.File.{file_check}
 use Rattle.dayfile.specs.Record.{step_at}
-use Rattle.dayfile.specs.declared.file.FileCheck.{FileCheck}
-use Rattle.dayfile.specs.declared.file.FileCheck.TheVariants.{Good, Bad}
+use Rattle.std.specs.declared.option.Option.{Option}
+use Rattle.std.specs.declared.option.Option.TheVariants.{Some, None}
 use Rattle.dayfile.specs.declared.step.Step.{Step}
 use Rattle.dayfile.specs.declared.step.Step.TheVariants.{Update, Query, Yield, Fork, Join, Unknown}
 use Rattle.plain.specs.Record.{PlainDay}
@@ -42,10 +42,10 @@ lines_same f (suc i) =
     let h = (step_same (paper_after f i) (table_after fresh_table f i) (stands f i) (step_at f i)).reply in
     rw (ap (λ r. r.code) h, ap (λ r. r.state) h, ap (λ r. r.value) h, lines_same f i)
 
-same_text : (c : FileCheck) (f : List ℕ) → printed_as c f ≡ paper_as c f
+same_text : (c : Option ℕ) (f : List ℕ) → printed_as c f ≡ paper_as c f
 unfolding day
-same_text Bad f = refl
-same_text (Good n) f = ap (λ l. ascii "steps " ++ ended n line_feed ++ l) (lines_same f n)
+same_text None f = refl
+same_text (Some n) f = ap (λ l. ascii "steps " ++ ended n line_feed ++ l) (lines_same f n)
 
 pub printed_is_paper : PrintedIsPaper
 unfolding printed paper

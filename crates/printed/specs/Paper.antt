@@ -1,13 +1,11 @@
 -- A day file printed from the day kept on paper: 01, "The plain day and its line-up" and "Day file and printed day". The
 -- records run on the plain day; no table is kept.
-use Rattle.std.specs.Prelude.{ℕ, zero, suc, false, ◌≡◌, List, [], ◌++◌}
+use Rattle.std.specs.Prelude.{ℕ, zero, suc, false, ◌≡◌, List, [], ◌++◌, Option, Some, None}
 use Rattle.text.specs.Placed.{ascii}
 use Rattle.text.specs.Decimal.{ended}
 use Rattle.boards.specs.Board.{board_bytes}
 use Rattle.dayfile.specs.File.{file_check}
 use Rattle.dayfile.specs.Record.{step_at}
-use Rattle.dayfile.specs.declared.file.FileCheck.{FileCheck}
-use Rattle.dayfile.specs.declared.file.FileCheck.TheVariants.{Good, Bad}
 use Rattle.dayfile.specs.declared.step.Step.{Step}
 use Rattle.dayfile.specs.declared.step.Step.TheVariants.{Update, Query, Yield, Fork, Join, Unknown}
 use Rattle.desk.specs.Calls as Call
@@ -38,9 +36,9 @@ unfoldable pub paper_lines : List ℕ → ℕ → List ℕ
 paper_lines f zero = []
 paper_lines f (suc i) = paper_lines f i ++ line i (answer_at f i).code (answer_at f i).state (answer_at f i).value
 
-abbrev pub paper_as : FileCheck → List ℕ → List ℕ
-paper_as Bad f = ascii "bad file\n"
-paper_as (Good n) f = ascii "steps " ++ ended n line_feed ++ paper_lines f n
+abbrev pub paper_as : Option ℕ → List ℕ → List ℕ
+paper_as None f = ascii "bad file\n"
+paper_as (Some n) f = ascii "steps " ++ ended n line_feed ++ paper_lines f n
 
 unfoldable pub paper : List ℕ → List ℕ
 paper f = paper_as (file_check f) f

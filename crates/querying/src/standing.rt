@@ -24,25 +24,23 @@ use table::answer::Reading;
 use updates::standing::{Standing, State};
 
 // What a query tells of a standing.
+#[tactic(auto, unfolding(updates::specs::Effect::state_of, updates::specs::Effect::value_in))]
 pub fn tell(standing: Standing) -> Reading
-    ensures { result ≡ record { code = 0; state = state_of standing; value = value_in standing } }
+    ensures { result ≡ record { state = state_of standing; value = value_in standing } }
 {
     let Standing::At(value) = standing else {
         return Reading {
-            code: 0,
             state: State::Struck,
             value: 0,
         };
     };
     if value == 0 {
         return Reading {
-            code: 0,
             state: State::Neither,
             value: 0,
         };
     }
     Reading {
-        code: 0,
         state: State::Timed,
         value,
     }
@@ -55,7 +53,7 @@ fn standing_back(d: &[u8], h: &[u8], r: Revision, j: usize, bib: u16) -> Standin
 {
     let mut out = order::links::room();
     let from = walk(d, h, r, j, bib, &mut out);
-    entries::standing::standing(h, &out[from..], Table::UPDATES - from, bib)
+    entries::standing::standing(h, &out[from..], bib)
 }
 
 // The same of any lists: along the order.
@@ -65,7 +63,7 @@ fn standing_along(d: &[u8], h: &[u8], r: Revision, bib: u16) -> Standing
 {
     let mut out = order::links::room();
     let n = order::visible::list(d, r, &mut out);
-    entries::standing::standing(h, &out, n, bib)
+    entries::standing::standing(h, &out[..n], bib)
 }
 
 // The standing of a bib after the updates visible at r, by the revisions in d and the entries in h. An order that may be cut off at its

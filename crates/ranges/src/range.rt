@@ -25,19 +25,10 @@ fn bytes_below(d: &[u8], at: usize, n: usize, limit: u8) -> bool
     ensures { result ≡ bytes_below n limit (mid_of at n d.now) }
 {
     let mut ok = true;
-    let mut i: usize = 0;
-    while i < n {
-        ok = ok & (d[at + i] < limit);
-        i += 1;
+    for b in &d[at..at + n] {
+        ok &= *b < limit;
     }
     ok
-}
-
-// A word of its two bytes.
-fn word(low: u8, high: u8) -> u16
-    ensures { result ≡ low + 256 * high }
-{
-    low as u16 + 256 * (high as u16)
 }
 
 // n words from `at` on, each below a limit.
@@ -46,10 +37,8 @@ fn words_below(d: &[u8], at: usize, n: usize, limit: u16) -> bool
     ensures { result ≡ words_below n limit (mid_of at (2 * n) d.now) }
 {
     let mut ok = true;
-    let mut i: usize = 0;
-    while i < n {
-        ok = ok & (word(d[at + 2 * i], d[at + (2 * i + 1)]) < limit);
-        i += 1;
+    for i in 0..n {
+        ok &= u16::from_le_bytes([d[at + 2 * i], d[at + (2 * i + 1)]]) < limit;
     }
     ok
 }
@@ -59,14 +48,7 @@ fn is_signed(d: &[u8]) -> bool
     requires { length d.now ≡ lower_bytes }
     ensures { result ≡ signed (split d.now signature_part) }
 {
-    let s = Table::signature();
-    let mut ok = true;
-    let mut i: usize = 0;
-    while i < 8 {
-        ok = ok & (d[SIGNATURE + i] == s[i]);
-        i += 1;
-    }
-    ok
+    &d[SIGNATURE..SIGNATURE + 8] == Table::signature().as_slice()
 }
 
 // Updates taken 0 to 4,096, revisions out 1 to 64, numbers given out 1 to 64.
@@ -102,11 +84,8 @@ fn queue_in(d: &[u8]) -> bool
     ensures { result ≡ queue_in (split d.now queue_part) }
 {
     let mut ok = true;
-    let mut i: usize = 0;
-    while i < Table::REVISIONS {
-        let n = d[QUEUE + i];
-        ok = ok & ((0 < n) & (n < Table::REVISIONS as u8));
-        i += 1;
+    for n in &d[QUEUE..OPENED] {
+        ok &= (0 < *n) & (*n < Table::REVISIONS as u8);
     }
     ok
 }

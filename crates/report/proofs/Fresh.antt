@@ -8,9 +8,8 @@ use borrow.Author.Tests.{eq-eqb}
 use Rattle.boards.specs.Board.{board_bytes}
 use Rattle.cells.specs.Steps.{fresh_bytes}
 use Rattle.entries.specs.Sizes as Upper
-use Rattle.table.specs.Out.{table_bytes}
 use Rattle.table.specs.Answers.{taken}
-use Rattle.table.specs.Out.{Out}
+use Rattle.table.specs.Out.{Out, table_bytes}
 use Rattle.table.specs.Calls.{fresh_out}
 use Rattle.report.specs.Printed.{fresh_table}
 

@@ -4,7 +4,9 @@ use mathlib.Core.Path.{◌≡◌, refl, ap}
 use mathlib.Core.List.{List, [], ◌++◌}
 use native.Mathlib.Numerals.{add-one}
 use Rattle.table.specs.declared.answer.Reading.{Reading}
-use Rattle.table.specs.Answers.{left_read}
+use Rattle.std.specs.declared.result.Result.{Result}
+use Rattle.table.specs.declared.refusal.Refusal.{Refusal}
+use Rattle.table.specs.Told.{code_told, reading_told, left_read}
 use Rattle.table.specs.Out.{Out}
 use Rattle.report.specs.Run.{table_after, out_at}
 use Rattle.report.specs.Printed.{line, lines}
@@ -18,11 +20,11 @@ module _ (t f : List ℕ) where
   unfolding lines
   lines_none = refl
 
-  module _ (i : ℕ) (a : Reading) (after : List ℕ) (h : left_read a after ≡ out_at t f i) where
+  module _ (i : ℕ) (a : Result Reading Refusal) (after : List ℕ) (h : left_read a after ≡ out_at t f i) where
     pub table_more : after ≡ table_after t f (i + 1)
     unfolding table_after
     table_more = rw add-one (ap (λ (o : Out). o.lent) h)
 
-    pub lines_more : lines t f i ++ line i a.code a.state a.value ≡ lines t f (i + 1)
+    pub lines_more : lines t f i ++ line i (code_told a) (reading_told a).state (reading_told a).value ≡ lines t f (i + 1)
     unfolding lines
     lines_more = rw add-one (ap (λ (o : Out). lines t f i ++ line i o.code o.state o.value) h)

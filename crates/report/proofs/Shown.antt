@@ -7,8 +7,8 @@ use lib.ListN.{length}
 use borrow.Author.Tests.{lt-ltb, le-ltb}
 use Rattle.text.specs.Placed.{ascii}
 use Rattle.dayfile.specs.File.{file_check}
-use Rattle.dayfile.specs.declared.file.FileCheck.{FileCheck}
-use Rattle.dayfile.specs.declared.file.FileCheck.TheVariants.{Good, Bad}
+use Rattle.std.specs.declared.option.Option.{Option}
+use Rattle.std.specs.declared.option.Option.TheVariants.{Some, None}
 use Rattle.report.specs.Printed.{day, printed, printed_as, room, shown}
 
 module _ (f out : List ℕ) where
@@ -21,10 +21,10 @@ module _ (f out : List ℕ) where
     unfolding shown
     shown-all = ap (λ (b : Bool). cond b [] (printed f)) (le-ltb (length out) room fits)
 
-    pub shown-bad : file_check f ≡ Bad → shown f out ≡ ascii "bad file\n"
+    pub shown-bad : file_check f ≡ None → shown f out ≡ ascii "bad file\n"
     unfolding printed
-    shown-bad h = shown-all ∙ ap (λ (c : FileCheck). printed_as c f) h
+    shown-bad h = shown-all ∙ ap (λ (c : Option ℕ). printed_as c f) h
 
-    pub shown-good : (n : ℕ) → file_check f ≡ Good n → shown f out ≡ day f n
+    pub shown-good : (n : ℕ) → file_check f ≡ Some n → shown f out ≡ day f n
     unfolding printed
-    shown-good n h = shown-all ∙ ap (λ (c : FileCheck). printed_as c f) h
+    shown-good n h = shown-all ∙ ap (λ (c : Option ℕ). printed_as c f) h

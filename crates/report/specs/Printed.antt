@@ -1,13 +1,11 @@
 -- The printed day: 01, "Day file and printed day". Every line ends in a line feed.
-use Rattle.std.specs.Prelude.{ℕ, zero, suc, cond, false, List, [], ◌++◌, ltb, length, replicate}
+use Rattle.std.specs.Prelude.{ℕ, zero, suc, cond, false, List, [], ◌++◌, Option, Some, None, ltb, length, replicate}
 use Rattle.updates.specs.declared.standing.State.{State}
 use Rattle.updates.specs.declared.standing.State.TheVariants.{Neither, Timed, Struck}
 use Rattle.text.specs.Placed.{ascii}
 use Rattle.text.specs.Decimal.{ended}
 use Rattle.boards.specs.Board.{board_bytes}
 use Rattle.dayfile.specs.File.{file_check}
-use Rattle.dayfile.specs.declared.file.FileCheck.{FileCheck}
-use Rattle.dayfile.specs.declared.file.FileCheck.TheVariants.{Good, Bad}
 use Rattle.table.specs.Out.{table_bytes}
 use Rattle.table.specs.Calls.{fresh_out}
 use Rattle.report.specs.Run.{out_at}
@@ -41,9 +39,9 @@ unfoldable pub day : List ℕ → ℕ → List ℕ
 day f n = ascii "steps " ++ ended n line_feed ++ lines fresh_table f n
 
 -- "the program prints `bad file` alone"
-abbrev pub printed_as : FileCheck → List ℕ → List ℕ
-printed_as Bad f = ascii "bad file\n"
-printed_as (Good n) f = day f n
+abbrev pub printed_as : Option ℕ → List ℕ → List ℕ
+printed_as None f = ascii "bad file\n"
+printed_as (Some n) f = day f n
 
 unfoldable pub printed : List ℕ → List ℕ
 printed f = printed_as (file_check f) f

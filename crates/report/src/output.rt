@@ -5,7 +5,7 @@ ghost use Rattle.report.specs.Printed.{day, room, shown};
 
 use crate::lines::lines;
 use boards::check::Board;
-use dayfile::file::{FileCheck, check_file};
+use dayfile::file::check_file;
 use text::number::number;
 use text::put::put;
 
@@ -24,9 +24,9 @@ fn put_day(f: &[u8], n: u32, out: &mut [u8]) -> usize
 {
     let mut t = io::large_buffer();
     let mut board = [0u8; Board::BYTES];
-    announcing::fresh::fresh(&mut t, &mut board, false);
+    let _ = announcing::fresh::fresh(&mut t, &mut board, false);
     let a = put(out, 0, b"steps ");
-    let b = number(out, a, n as u64, b'\n');
+    let b = number(out, a, u64::from(n), b'\n');
     lines(f, n, &mut t, &mut board, out, b)
 }
 
@@ -38,7 +38,7 @@ pub fn report(f: &[u8], out: &mut [u8]) -> usize
     if out.len() < Output::BYTES {
         return 0;
     }
-    let FileCheck::Good(n) = check_file(f) else {
+    let Some(n) = check_file(f) else {
         return put(out, 0, b"bad file\n");
     };
     put_day(f, n, out)

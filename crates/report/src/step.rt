@@ -1,26 +1,26 @@
 // One step on the table, with a board lent to the steps that take one. The printed day does not show it.
-ghost use Rattle.std.specs.Prelude.{◌≡◌, length};
+ghost use Rattle.std.specs.Prelude.{◌≡◌, ℕ, List, length};
 ghost use Rattle.boards.specs.Board.{board_bytes};
-ghost use Rattle.table.specs.Answers.{left_read};
-ghost use Rattle.updates.specs.declared.standing.State.TheVariants.{Neither};
+ghost use Rattle.table.specs.Told.{left, left_read};
 ghost use Rattle.report.specs.Run.{step_out};
 
 use dayfile::step::Step;
-use table::answer::{Answer, Reading};
+use table::answer::Reading;
+use table::refusal::Refusal;
 use updates::standing::State;
 
-fn without_state(a: Answer) -> Reading
-    ensures { result ≡ record { code = a.code; state = Neither; value = a.value } }
+// A call that is no query has no state.
+fn without_state(a: Result<u32, Refusal>) -> Result<Reading, Refusal>
+    ensures { (lent : List ℕ) → left_read result lent ≡ left a lent }
 {
-    Reading {
-        code: a.code,
+    a.map(|value| Reading {
         state: State::Neither,
-        value: a.value,
-    }
+        value,
+    })
 }
 
-// Code 13 is the program's own: an unknown step (01: strange step) changes nothing.
-pub(crate) fn run(t: &mut [u8], board: &mut [u8], step: Step) -> Reading
+// The program's own refusal: an unknown step (01: strange step) changes nothing.
+pub(crate) fn run(t: &mut [u8], board: &mut [u8], step: Step) -> Result<Reading, Refusal>
     requires { length board.old ≡ board_bytes }
     ensures { left_read result t.new ≡ step_out t.old step }
 {
@@ -42,10 +42,6 @@ pub(crate) fn run(t: &mut [u8], board: &mut [u8], step: Step) -> Reading
         Step::Join(joiner, joinee) => without_state(announcing::join::join(
             t, board, joiner, joinee,
         )),
-        Step::Unknown => Reading {
-            code: 13,
-            state: State::Neither,
-            value: 0,
-        },
+        Step::Unknown => Err(Refusal::StrangeStep),
     }
 }

@@ -1,5 +1,5 @@
 -- Each step is its writes in a row: from what every write says of the bytes before and after it to the step's definition.
-use Prim.Native.Nat.{ℕ, suc, ◌+◌, ◌<◌, ◌≤◌}
+use Prim.Native.Nat.{ℕ, suc, ◌+◌, ◌<◌}
 use mathlib.Core.Bool.{Bool, true, false, cond}
 use mathlib.Core.Path.{◌≡◌, refl, sym, ap, fun_ext, ◌∙◌}
 use mathlib.Core.List.{List, [], ◌∷◌, ◌++◌}
@@ -8,7 +8,7 @@ use native.Mathlib.Omega.{arith}
 use lib.Dec.{eqb, ltb}
 use lib.ListN.{length, set, take, replicate, length-replicate, length-set}
 use lib.Seq.{get_or-set_other, set-get_or, set-set}
-use borrow.Author.Tests.{eqb-true, le-ltb, lt-ltb, ne_eqb}
+use borrow.Author.Tests.{eqb-true, ne_eqb}
 use Rattle.lists.specs.Lists.{rest_of}
 use Rattle.lists.specs.Arranged.{insert_before, replaced}
 use Rattle.lists.specs.Names.{Name}
@@ -122,13 +122,7 @@ module _ (d : List ℕ) (l : length d ≡ lower_bytes) where
       let h₄ = holds_step (λ p. p ⟨ layout_part ≔ take revisions (insert_before q c (p layout_part)) ⟩) h₃ e₄ (layout_sized h₃.sized (insert_before q c (split d layout_part)) (insert_length q c (split d layout_part))) in
       (byte-wrote counters_part 2 n h₄ e₅).eq
 
-  -- a number never used, and one used again
-  pub number-done : (d₁ : List ℕ) (g : ℕ) → g < revisions → d₁ ≡ wrote d counters_part (set (split d counters_part) 3 (g + 1)) → d₁ ≡ glue (number_parts (split d) g)
-  number-done d₁ g h e = e ∙ rw (lt-ltb g revisions h, add-one)
-
-  pub again-done : (d₁ : List ℕ) (g : ℕ) → revisions ≤ g → d₁ ≡ wrote d queue_part (rest_of (split d queue_part) ++ (1 ∷ [])) → d₁ ≡ glue (number_parts (split d) g)
-  again-done d₁ g h e = e ∙ rw (le-ltb g revisions h)
-
+  -- the parent has forked the child
   pub branch-done : (d₁ d₂ d₃ : List ℕ) (q c o g : ℕ) → c < revisions → o ≡ (decode (split d)).out → g ≡ (decode (split d)).given
       → d₁ ≡ glue (inherit_parts (split d) q c) → d₂ ≡ glue (start_parts (split d₁) q c (o + 1)) → d₃ ≡ glue (number_parts (split d₂) g) → d₃ ≡ glue (branch_parts (split d) q c)
   branch-done d₁ d₂ d₃ q c o g cl eo eg e₁ e₂ e₃ =

@@ -53,10 +53,7 @@ fn one_more(started: usize) -> usize
     requires { started < 65536 }
     ensures { (result ≡ cond (ltb started 65535) (suc started) started) × (result < 65536) }
 {
-    if started < Table::STARTED_MOST {
-        return started + 1;
-    }
-    started
+    (started + 1).min(Table::STARTED_MOST)
 }
 
 // The same, and a box is started.

@@ -15,12 +15,6 @@ use sizes::numbers::Revision;
 use sizes::table::Table;
 use stores::write;
 
-fn number(x: u16) -> usize
-    ensures { result ≡ x }
-{
-    x as usize
-}
-
 // The row of the parent, which is not the main revision, with the updates of its own list.
 fn forked_row(d: &[u8], parent: Revision) -> [u8; Table::ROW]
     requires { (length d.now ≡ lower_bytes) × (in_range d.now ≡ true) × (0 < parent.0) × (parent.0 < revisions) }
@@ -29,14 +23,12 @@ fn forked_row(d: &[u8], parent: Revision) -> [u8; Table::ROW]
     let mut own = links::room();
     let n = links::own_list(d, parent, &mut own);
     let mut flags = row::load(d, parent);
-    let mut i: usize = 0;
-    while i < n {
+    for update in &own[..n] {
         // every link is below 4,096, so the test never fails; with it no proof of that is needed here
-        let u = number(own[i]);
+        let u = usize::from(*update);
         if u < Table::UPDATES {
             flags[u / 8] = bits::set(flags[u / 8], u % 8);
         }
-        i += 1;
     }
     flags
 }

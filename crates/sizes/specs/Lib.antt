@@ -1,2 +1,2 @@
--- The range check of a revision number.
+-- The range checks of a revision and of a client number.
 pub mod Numbers

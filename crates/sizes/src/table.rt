@@ -137,6 +137,7 @@ impl Table {
     }
 
     // What tells that the bytes are a table with this layout.
+    #[tactic(auto, unfolding(cells::specs::Range::signature))]
     pub fn signature() -> [u8; 8]
         ensures { result ≡ signature }
     {

@@ -26,11 +26,14 @@ use Rattle.desk.proofs.Checks.{Passed, Settled, ◌also◌, goes, settled, stops
 use Rattle.entries.specs.Sizes as Upper
 use Rattle.posting.specs.Brought.{entries_posted}
 use Rattle.table.specs.Halves.{cells_of, high, is_table, low}
-use Rattle.table.specs.Answers.{left, refused}
+use Rattle.table.specs.Answers.{refused}
 use Rattle.table.specs.Out.{Out, table_bytes}
 use Rattle.table.specs.Calls.{asked, board_out, join_end, join_out, sync_out, yield_out}
 use Rattle.table.specs.Served.{on_board}
-use Rattle.table.specs.declared.answer.Answer.{Answer}
+use Rattle.table.specs.Shows.{Shows}
+use Rattle.std.specs.Prelude.{Result}
+use Rattle.table.specs.Told.{left}
+use Rattle.table.specs.declared.refusal.Refusal.{Refusal}
 use Rattle.table.proofs.Halves.{low_of, lower_of, table_of, upper_length}
 use Rattle.table.proofs.Syncs.{joins, left-lower, sync-ends}
 
@@ -42,11 +45,6 @@ brings-nothing t board = rw (since_none (cells_of t).settled (cells_of t) (omega
 -- so a refusal leaves all that was lent
 pub board-blank : (t board : List ℕ) {o : Out} → o ≡ refused t o.code → on_board t board o ≡ record { reply = plainly o.code 0 []; table = t; board = board }
 board-blank t board {o} e = ap (on_board t board) e ∙ ap (λ b. record { reply = plainly o.code 0 []; table = t; board = b }) (brings-nothing t board)
-
--- t' is left of the table t, so that what was brought can be found
-pub record Shows (t t' : List ℕ) : Type 0 where
-  pub table : is_table t' ≡ true
-  pub settles : Settles (cells_of t).settled (cells_of t')
 
 pub stays_shown : (t : List ℕ) → is_table t ≡ true → Shows t t
 stays_shown t h = record { table = h; settles = inl refl }
@@ -103,7 +101,7 @@ module _ (t : List ℕ) (h : is_table t ≡ true) where
 
 -- for code: t' is what a call left, and n was read before it
 module _ (t t' : List ℕ) (n : ℕ) (e : n ≡ (cells_of t).settled) where
-  pub can-bring : (a : Answer) (o : Out) → left a t' ≡ o → Shows t o.lent → (length t' ≡ table_bytes) × (in_range (low t') ≡ true) × Settles n (cells_of t')
+  pub can-bring : (a : Result ℕ Refusal) (o : Out) → left a t' ≡ o → Shows t o.lent → (length t' ≡ table_bytes) × (in_range (low t') ≡ true) × Settles n (cells_of t')
   can-bring a o f s =
       let now : Shows t t' = subst (Shows t) (sym (ap (λ o. o.lent) f)) s in
       let l = lower_of t' now.table in

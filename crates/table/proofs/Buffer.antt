@@ -1,11 +1,11 @@
 -- What the answers of the checks of a whole buffer say: code 1 of a table, 19 of a board.
 use Prim.Native.Nat.{ℕ}
 use mathlib.Core.Bool.{Bool, true, false, cond, ◌&&◌}
-use mathlib.Core.Path.{◌≡◌, sym, ap}
+use mathlib.Core.Path.{◌≡◌}
 use mathlib.Core.List.{List}
 use lib.Dec.{eqb}
 use lib.ListN.{length}
-use borrow.Author.Tests.{eq-eqb, ne_eqb, eqb-true, not-false}
+use borrow.Author.Tests.{eqb-true, not-false}
 use Rattle.lists.proofs.Cases.{and-true}
 use Rattle.lists.proofs.Told.{held, failed, Told, told}
 use Rattle.boards.specs.Board.{board_bytes, board_check, is_wrong_board}
@@ -20,14 +20,6 @@ use Rattle.table.specs.declared.sound.LengthCheck.TheVariants as buffer
 use Rattle.table.specs.declared.sound.TableCheck.TheVariants as table
 
 -- the length
-pub same_length : (t : List ℕ) → length t ≡ table_bytes → buffer.Right ≡ length_check t
-unfolding length_check
-same_length t h = sym (ap (λ b. cond b buffer.Right buffer.Wrong) (eq-eqb (length t) table_bytes h))
-
-pub other_length : (t : List ℕ) → (length t ≡ table_bytes → ⊥) → buffer.Wrong ≡ length_check t
-unfolding length_check
-other_length t h = sym (ap (λ b. cond b buffer.Right buffer.Wrong) (ne_eqb (length t) table_bytes h))
-
 pub length-told : (t : List ℕ) → Told (eqb (length t) table_bytes) buffer.Right buffer.Wrong (length_check t)
 unfolding length_check
 length-told t = told _ _ _ (λ h. cc)
@@ -36,18 +28,11 @@ pub long : (t : List ℕ) → length_check t ≡ buffer.Right → length t ≡ t
 long t e = eqb-true (length t) table_bytes ((length-told t).holds e)
 
 -- the length, then the cells
-and_left : {A : Type 0} (a b : Bool) (x y : A) → a ≡ false → y ≡ cond (a && b) x y
-and_left a b x y e = rw e
-
 and_right : {A : Type 0} (a b : Bool) (x y : A) → a ≡ true → b ≡ false → y ≡ cond (a && b) x y
 and_right a b x y e f = rw (e, f)
 
 and_both : {A : Type 0} (a b : Bool) (x y : A) → a ≡ true → b ≡ true → x ≡ cond (a && b) x y
 and_both a b x y e f = rw (e, f)
-
-pub wrong-length : (t : List ℕ) → length_check t ≡ buffer.Wrong → table.Damaged ≡ table_check t
-unfolding table_check is_table
-wrong-length t e = and_left _ _ _ _ ((length-told t).fails e)
 
 pub wrong-cells : (t : List ℕ) → length_check t ≡ buffer.Right → range_check (low t) ≡ range.Damaged → table.Damaged ≡ table_check t
 unfolding table_check is_table range_check

@@ -3,6 +3,7 @@ pub mod Halves
 pub mod Checks
 pub mod Buffer
 pub mod Calls
+pub mod Told
 pub mod Syncs
 pub mod Light
 pub mod Brings

@@ -17,11 +17,13 @@ use Rattle.cells.proofs.Bytes.{take_bytes}
 use Rattle.cells.proofs.Light.{Differs, join-differs, sync-differs}
 use Rattle.cells.proofs.Range.{next_ranged, ranges}
 use Rattle.table.specs.Halves.{high, low}
-use Rattle.table.specs.Answers.{left, refused, taken}
+use Rattle.table.specs.Answers.{refused, taken}
 use Rattle.table.specs.Out.{Out}
 use Rattle.table.specs.Calls.{join_end, join_out, sync_out}
 use Rattle.table.specs.Light.{Light, LightJoins, LightSyncs}
-use Rattle.table.specs.declared.answer.Answer.{Answer}
+use Rattle.std.specs.Prelude.{Result}
+use Rattle.table.specs.Told.{left}
+use Rattle.table.specs.declared.refusal.Refusal.{Refusal}
 use Rattle.table.proofs.Halves.{high_of, lower_of}
 use Rattle.table.proofs.Syncs.{joins, left-lower, sync-ends}
 
@@ -73,5 +75,5 @@ light_syncs t b m room = light-settled t 512 _ _ (λ P.
     rw (sync-ends t m room P) (more (lower_light {t = t} L.long (sync-differs (low t) L.long (low_bytes t b) m (next_number (cells d)) next) _) 512 (omega arith)))
 
 -- for code: the answer and the bytes left are these, and so are their places
-pub promised : {t : List ℕ} {n : ℕ} {o : Out} → Light t n o → (a : Answer) (d : List ℕ) → left a d ≡ o → (left a d ≡ o) × (differences t d ≤ n)
+pub promised : {t : List ℕ} {n : ℕ} {o : Out} → Light t n o → (a : Result ℕ Refusal) (d : List ℕ) → left a d ≡ o → (left a d ≡ o) × (differences t d ≤ n)
 promised {t} {n} h a d e = (e, subst (λ z. differences t z ≤ n) (sym (ap (λ o. o.lent) e)) h.places)

@@ -4,8 +4,6 @@ use Rattle.updates.specs.declared.standing.Standing.{Standing}
 use Rattle.updates.specs.declared.standing.State.TheVariants.{Neither}
 use Rattle.updates.specs.Effect.{state_of, value_in}
 use Rattle.table.specs.Out.{Out}
-use Rattle.table.specs.declared.answer.Answer.{Answer}
-use Rattle.table.specs.declared.answer.Reading.{Reading}
 
 abbrev pub refused : List ℕ → ℕ → Out
 refused lent code = record { code = code; state = Neither; value = 0; lent = lent }
@@ -20,10 +18,3 @@ answered lent s = record { code = 0; state = state_of s; value = value_in s; len
 -- goes on with the bytes that a call left, where it was taken; a refusal ends it
 abbrev pub after_taken : Out → (List ℕ → Out) → Out
 after_taken o rest = cond (eqb o.code 0) (rest o.lent) o
-
--- an answer, and the lent bytes at exit
-abbrev pub left : Answer → List ℕ → Out
-left a lent = record { code = a.code; state = Neither; value = a.value; lent = lent }
-
-abbrev pub left_read : Reading → List ℕ → Out
-left_read a lent = record { code = a.code; state = a.state; value = a.value; lent = lent }

@@ -26,12 +26,8 @@ use Rattle.entries.specs.Entries.{entry_at, wrote}
 use Rattle.entries.specs.Folded.{standing_of}
 use Rattle.sheets.specs.Sheet.{sheet}
 use Rattle.table.specs.Halves.{low, high, cells_of, is_table}
-use Rattle.table.specs.Out.{table_bytes}
+use Rattle.table.specs.Out.{table_bytes, Answer, Level, Out, Prospect}
 use Rattle.table.specs.Answers.{refused, taken, answered, after_taken}
-use Rattle.table.specs.Out.{Out}
-use Rattle.table.specs.declared.answer.Answer.{Answer}
-use Rattle.table.specs.declared.answer.Level.{Level}
-use Rattle.table.specs.declared.answer.Prospect.{Prospect}
 
 -- the standing of a bib after the updates visible at revision n
 unfoldable pub standing_at : List ℕ → ℕ → ℕ → Standing

@@ -2,6 +2,7 @@
 pub mod Out
 pub mod Halves
 pub mod Answers
+pub mod Told
 pub mod Calls
 pub mod Found
 pub mod Checks
@@ -9,3 +10,4 @@ pub mod Light
 pub mod Served
 pub mod Lent
 pub mod Shared
+pub mod Shows

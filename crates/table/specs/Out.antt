@@ -12,3 +12,21 @@ pub record Out : Type 0 where
   pub state : State
   pub value : ℕ
   pub lent : List ℕ
+
+-- of a verify and of a bill: nothing is lent to be written
+pub record Answer : Type 0 where
+  pub code : ℕ
+  pub value : ℕ
+
+-- 02, U1: of a fill
+pub record Level : Type 0 where
+  pub code : ℕ
+  pub own : ℕ
+  pub total : ℕ
+
+-- 02, U6: of a preview
+pub record Prospect : Type 0 where
+  pub code : ℕ
+  pub state : State
+  pub value : ℕ
+  pub gain : ℕ

@@ -2,10 +2,8 @@
 use Rattle.std.specs.Prelude.{ℕ, List, [], length}
 use Rattle.updates.specs.declared.standing.State.TheVariants.{Neither}
 use Rattle.desk.specs.Calls.{Call, Update, Query, Yield, Fork, Join, Sync, Mark, Drop, Bundle, Looks, Look, Show, Fill, Preview, Verify, Bill, Records, Entries, Answer, plainly}
-use Rattle.table.specs.Out.{Out}
-use Rattle.table.specs.declared.answer.Answer as Table
-use Rattle.table.specs.declared.answer.Level.{Level}
-use Rattle.table.specs.declared.answer.Prospect.{Prospect}
+use Rattle.table.specs.Out as Table
+use Rattle.table.specs.Out.{Level, Out, Prospect}
 use Rattle.table.specs.Calls.{board_out, update_out, query_out, yield_out, fork_out, join_out, sync_out, mark_out, drop_out, list_out, fill_out, bundle_out, entries_out, preview_out, verify_out, bill_out}
 
 -- what a caller has of a call: its answer, with the bytes of the sheet, if one was lent; the table; and the board, if one was lent

@@ -10,6 +10,7 @@ pub enum BibCheck {
     Unknown,
 }
 
+#[tactic(auto, unfolding(crate::specs::Checks::bib_check))]
 pub fn check_bib(n: u16) -> BibCheck
     ensures { result ≡ bib_check n }
 {

@@ -12,6 +12,7 @@ use posting::brought::post_brought;
 use sizes::table::Table;
 
 // How many of the main revision's own updates are settled: read before the call.
+#[tactic(auto, unfolding(crate::specs::Halves::low))]
 pub fn settled(t: &[u8]) -> usize
     requires { length t.now ≡ table_bytes }
     ensures { result ≡ (cells_of t.now).settled }

@@ -8,6 +8,7 @@ use fields::read;
 use sizes::numbers::Revision;
 use sizes::table::Table;
 
+#[tactic(auto, unfolding(crate::specs::Halves::low))]
 pub fn taken(t: &[u8]) -> usize
     requires { length t.now ≡ table_bytes }
     ensures { (result ≡ (cells_of t.now).updates) × (result < 65536) }
@@ -15,6 +16,7 @@ pub fn taken(t: &[u8]) -> usize
     read::updates(&t[0..Table::LOWER])
 }
 
+#[tactic(auto, unfolding(crate::specs::Halves::low))]
 pub fn own(t: &[u8], r: Revision) -> usize
     requires { (length t.now ≡ table_bytes) × (r.0 < revisions) }
     ensures { (result ≡ (cells_of t.now).count r.0) × (result < 65536) }

@@ -1,44 +1,27 @@
-// Checks 3, 4 and 7 of a revision that must not be busy: for fork and list.
+// Checks 3, 4 and 7 of a revision that must not be busy: for list.
 ghost use Rattle.std.specs.Prelude.{◌≡◌, length};
 ghost use Rattle.cells.specs.Sizes as Lower;
 ghost use Rattle.table.specs.Checks.{idle_check};
-ghost use Rattle.table.specs.Found.{idle_code};
 
+use crate::refusal::Refusal;
 use checks::busy::{UseCheck, check_use};
-use checks::given::{GivenCheck, check_given};
+use checks::given::check_given;
 use checks::joined::{JoinedCheck, check_joined};
 use sizes::numbers::Revision;
 
-#[derive(Drop)]
-pub enum IdleCheck {
-    Idle(Revision),
-    Refused(u8),
-}
-
-impl IdleCheck {
-    // The code of the check that ends the call; 0 where none does.
-    pub fn code(self) -> u8
-        ensures { result ≡ idle_code self }
-    {
-        let IdleCheck::Refused(code) = self else {
-            return 0;
-        };
-        code
-    }
-}
-
-pub fn check_idle(d: &[u8], n: u8) -> IdleCheck
+#[tactic(auto, unfolding(crate::specs::Checks::idle_check, crate::specs::Found::on_some, checks::specs::Answers::given_check, checks::specs::Answers::joined_check, checks::specs::Answers::use_check))]
+pub fn check_idle(d: &[u8], n: u8) -> Result<Revision, Refusal>
     requires { length d.now ≡ Lower.lower_bytes }
     ensures { result ≡ idle_check d.now n }
 {
-    let GivenCheck::Given(r) = check_given(d, n) else {
-        return IdleCheck::Refused(3);
+    let Some(r) = check_given(d, n) else {
+        return Err(Refusal::NeverSent);
     };
     let JoinedCheck::Out = check_joined(d, r) else {
-        return IdleCheck::Refused(4);
+        return Err(Refusal::Joined);
     };
     let UseCheck::Free = check_use(d, r) else {
-        return IdleCheck::Refused(7);
+        return Err(Refusal::Busy);
     };
-    IdleCheck::Idle(r)
+    Ok(r)
 }

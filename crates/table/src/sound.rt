@@ -17,6 +17,7 @@ pub enum TableCheck {
     Damaged,
 }
 
+#[tactic(auto, unfolding(crate::specs::Checks::length_check))]
 pub fn check_length(t: &[u8]) -> LengthCheck
     ensures { result ≡ length_check t.now }
 {
@@ -26,6 +27,7 @@ pub fn check_length(t: &[u8]) -> LengthCheck
     LengthCheck::Wrong
 }
 
+#[tactic(auto, unfolding(crate::specs::Checks::table_check, crate::specs::Checks::length_check, crate::specs::Halves::is_table))]
 pub fn check_table(t: &[u8]) -> TableCheck
     ensures { result ≡ table_check t.now }
 {

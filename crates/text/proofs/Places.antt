@@ -5,7 +5,7 @@ use mathlib.Core.List.{List, [], ◌++◌, append_assoc}
 use native.Mathlib.Nat.{add-zero}
 use native.Mathlib.Omega.{arith}
 use lib.ListN.{length, take, drop, length-append, take-append-drop}
-use lib.Seq.{length-take-le, take_at, drop_at, drop-drop, take_all, paste}
+use lib.Seq.{length-take-le, take_at, drop_at, drop-drop}
 use Rattle.io.specs.Counts.{IsPrefixLen}
 use Rattle.lists.proofs.Replaced.{replaced-length}
 use Rattle.text.specs.Placed.{placed}
@@ -37,11 +37,6 @@ module _ (out s : List ℕ) (at : ℕ) (fits : at + length s ≤ length out) whe
 pub placed-none : (out : List ℕ) (at : ℕ) → placed out at [] ≡ out
 unfolding placed
 placed-none out at = rw add-zero (take-append-drop at out)
-
--- all of s pasted
-pub pasted : (out s : List ℕ) (at : ℕ) → paste out at s (length s) ≡ placed out at s
-unfolding placed
-pasted out s at = rw (take_all (length s) s (omega arith)) (append_assoc (take at out) s (drop (at + length s) out))
 
 -- s is put into `out` at `at`: where it ends, and the buffer then
 abbrev pub Put : List ℕ → ℕ → List ℕ → ℕ → List ℕ → Type 0

@@ -1,5 +1,5 @@
 -- Laws about the definitions by name: they need no definition's text.
-use Rattle.std.proofs.Common.{◌≡◌, ℕ, Bool, true, false, cond, eqb, List, [], ◌∷◌, ◌++◌, refl, ap, ◌∙◌, arith, eqb-true}
+use Rattle.std.proofs.Common.{◌≡◌, ℕ, Bool, true, false, cond, eqb, List, [], ◌∷◌, ◌++◌, refl, ap, ◌∙◌, arith, eqb-true, Result, Ok}
 use mathlib.Core.Bool.{false≢true}
 use Rattle.updates.specs.Kinds.{kind_number, kind_check}
 use Rattle.updates.specs.Effect.{effect}
@@ -8,11 +8,10 @@ use Rattle.updates.specs.Absolute.{absolute}
 use Rattle.updates.specs.declared.kind.Kind.{Kind}
 use Rattle.updates.specs.declared.kind.Kind.TheVariants.{Time, Earliest, Penalty, Strike}
 use Rattle.updates.specs.declared.standing.Standing.{Standing}
-use Rattle.updates.specs.declared.kind.KindCheck.{KindCheck}
-use Rattle.updates.specs.declared.kind.KindCheck.TheVariants.{Known}
+use Rattle.updates.specs.declared.kind.UnknownKind.{UnknownKind}
 
 -- a kind's own number names it
-pub check-number : (k : Kind) → kind_check (kind_number k) ≡ Known k
+pub check-number : (k : Kind) → kind_check (kind_number k) ≡ Ok k
 unfolding kind_check kind_number
 check-number Time = refl
 check-number Earliest = refl
@@ -20,15 +19,15 @@ check-number Penalty = refl
 check-number Strike = refl
 
 -- one test of the check: the kind is the one tested for, or a later one
-tested : (n : ℕ) (j k : Kind) (rest : KindCheck) (t : Bool) → eqb n (kind_number j) ≡ t
-    → (rest ≡ Known k → n ≡ kind_number k) → cond t (Known j) rest ≡ Known k → n ≡ kind_number k
+tested : (n : ℕ) (j k : Kind) (rest : Result Kind UnknownKind) (t : Bool) → eqb n (kind_number j) ≡ t
+    → (rest ≡ Ok k → n ≡ kind_number k) → cond t (Ok j) rest ≡ Ok k → n ≡ kind_number k
 tested n j k rest true test later e =
     let same : j ≡ k = cc in
     eqb-true n (kind_number j) test ∙ ap kind_number same
 tested n j k rest false test later e = later e
 
 -- and no other number does
-pub number-check : (n : ℕ) (k : Kind) → kind_check n ≡ Known k → n ≡ kind_number k
+pub number-check : (n : ℕ) (k : Kind) → kind_check n ≡ Ok k → n ≡ kind_number k
 unfolding kind_check kind_number
 number-check n k =
     tested n Time k _ (eqb n 1) refl

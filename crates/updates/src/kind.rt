@@ -1,9 +1,9 @@
-// The four kinds of update, and the range check by which alone a kind byte becomes one.
+// The four kinds of update, and the bytes that name them: a byte becomes a kind by `try_from` alone.
 ghost use Rattle.std.specs.Prelude.{◌≡◌};
 ghost use Rattle.updates.specs.Absolute.{absolute};
 ghost use Rattle.updates.specs.Kinds.{kind_number, kind_check};
 
-#[derive(Clone, Copy)]
+#[derive(Clone, Copy, Debug, PartialEq, Eq)]
 pub enum Kind {
     Time,
     Earliest,
@@ -11,46 +11,47 @@ pub enum Kind {
     Strike,
 }
 
-// What the range check of a kind byte finds.
-#[derive(Drop)]
-pub enum KindCheck {
-    Known(Kind),
-    Unknown,
-}
+// The byte names no kind.
+#[derive(Clone, Copy, Debug, PartialEq, Eq)]
+pub struct UnknownKind;
 
 // The kind that a byte names; 01 numbers them 1 to 4.
-pub fn check_kind(byte: u8) -> KindCheck
-    ensures { result ≡ kind_check byte }
-{
-    match byte {
-        1 => KindCheck::Known(Kind::Time),
-        2 => KindCheck::Known(Kind::Earliest),
-        3 => KindCheck::Known(Kind::Penalty),
-        4 => KindCheck::Known(Kind::Strike),
-        _ => KindCheck::Unknown,
+impl TryFrom<u8> for Kind {
+    type Error = UnknownKind;
+
+    ghost try_from_gives = { λ byte r. r ≡ kind_check byte };
+
+    #[tactic(auto, unfolding(crate::specs::Kinds::kind_check))]
+    fn try_from(byte: u8) -> Result<Self, UnknownKind> {
+        match byte {
+            1 => Ok(Kind::Time),
+            2 => Ok(Kind::Earliest),
+            3 => Ok(Kind::Penalty),
+            4 => Ok(Kind::Strike),
+            _ => Err(UnknownKind),
+        }
     }
 }
 
 // The byte that names a kind.
-pub fn number(kind: Kind) -> u8
-    ensures { result ≡ kind_number kind }
-{
-    match kind {
-        Kind::Time => 1,
-        Kind::Earliest => 2,
-        Kind::Penalty => 3,
-        Kind::Strike => 4,
+impl From<Kind> for u8 {
+    ghost from_gives = { λ kind byte. byte ≡ kind_number kind };
+
+    #[tactic(auto, unfolding(crate::specs::Kinds::kind_number))]
+    fn from(kind: Kind) -> u8 {
+        match kind {
+            Kind::Time => 1,
+            Kind::Earliest => 2,
+            Kind::Penalty => 3,
+            Kind::Strike => 4,
+        }
     }
 }
 
 // Whether the effect is the same whatever stood before, so that no update before this one counts.
+#[tactic(auto, unfolding(crate::specs::Absolute::absolute))]
 pub fn is_absolute(kind: Kind) -> bool
     ensures { result ≡ absolute kind }
 {
-    match kind {
-        Kind::Time => true,
-        Kind::Earliest => false,
-        Kind::Penalty => false,
-        Kind::Strike => true,
-    }
+    matches!(kind, Kind::Time | Kind::Strike)
 }

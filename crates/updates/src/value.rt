@@ -2,35 +2,30 @@
 ghost use Rattle.std.specs.Prelude.{◌≡◌};
 ghost use Rattle.updates.specs.Effect.{earliest, penalized};
 
-// 0 is no time. The cases stand as on a rule sheet.
+// 0 is no time. The cases stand as on a rule sheet (02, U5).
+#[tactic(auto, unfolding(crate::specs::Effect::earliest))]
 pub fn earlier(value: u32, v: u32) -> u32
     ensures { result ≡ earliest value v }
 {
-    if value == 0 && v == 0 {
+    match (value, v) {
         // neither
-        return 0;
-    }
-    if v == 0 {
+        (0, 0) => 0,
         // only the old
-        return value;
-    }
-    if value == 0 {
+        (_, 0) => value,
         // only the new
-        return v;
+        (0, _) => v,
+        // both
+        _ => { if value < v { value } else { v } }
     }
-    // both
-    if value < v {
-        return value;
-    }
-    v
 }
 
 // A penalty belongs to a finish: without a time it has no effect.
+#[tactic(auto, unfolding(crate::specs::Effect::penalized))]
 pub fn penalty(value: u32, v: u32) -> u32
     ensures { result ≡ penalized value v }
 {
     if value == 0 {
         return 0;
     }
-    std::num::wrapping_add_u32(value, v)
+    value.wrapping_add(v)
 }

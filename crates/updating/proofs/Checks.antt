@@ -1,18 +1,13 @@
--- What the answers of the checks of an update alone say: its bib is in range, and the log has room, by 9 and by 20.
+-- What the checks of an update alone say: its bib is in range, and the log has room, by 20.
 use Prim.Native.Nat.{ℕ, suc, ◌<◌}
 use mathlib.Core.Bool.{true, false, not}
 use mathlib.Core.Path.{◌≡◌, sym, ◌∙◌, ap}
-use mathlib.Core.List.{List}
 use native.Mathlib.Omega.{arith}
 use lib.Dec.{ltb}
 use borrow.Author.Tests.{ltb-true, not-false}
 use Rattle.lists.proofs.Told.{Told, told}
 use Rattle.updates.specs.Kinds.{bad_bib}
-use Rattle.cells.specs.Sizes.{updates}
-use Rattle.cells.specs.Decode.{cells}
-use Rattle.cells.specs.Checks.{log_full}
 use Rattle.entries.specs.Sizes.{bib_range}
-use Rattle.checks.specs.Answers.{log_check}
 use Rattle.checks.specs.declared.log.LogCheck.{LogCheck}
 use Rattle.checks.specs.declared.log.LogCheck.TheVariants as log
 use Rattle.table.specs.Shared.{above}
@@ -22,15 +17,6 @@ use Rattle.updating.specs.Checks.{room_check}
 -- code 5
 pub bib_in : (n : ℕ) → bad_bib n ≡ false → n < bib_range
 bib_in n e = let l = ltb-true n 1000 (not-false (ltb n 1000) e) in omega arith
-
-module _ (d : List ℕ) where
-  -- code 9
-  pub log-told : Told (log_full (cells d)) log.Full log.Room (log_check d)
-  unfolding log_check
-  log-told = told _ _ _ (λ h. cc)
-
-  pub log-in : log_full (cells d) ≡ false → (cells d).updates < updates
-  log-in e = ltb-true _ _ (not-false (ltb (cells d).updates updates) e)
 
 -- code 20, and code 9 of a bundle's entry
 module _ (taken most : ℕ) where

@@ -4,6 +4,7 @@ ghost use Rattle.updating.specs.Checks.{room_check};
 
 use checks::log::LogCheck;
 
+#[tactic(auto, unfolding(crate::specs::Checks::room_check))]
 pub fn check_room(taken: usize, most: usize) -> LogCheck
     ensures { result ≡ room_check taken most }
 {

@@ -9,15 +9,15 @@ ghost use Rattle.entries.specs.Stored.{entry};
 ghost use Rattle.entries.specs.Entries.{wrote};
 ghost use Rattle.table.specs.Halves.{cells_of, high, is_table, low};
 ghost use Rattle.table.specs.Out.{table_bytes};
-ghost use Rattle.table.specs.Answers.{left};
+ghost use Rattle.table.specs.Told.{left};
 ghost use Rattle.table.specs.Calls.{update_out};
 ghost use Rattle.table.specs.Shared.{above, update_shared};
-ghost use Rattle.updating.specs.Checks.{update_check, update_code, UpdateIn};
+ghost use Rattle.updating.specs.Checks.{update_check, UpdateIn};
 
 use crate::room::check_room;
 use checks::busy::{UseCheck, check_use_by_other};
-use checks::client::{ClientCheck, check_client};
-use checks::given::{GivenCheck, check_given};
+use checks::client::check_client;
+use checks::given::check_given;
 use checks::joined::{JoinedCheck, check_joined};
 use checks::log::{LogCheck, check_log};
 use checks::marked::{MarkedCheck, check_marked};
@@ -25,71 +25,66 @@ use checks::open::{OpenCheck, check_open};
 use checks::stale::{StaleCheck, check_stale};
 use sizes::numbers::{Client, Revision};
 use sizes::table::Table;
-use table::answer::Answer;
 use table::bib::{BibCheck, check_bib};
+use table::refusal::Refusal;
 use table::sound::TableCheck;
 use table::{counts, sound};
-use updates::kind::{Kind, KindCheck, check_kind};
-
-// What checks 2 to 9, and 16 after 4, find.
-#[derive(Drop)]
-pub enum UpdateCheck {
-    Allowed(Client, Revision, Kind),
-    Refused(u8),
-}
-
-impl UpdateCheck {
-    // The code of the check that ends the call; 0 where none does.
-    pub fn code(self) -> u8
-        ensures { result ≡ update_code self }
-    {
-        let UpdateCheck::Refused(code) = self else {
-            return 0;
-        };
-        code
-    }
-}
+use updates::kind::Kind;
 
 // Checks 2 to 9, and 16 after 4, on the lower half.
-fn check_lower(d: &[u8], client: u8, revision: u8, kind: u8, bib: u16) -> UpdateCheck
+#[tactic(auto, unfolding(crate::specs::Checks::update_check, table::specs::Found::on_some, table::specs::Found::on_ok, table::specs::Checks::bib_check, updates::specs::Kinds::kind_check, checks::specs::Answers::client_check, checks::specs::Answers::given_check, checks::specs::Answers::joined_check, checks::specs::Answers::marked_check, checks::specs::Answers::open_check, checks::specs::Answers::other_use_check, checks::specs::Answers::stale_check, checks::specs::Answers::log_check))]
+fn check_lower(
+    d: &[u8],
+    client: u8,
+    revision: u8,
+    kind: u8,
+    bib: u16,
+) -> Result<(Client, Revision, Kind), Refusal>
     requires { length d.now ≡ Lower.lower_bytes }
     ensures { (result ≡ update_check d.now client revision kind bib) × UpdateIn d.now bib result }
 {
-    let ClientCheck::Known(c) = check_client(client) else {
-        return UpdateCheck::Refused(2);
+    let Some(c) = check_client(client) else {
+        return Err(Refusal::StrangeClient);
     };
-    let GivenCheck::Given(r) = check_given(d, revision) else {
-        return UpdateCheck::Refused(3);
+    let Some(r) = check_given(d, revision) else {
+        return Err(Refusal::NeverSent);
     };
     let JoinedCheck::Out = check_joined(d, r) else {
-        return UpdateCheck::Refused(4);
+        return Err(Refusal::Joined);
     };
     let MarkedCheck::Unmarked = check_marked(d, r) else {
-        return UpdateCheck::Refused(16);
+        return Err(Refusal::Marked);
     };
     let BibCheck::Known = check_bib(bib) else {
-        return UpdateCheck::Refused(5);
+        return Err(Refusal::BadEntry);
     };
-    let KindCheck::Known(k) = check_kind(kind) else {
-        return UpdateCheck::Refused(5);
+    let Ok(k) = Kind::try_from(kind) else {
+        return Err(Refusal::BadEntry);
     };
     let OpenCheck::Clear = check_open(d, c, r) else {
-        return UpdateCheck::Refused(6);
+        return Err(Refusal::OpenElsewhere);
     };
     let UseCheck::Free = check_use_by_other(d, c, r) else {
-        return UpdateCheck::Refused(7);
+        return Err(Refusal::Busy);
     };
     let StaleCheck::CaughtUp = check_stale(d, c, r) else {
-        return UpdateCheck::Refused(8);
+        return Err(Refusal::NotCaughtUp);
     };
     let LogCheck::Room = check_log(d) else {
-        return UpdateCheck::Refused(9);
+        return Err(Refusal::LogFull);
     };
-    UpdateCheck::Allowed(c, r, k)
+    Ok((c, r, k))
 }
 
 // The same of a whole table.
-pub fn check_update(t: &[u8], client: u8, revision: u8, kind: u8, bib: u16) -> UpdateCheck
+#[tactic(auto, unfolding(table::specs::Halves::low))]
+pub fn check_update(
+    t: &[u8],
+    client: u8,
+    revision: u8,
+    kind: u8,
+    bib: u16,
+) -> Result<(Client, Revision, Kind), Refusal>
     requires { length t.now ≡ table_bytes }
     ensures { (result ≡ update_check (low t.now) client revision kind bib) × UpdateIn (low t.now) bib result }
 {
@@ -138,23 +133,17 @@ fn update_sound(
     kind: u8,
     bib: u16,
     v: u32,
-) -> Answer
+) -> Result<u32, Refusal>
     requires { (is_table t.old ≡ true) × (length t.old ≡ table_bytes) × (in_range (low t.old) ≡ true) }
     ensures { left result t.new ≡ update_shared (above most) t.old client revision kind bib v }
 {
-    let found = check_update(t, client, revision, kind, bib);
-    let UpdateCheck::Allowed(c, r, k) = found else {
-        return Answer {
-            code: found.code(),
-            value: 0,
-        };
-    };
+    let (c, r, k) = check_update(t, client, revision, kind, bib)?;
     let taken = counts::taken(t);
     let LogCheck::Room = check_room(taken, most) else {
-        return Answer { code: 20, value: 0 };
+        return Err(Refusal::CardFull);
     };
     let value = put(t, c, r, k, bib, v);
-    Answer { code: 0, value }
+    Ok(value)
 }
 
 // The call on a table that may have so many updates at most.
@@ -166,17 +155,24 @@ pub fn update_within(
     kind: u8,
     bib: u16,
     v: u32,
-) -> Answer
+) -> Result<u32, Refusal>
     ensures { left result t.new ≡ update_shared (above most) t.old client revision kind bib v }
 {
     let TableCheck::Sound = sound::check_table(t) else {
-        return Answer { code: 1, value: 0 };
+        return Err(Refusal::NoTable);
     };
     update_sound(t, most, client, revision, kind, bib, v)
 }
 
 // The call on a table alone.
-pub fn update(t: &mut [u8], client: u8, revision: u8, kind: u8, bib: u16, v: u32) -> Answer
+pub fn update(
+    t: &mut [u8],
+    client: u8,
+    revision: u8,
+    kind: u8,
+    bib: u16,
+    v: u32,
+) -> Result<u32, Refusal>
     ensures { left result t.new ≡ update_out t.old client revision kind bib v }
 {
     update_within(t, Table::UPDATES, client, revision, kind, bib, v)

@@ -5,15 +5,16 @@ ghost use Rattle.cells.specs.Steps.{close_bytes};
 ghost use Rattle.boards.specs.Board.{board_bytes};
 ghost use Rattle.table.specs.Halves.{high, is_table, low};
 ghost use Rattle.table.specs.Out.{table_bytes};
-ghost use Rattle.table.specs.Answers.{left};
+ghost use Rattle.table.specs.Told.{left};
 ghost use Rattle.table.specs.Calls.{yield_out};
 
-use checks::client::{ClientCheck, check_client};
+use checks::client::check_client;
 use events::transactions;
 use sizes::numbers::Client;
 use sizes::table::Table;
-use table::answer::Answer;
+use table::refusal::Refusal;
 
+#[tactic(auto, unfolding(table::specs::Halves::low, table::specs::Halves::high))]
 pub fn close(t: &mut [u8], c: Client)
     requires { (length t.old ≡ table_bytes) × (c.0 < clients) }
     ensures { t.new ≡ close_bytes (low t.old) c.0 ++ high t.old }
@@ -22,13 +23,14 @@ pub fn close(t: &mut [u8], c: Client)
 }
 
 // The call on bytes that are a table, with a board of the right length.
-pub fn yield_sound(t: &mut [u8], client: u8) -> Answer
+#[tactic(auto, unfolding(table::specs::Calls::yield_out, checks::specs::Answers::client_check))]
+pub fn yield_sound(t: &mut [u8], client: u8) -> Result<u32, Refusal>
     requires { (is_table t.old ≡ true) × (length t.old ≡ table_bytes) }
     ensures { left result t.new ≡ yield_out t.old client board_bytes }
 {
-    let ClientCheck::Known(c) = check_client(client) else {
-        return Answer { code: 2, value: 0 };
+    let Some(c) = check_client(client) else {
+        return Err(Refusal::StrangeClient);
     };
     close(t, c);
-    Answer { code: 0, value: 0 }
+    Ok(0)
 }

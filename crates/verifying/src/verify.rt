@@ -8,29 +8,20 @@ ghost use Rattle.orderfile.specs.Test.{in_order, rises, wrong};
 ghost use Rattle.orderfile.specs.Checks.{place_at};
 ghost use Rattle.table.specs.Halves.{cells_of, is_table, low};
 ghost use Rattle.table.specs.Out.{table_bytes};
-ghost use Rattle.table.specs.Calls.{fits_table, is_out, verdict, verify_out};
+ghost use Rattle.table.specs.Calls.{fits_table, is_out, verify_out};
+ghost use Rattle.table.specs.Told.{verdict_told};
 
-use checks::given::{GivenCheck, check_given};
+use checks::given::check_given;
 use checks::joined::{JoinedCheck, check_joined};
-use orderfile::file::{ListCheck, check_list};
+use orderfile::file::check_list;
 use orderfile::places::{count, place_all};
 use orderfile::rising::rise;
 use sizes::numbers::Revision;
 use sizes::table::Table;
-use table::answer::Answer;
+use table::refusal::Refusal;
 use table::sound::TableCheck;
 use table::visible::visible;
 use table::{counts, sound};
-
-// A code with yes or no.
-fn answer(code: u8, agrees: bool) -> Answer
-    ensures { result ≡ verdict code agrees }
-{
-    if agrees {
-        return Answer { code, value: 1 };
-    }
-    Answer { code, value: 0 }
-}
 
 // No update has a place yet.
 fn no_places() -> [u16; Table::UPDATES]
@@ -49,11 +40,12 @@ fn in_order(t: &[u8], r: Revision, places: &[u16], list: &mut [u16]) -> bool
 }
 
 // Of number n, if a revision that is out bears it, busy or not.
+#[tactic(auto, unfolding(checks::specs::Answers::given_check, checks::specs::Answers::joined_check, table::specs::Halves::low))]
 fn stands(t: &[u8], n: u8, places: &[u16], list: &mut [u16]) -> bool
     requires { (length t.now ≡ table_bytes) × (in_range (low t.now) ≡ true) × (length list.old ≡ updates) }
     ensures { result ≡ not (wrong (is_out (cells_of t.now)) (order (cells_of t.now)) (place_at places.now) n) }
 {
-    let GivenCheck::Given(r) = check_given(&t[0..Table::LOWER], n) else {
+    let Some(r) = check_given(&t[0..Table::LOWER], n) else {
         return true;
     };
     let JoinedCheck::Out = check_joined(&t[0..Table::LOWER], r) else {
@@ -68,12 +60,10 @@ fn all_stand(t: &[u8], places: &[u16]) -> bool
     ensures { result ≡ in_order revisions (is_out (cells_of t.now)) (order (cells_of t.now)) (place_at places.now) }
 {
     let mut list = order::links::room();
-    let mut n: u8 = 0;
-    while n < Table::REVISIONS as u8 {
+    for n in 0..Table::REVISIONS as u8 {
         if !stands(t, n, places, &mut list) {
             return false;
         }
-        n += 1;
     }
     true
 }
@@ -103,21 +93,22 @@ fn fits(t: &[u8], numbers: &[u8]) -> bool
 }
 
 // The call on bytes that are a table.
-fn verify_sound(t: &[u8], file: &[u8]) -> Answer
+#[tactic(auto, unfolding(table::specs::Calls::verify_out, orderfile::specs::Checks::list_check, orderfile::specs::File::numbers_in))]
+fn verify_sound(t: &[u8], file: &[u8]) -> Result<bool, Refusal>
     requires { (is_table t.now ≡ true) × (length t.now ≡ table_bytes) × (in_range (low t.now) ≡ true) }
-    ensures { result ≡ verify_out t.now file.now }
+    ensures { verdict_told result ≡ verify_out t.now file.now }
 {
-    let ListCheck::Good(from) = check_list(file) else {
-        return answer(21, false);
+    let Some(from) = check_list(file) else {
+        return Err(Refusal::BadList);
     };
-    answer(0, fits(t, &file[from..]))
+    Ok(fits(t, &file[from..]))
 }
 
-pub fn verify(t: &[u8], file: &[u8]) -> Answer
-    ensures { result ≡ verify_out t.now file.now }
+pub fn verify(t: &[u8], file: &[u8]) -> Result<bool, Refusal>
+    ensures { verdict_told result ≡ verify_out t.now file.now }
 {
     let TableCheck::Sound = sound::check_table(t) else {
-        return answer(1, false);
+        return Err(Refusal::NoTable);
     };
     verify_sound(t, file)
 }

@@ -1,8 +1,6 @@
--- `exports::silttongs_fill` meets its contract: it returns the two numbers of `table`. Assumes nothing.
-use mathlib.Core.Path.{◌∙◌, ap}
-use Rattle.packing.specs.Packed.{exported_level}
+-- `exports::silttongs_fill` meets its contract: it returns the answer of its call. Assumes nothing.
+use Rattle.exports.proofs.Returned.{gives-level}
 use Rattle.exports.proofs.silttongs_fill.Goals as goal
 
 pub returns : goal.returns
-unfolding exported_level
-returns c = c.pack.ensures ∙ ap exported_level c.fill-f.ensures
+returns c = gives-level c.pack_reply.ensures c.from.ensures c.fill-f.ensures

@@ -1,6 +1,6 @@
--- `exports::silttongs_fork` meets its contract: it returns the answer of `table`. Assumes nothing.
+-- `exports::silttongs_fork` meets its contract: it returns the answer of its call. Assumes nothing.
 use Rattle.exports.proofs.Returned.{gives}
 use Rattle.exports.proofs.silttongs_fork.Goals as goal
 
 pub returns : goal.returns
-returns c = gives _ c.pack.ensures c.fork-a.ensures
+returns c = gives c.pack_reply.ensures _ c.from.ensures c.fork-a.ensures

@@ -1,6 +1,6 @@
--- `exports::silttongs_mark` meets its contract: it returns the answer of `table`. Assumes nothing.
+-- `exports::silttongs_mark` meets its contract: it returns the answer of its call. Assumes nothing.
 use Rattle.exports.proofs.Returned.{gives}
 use Rattle.exports.proofs.silttongs_mark.Goals as goal
 
 pub returns : goal.returns
-returns c = gives _ c.pack.ensures c.mark-a.ensures
+returns c = gives c.pack_reply.ensures _ c.from.ensures c.mark-a.ensures

@@ -1,8 +1,6 @@
--- `exports::silttongs_preview` meets its contract: it returns the numbers of `previewing`. Assumes nothing.
-use mathlib.Core.Path.{◌∙◌, ap}
-use Rattle.packing.specs.Packed.{exported_prospect}
+-- `exports::silttongs_preview` meets its contract: it returns the answer of its call. Assumes nothing.
+use Rattle.exports.proofs.Returned.{gives-prospect}
 use Rattle.exports.proofs.silttongs_preview.Goals as goal
 
 pub returns : goal.returns
-unfolding exported_prospect
-returns c = c.pack_gain.ensures ∙ ap exported_prospect c.preview-p.ensures
+returns c = gives-prospect c.pack_reply.ensures c.from.ensures c.preview-p.ensures

@@ -1,8 +1,6 @@
--- `exports::silttongs_verify` meets its contract: it returns the code and the value of `table`. Assumes nothing.
-use mathlib.Core.Path.{◌∙◌, ap}
-use Rattle.packing.specs.Packed.{exported_answer}
+-- `exports::silttongs_verify` meets its contract: it returns the answer of its call. Assumes nothing.
+use Rattle.exports.proofs.Returned.{gives-answer}
 use Rattle.exports.proofs.silttongs_verify.Goals as goal
 
 pub returns : goal.returns
-unfolding exported_answer
-returns c = c.pack.ensures ∙ ap exported_answer c.verify-a.ensures
+returns c = gives-answer c.pack_reply.ensures c.from.ensures c.verify-a.ensures

@@ -1,12 +1,9 @@
 -- `buffers::numbers::read` meets its contract: the number of the bytes from i on, one byte more at each turn. Assumes nothing.
-use Prim.Native.Nat.{◌^◌, ◌-◌, ◌<◌, ◌≤◌}
+use Prim.Native.Nat.{◌^◌, ◌-◌, ◌<◌}
 use mathlib.Core.Path.{◌≡◌}
 use lib.ListN.{length, drop}
 use Rattle.buffers.specs.Numbers.{number}
 use Rattle.buffers.proofs.numbers.read.Given as goal
 
 abbrev pub invariant-loop-i : goal.invariant-loop-i
-invariant-loop-i l = (l.i ≤ length l.p) × (l.value ≡ number (drop l.i l.p)) × (l.value < 256 ^ (length l.p - l.i))
-
-abbrev pub decreases-loop-i : goal.decreases-loop-i
-decreases-loop-i l = l.i
+invariant-loop-i l = (l.value ≡ number (drop l.i l.p)) × (l.value < 256 ^ (length l.p - l.i))

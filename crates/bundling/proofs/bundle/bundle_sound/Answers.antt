@@ -1,26 +1,27 @@
 -- `bundling::bundle::bundle_sound` meets its contract: the first update's checks, then the rest. Assumes nothing.
-use mathlib.Core.Path.{◌∙◌, ap}
-use Rattle.bundles.specs.Records.{entries_from}
+use mathlib.Core.Path.{◌∙◌}
+use Rattle.bundles.specs.Packed.{held}
 use Rattle.table.specs.Shared.{above}
-use Rattle.updating.specs.Checks.{update_code}
+use Rattle.std.proofs.lemmas.Result.{err_from_is_err_and}
 use Rattle.bundling.proofs.Bundles.{bundle-going, bundle-refused, bundle_sent}
 use Rattle.bundling.proofs.bundle.bundle_sound.Goals as goal
 
-pub returns-in_default : goal.returns-in_default
-returns-in_default c =
+pub returns-in_err-c : goal.returns-in_err-c
+returns-in_err-c c =
     let s = c.args in
-    rw (c.code.ensures ∙ ap update_code c.in_default.is) (bundle-refused (above s.most) s.t.now c.requires.0 s.client s.revision s.b.now s.n c.requires.4 c.check_first-found.result c.check_first-found.ensures c.in_default.field-0 c.in_default.is)
+    let p = err_from_is_err_and c.from_residual.result c.from_residual.ensures.1 in
+    rw (p.1, p.2) (bundle-refused (above s.most) s.t.now c.requires.0 s.client s.revision s.records.now c.requires.3 _ c.check_first.result c.check_first.ensures _ c.in_err-c.was)
 
 pub send-requires : goal.send-requires
 send-requires c =
     let s = c.args in
-    let first = c.check_first-found in
-    let going = bundle-going (above s.most) s.t.now c.requires.0 s.client s.revision s.b.now s.n c.requires.4 first.result first.ensures in
-    (going c.in-Allowed.c c.in-Allowed.r c.in-Allowed.k c.in-Allowed.is, c.requires.1, c.requires.3, c.requires.5)
+    let first = c.check_first in
+    let going = bundle-going (above s.most) s.t.now c.requires.0 s.client s.revision s.records.now c.requires.3 _ first.result first.ensures in
+    (going c.in_ok-c.c c.in_ok-c.r _ c.in_ok-c.was, c.requires.1, c.requires.4)
 
 pub returns : goal.returns
 returns c =
     let s = c.args in
-    let first = c.check_first-found in
-    let sent = bundle_sent (above s.most) s.t.now c.requires.0 s.client s.revision s.b.now s.n c.requires.4 first.result first.ensures in
-    c.send.ensures ∙ sent c.in-Allowed.c c.in-Allowed.r c.in-Allowed.k c.in-Allowed.is (entries_from s.b.now 0 s.n)
+    let first = c.check_first in
+    let sent = bundle_sent (above s.most) s.t.now c.requires.0 s.client s.revision s.records.now c.requires.3 _ first.result first.ensures in
+    c.send.ensures ∙ sent c.in_ok-c.c c.in_ok-c.r _ c.in_ok-c.was (held s.records.now)

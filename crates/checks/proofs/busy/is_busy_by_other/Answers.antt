@@ -1,27 +1,16 @@
 -- `checks::busy::is_busy_by_other` meets its contract: no other client below `x` has r open. Assumes nothing.
-use mathlib.Core.Path.{◌∙◌, ◌≡◌, ap, refl, sym}
+use mathlib.Core.Path.{◌∙◌, ◌≡◌, ap, sym}
 use native.Mathlib.Omega.{arith}
-use borrow.Author.Rules.{rules}
 use Rattle.lists.specs.Sums.{any_below}
-use Rattle.lists.proofs.Sums.{any_at, any_more}
+use Rattle.lists.proofs.Sums.{any_at}
 use Rattle.checks.proofs.busy.is_busy_by_other.Invariants.{other}
 use Rattle.checks.proofs.busy.is_busy_by_other.Goals as goal
-
-pub loop-x-init : goal.loop-x-init
-unfolding any_below
-loop-x-init c = (search rules, refl)
 
 pub returns-then-is_other_on : goal.returns-then-is_other_on
 returns-then-is_other_on c =
     let s = c.args in
     let l = c.loop-x in
     sym (any_at 16 (other s.d.now s.c.0 s.r.0) l.x (omega arith) (sym c.is_other_on.ensures ∙ c.if-is_other_on.true))
-
-pub loop-x-preserved : goal.loop-x-preserved
-loop-x-preserved c =
-    let s = c.args in
-    let l = c.loop-x in
-    (omega arith, any_more l.x (other s.d.now s.c.0 s.r.0) l.invariant.1 (sym c.is_other_on.ensures ∙ c.if-is_other_on.false))
 
 pub returns : goal.returns
 returns c =

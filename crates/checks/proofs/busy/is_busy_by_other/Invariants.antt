@@ -1,5 +1,5 @@
 -- `checks::busy::is_busy_by_other` meets its contract: no other client below `x` has r open. Assumes nothing.
-use Prim.Native.Nat.{◌-◌, ◌≤◌, ℕ}
+use Prim.Native.Nat.{◌≤◌, ℕ}
 use mathlib.Core.Bool.{Bool, false, not, ◌&&◌}
 use mathlib.Core.Path.{◌≡◌}
 use mathlib.Core.List.{List}
@@ -14,6 +14,3 @@ other d c r y = not (eqb y c) && eqb ((cells d).opened y) r
 
 abbrev pub invariant-loop-x : goal.invariant-loop-x
 invariant-loop-x l = (l.x ≤ 16) × (any_below l.x (other l.d l.c.0 l.r.0) ≡ false)
-
-abbrev pub decreases-loop-x : goal.decreases-loop-x
-decreases-loop-x l = 16 - l.x

@@ -1,19 +1,16 @@
--- `federation::looks::on_beside` meets its contract: 1 of the other three, then the call. Assumes nothing.
-use mathlib.Core.List.{[]}
-use mathlib.Core.Path.{◌∙◌, ap, sym}
+-- `federation::looks::on_beside` meets its contract: 1 of the other three, then the step. Assumes nothing.
+use mathlib.Core.Path.{◌∙◌, ap, refl, sym}
 use Rattle.beside.proofs.Beside.{beside_none, beside-tables}
-use Rattle.beside.specs.Replies.{replied}
 use Rattle.federation.proofs.Blank.{look_turned}
 use Rattle.table.specs.Served.{Served}
 use Rattle.federation.proofs.looks.on_beside.Goals as goal
 
 pub returns-in_default : goal.returns-in_default
-returns-in_default c =
-    let s = c.args in
+returns-in_default g c =
     let none = beside_none _ _ _ _ _ (sym c.check_three.ensures ∙ c.in_default.is) in
-    ap (λ r. replied r []) c.no_course.ensures ∙ look_turned s.t.now s.look s.file.now ∙ ap (λ (u : Served). u.reply) (sym none)
+    look_turned g.look c.args.t.now _ c.requires.1.1.0 c.no_course.ensures ∙ ap (λ (u : Served). u.reply) (sym none)
 
 pub returns : goal.returns
-returns c =
+returns g c =
     let all = beside-tables _ _ _ _ _ (sym c.check_three.ensures ∙ c.in-Sound.is) in
-    c.on_own.ensures ∙ ap (λ (u : Served). u.reply) (sym all)
+    c.requires.1.1.1 _ _ _ _ refl c.step.ensures ∙ ap (λ (u : Served). u.reply) (sym all)

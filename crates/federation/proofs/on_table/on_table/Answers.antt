@@ -1,33 +1,30 @@
 -- `federation::on_table::on_table` meets its contract: the course's table, beside the other three. Assumes nothing.
-use mathlib.Core.List.{[]}
-use mathlib.Core.Path.{◌∙◌, ap, sym}
+use mathlib.Core.Path.{◌≡◌, ◌∙◌, sym}
+use native.Mathlib.Omega.{arith}
 use Rattle.beside.proofs.Numbers.{known_course, unknown_course}
-use Rattle.card.proofs.Room.{by_number}
-use Rattle.card.specs.Courses.{four}
 use Rattle.federation.proofs.Blank.{table_turned}
-use Rattle.federation.proofs.Numbers.{left-first, left-fourth, left-none, left-second, left-third, last_number}
-use Rattle.federation.specs.Out.{served_as}
+use Rattle.federation.proofs.Numbers.{call_first, call_fourth, call_second, call_third, left-none}
 use Rattle.federation.proofs.on_table.on_table.Goals as goal
 
 pub returns-in_default : goal.returns-in_default
-returns-in_default c =
-    let s = c.args in
+returns-in_default g c =
     let other = unknown_course _ (sym c.check_course.ensures ∙ c.in_default.is) in
-    left-none _ _ _ _ _ other (ap (λ r. served_as r [] (four s.t0.now s.t1.now s.t2.now s.t3.now s.course) []) c.no_course.ensures ∙ table_turned _ s.call s.name.now)
+    left-none _ _ _ _ _ other (table_turned g.call _ _ c.requires.1.1.0 c.no_course.ensures)
 
-pub returns-then-course-eq0 : goal.returns-then-course-eq0
-returns-then-course-eq0 c =
-    left-first _ _ _ _ _ c.if-course-eq0.true (c.on_beside.ensures ∙ sym (by_number _ _ _ _ _).first)
+pub returns-in-0 : goal.returns-in-0
+returns-in-0 g c =
+    call_first c.args.t0.now c.args.t1.now c.args.t2.now c.args.t3.now g.call c.in-0.is c.on_beside.ensures
 
-pub returns-then-course-eq1 : goal.returns-then-course-eq1
-returns-then-course-eq1 c =
-    left-second _ _ _ _ _ c.if-course-eq1.true (c.on_beside-then-course-eq1.ensures ∙ sym (by_number _ _ _ _ _).second)
+pub returns-in-1 : goal.returns-in-1
+returns-in-1 g c =
+    call_second c.args.t0.now c.args.t1.now c.args.t2.now c.args.t3.now g.call c.in-1.is c.on_beside-in-1.ensures
 
-pub returns-then-course-eq2 : goal.returns-then-course-eq2
-returns-then-course-eq2 c =
-    left-third _ _ _ _ _ c.if-course-eq2.true (c.on_beside-then-course-eq2.ensures ∙ sym (by_number _ _ _ _ _).third)
+pub returns-in-2 : goal.returns-in-2
+returns-in-2 g c =
+    call_third c.args.t0.now c.args.t1.now c.args.t2.now c.args.t3.now g.call c.in-2.is c.on_beside-in-2.ensures
 
-pub returns : goal.returns
-returns c =
-    let last = last_number _ c.if-course-eq0.false c.if-course-eq1.false c.if-course-eq2.false (known_course _ (sym c.check_course.ensures ∙ c.in-Known.is)) in
-    left-fourth _ _ _ _ _ last (c.on_beside-2.ensures ∙ sym (by_number _ _ _ _ _).fourth)
+pub returns-in_default-course : goal.returns-in_default-course
+returns-in_default-course g c =
+    let known = known_course _ (sym c.check_course.ensures ∙ c.in-Known.is) in
+    let last : c.args.course ≡ 3 = omega arith in
+    call_fourth c.args.t0.now c.args.t1.now c.args.t2.now c.args.t3.now g.call last c.on_beside-in_default-course.ensures

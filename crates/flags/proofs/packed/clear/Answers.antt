@@ -1,22 +1,25 @@
--- `flags::packed::clear` meets its contract: `x` rows are done, and the others as they were. Assumes nothing.
+-- `flags::packed::clear` meets its contract: `16 * k` rows are done, and the others as they were. Assumes nothing.
+use Prim.Native.Nat.{◌+◌, ◌*◌}
 use mathlib.Core.Path.{◌≡◌}
 use native.Mathlib.Omega.{arith}
 use borrow.Author.Rules.{rules}
 use Rattle.flags.proofs.InPlace.{all_done, cleared_more, none_done}
 use Rattle.flags.proofs.packed.clear.Goals as goal
 
-pub loop-x-init : goal.loop-x-init
-loop-x-init c = (omega arith, omega arith, search rules, none_done _ _)
+pub loop-k-init : goal.loop-k-init
+loop-k-init c = (search rules, search rules, none_done _ _)
 
-pub loop-x-preserved : goal.loop-x-preserved
-loop-x-preserved c =
-    let l = c.loop-x in
+pub loop-k-preserved : goal.loop-k-preserved
+loop-k-preserved c =
+    let l = c.loop-k in
     let s = c.args in
-    (omega arith, omega arith, search rules, cleared_more s.t.now s.w l.t _ l.x (omega arith) l.invariant.3 c.clear_block.ensures)
+    let e : 16 * l.k + 16 ≡ 16 * (l.k + 1) = omega arith in
+    let more = cleared_more s.t.now s.w l.t _ (16 * l.k) (omega arith) l.invariant.2 c.clear_block.ensures in
+    (omega arith, search rules, rw e at more)
 
 pub returns : goal.returns
 returns c =
-    let l = c.loop-x in
+    let l = c.loop-k in
     let s = c.args in
-    let e : l.x ≡ 64 = omega arith in
-    all_done _ s.t.now l.t 64 (search rules) (rw e at l.invariant.3)
+    let e : l.k ≡ 4 = omega arith in
+    all_done _ s.t.now l.t 64 (search rules) (rw e at l.invariant.2)

@@ -1,26 +1,12 @@
--- `flags::rows::load_row` meets its contract: the bytes up to `k` are stored. Assumes nothing.
-use Prim.Native.Nat.{◌*◌, ◌+◌}
-use mathlib.Core.Path.{◌∙◌, ◌≡◌}
+-- `flags::rows::load_row` meets its contract: the bytes copied have the row's flags. Assumes nothing.
+use Prim.Native.Nat.{◌*◌}
 use native.Mathlib.Omega.{arith}
 use borrow.Author.Rules.{rules}
-use Rattle.cells.specs.Flags.{row_bytes}
-use Rattle.cells.specs.Words.{byte}
-use Rattle.cells.proofs.Tables.{tab_done, tab-more, tab-none}
-use Rattle.flags.proofs.Bytes.{same_byte}
+use Rattle.lists.proofs.Replaced.{lent-size}
+use Rattle.flags.proofs.Bytes.{row_copied}
 use Rattle.flags.proofs.rows.load_row.Goals as goal
 
-pub loop-k-init : goal.loop-k-init
-loop-k-init c = (search rules, search rules, tab-none _)
-
-pub loop-k-preserved : goal.loop-k-preserved
-loop-k-preserved c =
-    let l = c.loop-k in
-    let s = c.args in
-    (omega arith, search rules, tab-more _ l.row l.k _ (omega arith) l.invariant.2 (c.same.ensures ∙ same_byte (λ i. byte s.t.now (8 * s.x + i)) l.k))
-
 pub returns : goal.returns
-unfolding row_bytes
 returns c =
-    let l = c.loop-k in
-    let e : l.k ≡ 8 = omega arith in
-    tab_done _ l.row 8 l.invariant.1 (rw e at l.invariant.2)
+    let s = c.args in
+    row_copied s.t.now c.copy_from_slice.new.self (8 * s.x) 8 (rw lent-size at c.copy_from_slice.ensures.after) (omega arith) (search rules)

@@ -1,13 +1,13 @@
--- `handing::drop::one_fewer` meets its contract: the test decides. Assumes nothing.
+-- `handing::drop::one_fewer` meets its contract: on both sides of the limit. Assumes nothing.
 use native.Mathlib.Omega.{arith}
-use borrow.Author.Tests.{lt-ltb, le-ltb}
+use lib.Dec.{ltb}
+use borrow.Author.Tests.{ltb-true, ltb-false}
+use Rattle.lists.proofs.Cases.{cases}
 use Rattle.cells.specs.CellSteps.{one_fewer}
 use Rattle.handing.proofs.drop.one_fewer.Goals as goal
 
-pub returns-then-n-gt1 : goal.returns-then-n-gt1
-unfolding one_fewer
-returns-then-n-gt1 c = (rw (lt-ltb _ _ c.if-n-gt1.true), omega arith)
-
 pub returns : goal.returns
 unfolding one_fewer
-returns c = (rw (le-ltb _ _ c.if-n-gt1.false), omega arith)
+returns c =
+    let n = c.args.n in
+    (cases (ltb 1 n) (λ e. let l = ltb-true _ _ e in rw e (omega arith)) (λ e. let l = ltb-false _ _ e in rw e (omega arith)), omega arith)

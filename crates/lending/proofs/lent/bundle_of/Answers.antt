@@ -10,7 +10,7 @@ pub returns : goal.returns
 returns c =
     let s = c.args in (
       c.bundle_packed.ensures.0
-          ∙ ap (λ p. bundle_out s.t.now s.client s.revision (records_in p) (length s.board.now)) c.pack-p.ensures
+          ∙ ap (λ p. bundle_out s.t.now s.client s.revision (records_in p) (length s.board.now)) c.pack.ensures
           ∙ packed_is s.t.now s.client s.revision s.es.now (length s.board.now),
       c.bundle_packed.ensures.1,
     )

@@ -13,9 +13,6 @@ use Rattle.lending.proofs.lent.bundle_packed.Goals as goal
 pub overflow_mul-end : goal.overflow_mul-end
 overflow_mul-end c = let most = among-most c.args.p.count in record { fits = omega (arith, c.among-end.ensures) }
 
-pub slice_bounds-all-end : goal.slice_bounds-all-end
-slice_bounds-all-end c = search rules
-
 pub slice_bounds-bundle-end : goal.slice_bounds-bundle-end
 slice_bounds-bundle-end c =
     let p = c.args.p in

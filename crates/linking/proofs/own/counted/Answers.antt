@@ -1,13 +1,13 @@
--- `linking::own::counted` meets its contract: the test decides. Assumes nothing.
+-- `linking::own::counted` meets its contract: on both sides of the limit. Assumes nothing.
 use native.Mathlib.Omega.{arith}
-use borrow.Author.Tests.{lt-ltb, le-ltb}
+use lib.Dec.{ltb}
+use borrow.Author.Tests.{ltb-true, ltb-false}
+use Rattle.lists.proofs.Cases.{cases}
 use Rattle.cells.specs.CellSteps.{counted}
 use Rattle.linking.proofs.own.counted.Goals as goal
 
-pub returns-then-n-lt-UPDATES : goal.returns-then-n-lt-UPDATES
-unfolding counted
-returns-then-n-lt-UPDATES c = (rw (lt-ltb _ _ c.if-n-lt-UPDATES.true), omega arith)
-
 pub returns : goal.returns
 unfolding counted
-returns c = (rw (le-ltb _ _ c.if-n-lt-UPDATES.false), omega arith)
+returns c =
+    let n = c.args.n in
+    (cases (ltb n 4096) (λ e. let l = ltb-true _ _ e in rw e (omega arith)) (λ e. let l = ltb-false _ _ e in rw e (omega arith)), omega arith)

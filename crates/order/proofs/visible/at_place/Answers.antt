@@ -9,11 +9,11 @@ pub returns-in_default : goal.returns-in_default
 returns-in_default c =
     let l = (ranges c.args.d.now c.requires.1).layout c.args.i c.requires.2 in
     let e = c.place.ensures.0 in
-    let s = unknown_revision _ (sym c.check_revision.ensures ∙ c.in_default.is) in
+    let s = unknown_revision _ _ (sym c.try_from.ensures ∙ c.in_default.is) in
     absurd (omega arith)
 
 pub returns : goal.returns
 returns c =
-    let k = known-revision _ _ (sym c.check_revision.ensures ∙ c.in-Known.is) in
+    let k = known-revision _ _ (sym c.try_from.ensures ∙ c.in-Ok.is) in
     let e = k.0 ∙ c.place.ensures.0 in
     (e, omega arith)

@@ -1,5 +1,5 @@
 -- `order::visible::place_of` meets its contract: r is in no place before `j`. Assumes nothing.
-use Prim.Native.Nat.{◌-◌, ◌≤◌}
+use Prim.Native.Nat.{◌≤◌}
 use mathlib.Core.Path.{◌≡◌}
 use lib.ListN.{drop}
 use Rattle.lists.specs.Arranged.{behind}
@@ -10,6 +10,3 @@ use Rattle.order.proofs.visible.place_of.Given as goal
 
 abbrev pub invariant-loop-j : goal.invariant-loop-j
 invariant-loop-j l = (l.j ≤ l.n) × (l.n ≡ (cells l.d).out) × (l.n ≤ revisions) × (behind l.r.0 (outs (cells l.d)) ≡ behind l.r.0 (drop l.j (outs (cells l.d))))
-
-abbrev pub decreases-loop-j : goal.decreases-loop-j
-decreases-loop-j l = l.n - l.j

@@ -1,5 +1,5 @@
 -- `order::whole::fits` meets its contract: what the lists from place `i` on have is to go into what is left. Assumes nothing.
-use Prim.Native.Nat.{◌+◌, ◌-◌, ◌≤◌}
+use Prim.Native.Nat.{◌+◌, ◌≤◌}
 use mathlib.Core.Path.{◌≡◌}
 use lib.ListN.{drop}
 use Rattle.cells.specs.Cells.{outs}
@@ -9,7 +9,4 @@ use Rattle.order.proofs.whole.fits.Given as goal
 
 abbrev pub invariant-loop-i : goal.invariant-loop-i
 invariant-loop-i l =
-    (l.n ≡ (cells l.d).out) × (l.left ≤ l.initial.left) × (counts (cells l.d) (drop l.i (outs (cells l.d))) + l.initial.left ≡ l.left + counts (cells l.d) (drop l.initial.i (outs (cells l.d))))
-
-abbrev pub decreases-loop-i : goal.decreases-loop-i
-decreases-loop-i l = l.n - l.i
+    (l.n ≡ (cells l.d).out) × (l.left ≤ l.initial.left) × (counts (cells l.d) (drop l.i (outs (cells l.d))) + l.initial.left ≡ l.left + counts (cells l.d) (drop (l.j + 1) (outs (cells l.d))))

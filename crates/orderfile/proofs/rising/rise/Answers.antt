@@ -1,6 +1,6 @@
 -- `orderfile::rising::rise` meets its contract: what is left of the list rises above the last place. Assumes nothing.
 use Prim.Native.Nat.{◌+◌}
-use mathlib.Core.Path.{refl, sym, ◌∙◌, ap}
+use mathlib.Core.Path.{sym, ◌∙◌, ap}
 use native.Mathlib.Omega.{arith}
 use lib.ListN.{drop}
 use Rattle.orderfile.specs.Test.{rises}
@@ -8,32 +8,25 @@ use Rattle.orderfile.specs.Checks.{place_at}
 use Rattle.orderfile.proofs.Rises.{rise-on, rise-stop, rise-end}
 use Rattle.orderfile.proofs.rising.rise.Goals as goal
 
-pub loop-i-init : goal.loop-i-init
-loop-i-init c = (omega arith, refl)
-
-pub overflow_cast-list : goal.overflow_cast-list
-overflow_cast-list c = omega (arith, c.shared_slice_known-in-loop-i-1.given c.loop-i.i)
-
 pub returns-then-p-last : goal.returns-then-p-last
 returns-then-p-last c =
     let s = c.args in
-    let l = c.loop-i in
-    let stop = rise-stop (place_at s.places.now) l.last s.list.now l.i (omega arith) (omega (arith, c.place-p.ensures)) in
-    sym (l.invariant.1 ∙ stop)
+    let l = c.loop-u in
+    let at = c.place-p.ensures ∙ ap (place_at s.places.now) c.from.ensures in
+    let stop = rise-stop (place_at s.places.now) l.last s.list.now l.u-index (omega arith) (omega (arith, at)) in
+    sym (l.invariant ∙ stop)
 
-pub loop-i-smaller : goal.loop-i-smaller
-loop-i-smaller c = omega arith
-
-pub loop-i-preserved : goal.loop-i-preserved
-loop-i-preserved c =
+pub loop-u-preserved : goal.loop-u-preserved
+loop-u-preserved c =
     let s = c.args in
-    let l = c.loop-i in
+    let l = c.loop-u in
     let p = place_at s.places.now in
-    let on = rise-on p l.last s.list.now l.i (omega arith) (omega (arith, c.place-p.ensures)) in
-    (omega arith, l.invariant.1 ∙ on ∙ ap (λ k. rises p k (drop (l.i + 1) s.list.now)) (sym c.place-p.ensures))
+    let at = c.place-p.ensures ∙ ap p c.from.ensures in
+    let on = rise-on p l.last s.list.now l.u-index (omega arith) (omega (arith, at)) in
+    l.invariant ∙ on ∙ ap (λ k. rises p k (drop (l.u-index + 1) s.list.now)) (sym at)
 
 pub returns : goal.returns
 returns c =
-    let l = c.loop-i in
+    let l = c.loop-u in
     let s = c.args in
-    sym (l.invariant.1 ∙ rise-end (place_at s.places.now) l.last s.list.now l.i (omega arith))
+    sym (l.invariant ∙ rise-end (place_at s.places.now) l.last s.list.now l.u-index (omega arith))

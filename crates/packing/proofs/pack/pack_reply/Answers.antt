@@ -5,4 +5,4 @@ use Rattle.packing.proofs.pack.pack_reply.Goals as goal
 pub returns : goal.returns
 unfolding packed_reply
 returns c =
-    rw c.state_number.ensures.0
+    rw (c.from.ensures, c.state_number.ensures.0, c.from-2.ensures, c.from-3.ensures, c.from-4.ensures)

@@ -1,13 +1,17 @@
 -- `places::layout::take_out` meets its contract: where b stands its place is closed. Assumes nothing.
 use mathlib.Core.Path.{◌∙◌}
 use native.Mathlib.Omega.{arith}
-use Rattle.places.proofs.PlaceLoops.{none_out, taken_out}
+use Rattle.places.proofs.Moved.{none_out, sought, taken_out}
 use Rattle.places.proofs.layout.take_out.Goals as goal
 
-pub returns-then-i-lt-REVISIONS : goal.returns-then-i-lt-REVISIONS
-returns-then-i-lt-REVISIONS c =
-    c.close.ensures ∙ taken_out c.args.b c.find-i.result c.args.t.now (omega arith) c.find-i.ensures c.if-i-lt-REVISIONS.true
+pub returns-in-Some : goal.returns-in-Some
+returns-in-Some c =
+    let s = c.args in
+    let at = rw c.in-Some.is at (sought s.b s.t.now _ c.find.ensures) in
+    c.close.ensures ∙ taken_out s.b c.in-Some.i s.t.now (omega arith) at.0 (omega arith)
 
-pub returns-else-i-lt-REVISIONS : goal.returns-else-i-lt-REVISIONS
-returns-else-i-lt-REVISIONS c =
-    none_out c.args.b c.find-i.result c.args.t.now (omega arith) c.find-i.ensures c.if-i-lt-REVISIONS.false
+pub returns-in_default : goal.returns-in_default
+returns-in_default c =
+    let s = c.args in
+    let none = rw c.in_default.is at (sought s.b s.t.now _ c.find.ensures) in
+    none_out s.b s.t.now (omega arith) (omega arith)

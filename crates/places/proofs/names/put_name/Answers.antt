@@ -1,16 +1,12 @@
--- `places::names::put_name` meets its contract: four bytes written. Assumes nothing.
-use mathlib.Core.Path.{refl}
+-- `places::names::put_name` meets its contract: four bytes are lent and come back as the name's. Assumes nothing.
+use Prim.Native.Nat.{◌*◌}
+use mathlib.Core.Path.{◌∙◌}
 use native.Mathlib.Omega.{arith}
-use lib.ListN.{length-set}
-use Rattle.cells.specs.Words.{put_name}
+use Rattle.lists.proofs.Replaced.{lent-replaced}
+use Rattle.places.proofs.Lent.{name_put}
 use Rattle.places.proofs.names.put_name.Goals as goal
 
-pub bounds-t-at-2 : goal.bounds-t-at-2
-bounds-t-at-2 c = simp length-set (omega arith)
-
-pub bounds-t-at-3 : goal.bounds-t-at-3
-bounds-t-at-3 c = simp length-set (omega arith)
-
 pub returns : goal.returns
-unfolding put_name
-returns c = refl
+returns c =
+    let s = c.args in
+    lent-replaced s.t.now _ _ (4 * s.r) 4 c.copy_from_slice.ensures.after ∙ name_put s.t.now s.r s.name.now (omega arith) (omega arith)

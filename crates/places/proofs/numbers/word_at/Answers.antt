@@ -5,4 +5,4 @@ use Rattle.places.proofs.numbers.word_at.Goals as goal
 
 pub returns : goal.returns
 unfolding word
-returns c = (rw (c.wide.ensures.0, c.wide-2.ensures.0), omega arith)
+returns c = (omega arith, omega arith)

@@ -7,10 +7,6 @@ use Rattle.entries.specs.Entries.{entry_at}
 use Rattle.entries.proofs.Walked.{stands-first}
 use Rattle.querying.proofs.back.look.Goals as goal
 
-pub returns-then-wanted : goal.returns-then-wanted
-returns-then-wanted c =
-    rw (sym c.wanted.ensures ∙ c.if-wanted.true) c.keep.ensures
-
 pub returns : goal.returns
 returns c =
     let s = c.args in

@@ -14,6 +14,3 @@ abbrev pub invariant-loop-i : goal.invariant-loop-i
 invariant-loop-i l =
     (l.i ≤ l.n) × (l.u < updates) × (l.p ≤ l.from) × (l.from + l.i ≤ l.p + l.n) × (length l.out ≡ length l.initial.out)
     × StandsFor (entry_at l.h) l.s.bib false (left l.d l.s.r.0 l.s.base l.u l.i) (drop l.p l.out) (left l.d l.s.r.0 l.s.base l.at l.n ++ drop l.from l.initial.out)
-
-abbrev pub decreases-loop-i : goal.decreases-loop-i
-decreases-loop-i l = l.i

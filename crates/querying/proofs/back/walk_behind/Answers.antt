@@ -1,19 +1,21 @@
 -- `querying::back::walk_behind` meets its contract: those kept, with what the lists from place `i` on have, stand for all. Assumes
 -- nothing.
 use Prim.Native.Nat.{◌+◌}
-use mathlib.Core.Path.{◌∙◌, ap, refl}
+use mathlib.Core.Path.{◌≡◌, ◌∙◌, ap, refl}
 use mathlib.Core.List.{[]}
 use native.Mathlib.Omega.{arith}
 use lib.ListN.{drop}
+use Rattle.std.proofs.Common.{Continue, Break}
+use Rattle.std.specs.ControlFlow.{control_flow_from_branch}
 use Rattle.lists.specs.Arranged.{flat_back}
 use Rattle.cells.specs.Cells.{outs}
 use Rattle.cells.specs.Decode.{cells}
 use Rattle.cells.specs.Order.{inherited}
 use Rattle.cells.proofs.Range.{ranges}
 use Rattle.order.specs.Counts.{counts}
-use Rattle.order.proofs.Behind.{from_place, past-places}
+use Rattle.order.proofs.Behind.{from_place}
 use Rattle.entries.specs.Entries.{entry_at}
-use Rattle.entries.proofs.Walked.{stands-first, stands-going, stands-done}
+use Rattle.entries.proofs.Walked.{stands-first, stands-done}
 use Rattle.querying.proofs.Walks.{lists-more}
 use Rattle.querying.proofs.back.walk_behind.Goals as goal
 
@@ -28,44 +30,33 @@ at_place-x-requires c =
     let o = (ranges c.args.d.now c.requires.1).most_out in
     (c.requires.0, c.requires.1, omega arith)
 
-pub walk_list-k-requires : goal.walk_list-k-requires
-walk_list-k-requires c =
+pub walk_list-requires : goal.walk_list-requires
+walk_list-requires c =
     let s = c.args in
     let l = c.loop-i in
     let x = c.at_place-x.ensures in
     let e = ap (counts (cells s.d.now)) (from_place s.d.now c.requires.0 c.requires.1 l.i _ (omega arith) x.0) in
     (c.requires.0, c.requires.1, c.requires.2, c.requires.3, x.1, omega arith, omega arith)
 
-pub shape_of-out-then-k : goal.shape_of-out-then-k
-shape_of-out-then-k c = c.walk_list-k.auto.out ∙ c.loop-i.invariant.3
-
-pub returns-then-k : goal.returns-then-k
-returns-then-k c =
+pub returns-in_err-p : goal.returns-in_err-p
+returns-in_err-p c =
     let s = c.args in
     let l = c.loop-i in
     let x = c.at_place-x.ensures.0 in
-    let w = c.walk_list-k.ensures in
+    let broke : c.walk_list.result ≡ Break c.in_err-p.field-0.0 = c.branch-p.ensures ∙ ap control_flow_from_branch c.in_err-p.is in
+    let w = rw broke at c.walk_list.ensures in
     let e = ap (counts (cells s.d.now)) (from_place s.d.now c.requires.0 c.requires.1 l.i _ (omega arith) x) in
     let more = lists-more s.d.now s.h.now s.r.0 s.bib c.requires.0 c.requires.1 l.i _ _ l.p _ l.out _ _ _ (omega arith) x c.base_in-base.ensures l.invariant.4 w in
-    record { low = omega (arith, w.low); few = omega (arith, w.few); stands = stands-done (entry_at s.h.now) s.bib [] c.if-k.true more }
+    rw c.from_residual.ensures
+    (record { low = omega (arith, w.low); few = omega (arith, w.few); stands = stands-done (entry_at s.h.now) s.bib [] more })
 
 pub loop-i-preserved : goal.loop-i-preserved
 loop-i-preserved c =
     let s = c.args in
     let l = c.loop-i in
     let x = c.at_place-x.ensures.0 in
-    let w = c.walk_list-k.ensures in
+    let goes : c.walk_list.result ≡ Continue c.in_ok-p.p = c.branch-p.ensures ∙ ap control_flow_from_branch c.in_ok-p.is in
+    let w = rw goes at c.walk_list.ensures in
     let e = ap (counts (cells s.d.now)) (from_place s.d.now c.requires.0 c.requires.1 l.i _ (omega arith) x) in
     let more = lists-more s.d.now s.h.now s.r.0 s.bib c.requires.0 c.requires.1 l.i _ _ l.p _ l.out _ _ _ (omega arith) x c.base_in-base.ensures l.invariant.4 w in
-    (l.invariant.0, omega (arith, w.low), omega (arith, w.few), c.walk_list-k.auto.out ∙ l.invariant.3, stands-going (entry_at s.h.now) s.bib c.if-k.false more)
-
-pub shape_of-out : goal.shape_of-out
-shape_of-out c = c.loop-i.invariant.3
-
-pub returns : goal.returns
-returns c =
-    let s = c.args in
-    let l = c.loop-i in
-    let none = past-places s.d.now c.requires.0 c.requires.1 l.i (omega arith) in
-    let e = ap (counts (cells s.d.now)) none in
-    record { low = l.invariant.1; few = omega arith; stands = rw none at l.invariant.4 }
+    (l.invariant.0, omega (arith, w.low), omega (arith, w.few), c.walk_list.auto.out ∙ l.invariant.3, more)

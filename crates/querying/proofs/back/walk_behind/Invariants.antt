@@ -1,6 +1,6 @@
 -- `querying::back::walk_behind` meets its contract: those kept, with what the lists from place `i` on have, stand for all. Assumes
 -- nothing.
-use Prim.Native.Nat.{◌+◌, ◌-◌, ◌≤◌}
+use Prim.Native.Nat.{◌+◌, ◌≤◌}
 use mathlib.Core.Bool.{false}
 use mathlib.Core.Path.{◌≡◌}
 use mathlib.Core.List.{◌++◌}
@@ -18,6 +18,3 @@ abbrev pub invariant-loop-i : goal.invariant-loop-i
 invariant-loop-i l =
     (l.n ≡ (cells l.d).out) × (l.p ≤ l.from) × (l.from + counts (cells l.d) (drop l.i (outs (cells l.d))) ≤ l.p + counts (cells l.d) (drop l.initial.i (outs (cells l.d)))) × (length l.out ≡ length l.initial.out)
     × StandsFor (entry_at l.h) l.bib false (flat_back (inherited (cells l.d) l.r.0) (drop l.i (outs (cells l.d)))) (drop l.p l.out) (flat_back (inherited (cells l.d) l.r.0) (drop l.initial.i (outs (cells l.d))) ++ drop l.from l.initial.out)
-
-abbrev pub decreases-loop-i : goal.decreases-loop-i
-decreases-loop-i l = l.n - l.i

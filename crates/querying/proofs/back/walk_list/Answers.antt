@@ -1,11 +1,12 @@
 -- `querying::back::walk_list` meets its contract: after each run those kept, with those left, stand for all. Assumes nothing.
-use mathlib.Core.Path.{◌∙◌, refl}
-use mathlib.Core.List.{[]}
+use mathlib.Core.Path.{◌≡◌, ◌∙◌, ap, refl}
 use native.Mathlib.Omega.{arith}
 use lib.ListN.{drop}
+use Rattle.std.proofs.Common.{Continue, Break}
+use Rattle.std.specs.ControlFlow.{control_flow_from_branch}
 use Rattle.cells.proofs.Range.{ranges}
 use Rattle.entries.specs.Entries.{entry_at}
-use Rattle.entries.proofs.Walked.{stands-first, stands_on, stands-going, stands-done}
+use Rattle.entries.proofs.Walked.{stands-first, stands_on}
 use Rattle.querying.specs.Left.{left}
 use Rattle.querying.proofs.Walks.{left-none, left-own}
 use Rattle.querying.proofs.back.walk_list.Goals as goal
@@ -24,41 +25,24 @@ loop-i-init c =
       stands-first (entry_at s.h.now) s.s.bib (left s.d.now s.s.r.0 s.s.base u i) (drop s.from s.out.now),
     )
 
-pub run-w-requires : goal.run-w-requires
-run-w-requires c =
-    let l = c.loop-i in
-    (c.requires.0, c.requires.2, c.requires.3, l.invariant.1, omega arith, omega arith, omega arith)
-
-pub shape_of-out-then-w : goal.shape_of-out-then-w
-shape_of-out-then-w c = c.run-w.auto.out ∙ c.loop-i.invariant.4
-
-pub returns-then-w : goal.returns-then-w
-returns-then-w c =
+pub returns-in_err-w : goal.returns-in_err-w
+returns-in_err-w c =
     let s = c.args in
     let l = c.loop-i in
-    let w = c.run-w.ensures in
+    let broke : c.run.result ≡ Break c.in_err-w.field-0.0 = c.branch-w.ensures ∙ ap control_flow_from_branch c.in_err-w.is in
+    let w = rw broke at c.run.ensures in
     let n = c.count-i.ensures.0 in
-    let done = stands-done (entry_at s.h.now) s.s.bib [] c.if-w.true (stands_on (entry_at s.h.now) s.s.bib l.invariant.5 w.4) in
-    record { low = omega arith; few = omega arith; stands = left-own s.d.now s.h.now s.s.r.0 s.s.base s.s.bib s.x.0 _ _ _ c.last-u.ensures.0 n done }
-
-pub loop-i-smaller : goal.loop-i-smaller
-loop-i-smaller c = omega arith
+    let done = stands_on (entry_at s.h.now) s.s.bib l.invariant.5 w.2 in
+    rw c.from_residual.ensures
+    (record { low = omega (arith, w.0); few = omega (arith, w.1); stands = left-own s.d.now s.h.now s.s.r.0 s.s.base s.s.bib s.x.0 _ _ _ c.last-u.ensures.0 n done })
 
 pub loop-i-preserved : goal.loop-i-preserved
 loop-i-preserved c =
     let l = c.loop-i in
     let s = c.args in
-    let w = c.run-w.ensures in (
-      omega arith,
-      w.0,
-      omega arith,
-      omega arith,
-      c.run-w.auto.out ∙ l.invariant.4,
-      stands-going (entry_at s.h.now) s.s.bib c.if-w.false (stands_on (entry_at s.h.now) s.s.bib l.invariant.5 w.4),
-    )
-
-pub shape_of-out : goal.shape_of-out
-shape_of-out c = c.loop-i.invariant.4
+    let goes : c.run.result ≡ Continue c.in_ok-w.w = c.branch-w.ensures ∙ ap control_flow_from_branch c.in_ok-w.is in
+    let w = rw goes at c.run.ensures in
+    (omega (arith, w.1), w.0, omega (arith, w.2), omega (arith, w.3), c.run.auto.out ∙ l.invariant.4, stands_on (entry_at s.h.now) s.s.bib l.invariant.5 w.4)
 
 pub returns : goal.returns
 returns c =

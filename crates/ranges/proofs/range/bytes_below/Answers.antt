@@ -1,28 +1,22 @@
--- `ranges::range::bytes_below` meets its contract: the flag says whether the bytes before `i` are below the limit. Assumes nothing.
-use mathlib.Core.Path.{◌≡◌, ap, refl}
+-- `ranges::range::bytes_below` meets its contract: the flag says whether the bytes so far are below the limit. Assumes nothing.
+use mathlib.Core.Path.{◌≡◌, refl}
 use native.Mathlib.Omega.{arith}
-use lib.Dec.{ltb}
-use borrow.Author.Rules.{rules}
-use borrow.Rule.Slice.PartMut.{mid_of}
+use Rattle.lists.proofs.Replaced.{lent-size}
 use Rattle.cells.specs.Tables.{every}
-use Rattle.cells.specs.Words.{byte}
-use Rattle.cells.proofs.Parts.{mid_byte}
 use Rattle.ranges.proofs.Flags.{every-next}
 use Rattle.ranges.proofs.range.bytes_below.Goals as goal
 
-pub loop-i-init : goal.loop-i-init
+pub loop-b-init : goal.loop-b-init
 unfolding every
-loop-i-init c = (search rules, refl)
+loop-b-init c = refl
 
-pub loop-i-preserved : goal.loop-i-preserved
-loop-i-preserved c =
-    let l = c.loop-i in
-    let a = c.args in
-    let t = mid_of a.at a.n a.d.now in
-    (omega arith, every-next (λ j. ltb (byte t j) a.limit) l.i l.invariant.1 (ap (λ v. ltb v a.limit) (mid_byte a.d.now a.at a.n l.i (omega arith))))
+pub loop-b-preserved : goal.loop-b-preserved
+loop-b-preserved c =
+    let l = c.loop-b in
+    every-next _ l.b-index l.invariant refl
 
 pub returns : goal.returns
 returns c =
-    let l = c.loop-i in
-    let e : l.i ≡ c.args.n = omega arith in
-    rw e at l.invariant.1
+    let l = c.loop-b in
+    let e : l.b-index ≡ c.args.n = omega arith in
+    rw (e, lent-size) at l.invariant

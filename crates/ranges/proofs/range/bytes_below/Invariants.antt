@@ -1,12 +1,7 @@
--- `ranges::range::bytes_below` meets its contract: the flag says whether the bytes before `i` are below the limit. Assumes nothing.
-use Prim.Native.Nat.{◌-◌, ◌≤◌}
+-- `ranges::range::bytes_below` meets its contract: the flag says whether the bytes so far are below the limit. Assumes nothing.
 use mathlib.Core.Path.{◌≡◌}
-use borrow.Rule.Slice.PartMut.{mid_of}
 use Rattle.cells.specs.Range.{bytes_below}
 use Rattle.ranges.proofs.range.bytes_below.Given as goal
 
-abbrev pub invariant-loop-i : goal.invariant-loop-i
-invariant-loop-i l = (l.i ≤ l.n) × (l.ok ≡ bytes_below l.i l.limit (mid_of l.at l.n l.d))
-
-abbrev pub decreases-loop-i : goal.decreases-loop-i
-decreases-loop-i l = l.n - l.i
+abbrev pub invariant-loop-b : goal.invariant-loop-b
+invariant-loop-b l = l.ok ≡ bytes_below l.b-index l.limit l.b-items

@@ -23,7 +23,7 @@ loop-i-preserved c =
     let t = mid_of a.at (2 * a.n) a.d.now in
     let low = mid_byte a.d.now a.at (2 * a.n) (2 * l.i) (omega arith) in
     let high = mid_byte a.d.now a.at (2 * a.n) (2 * l.i + 1) (omega arith) in
-    let v : c.word.result ≡ word t l.i = cc (low, high) in
+    let v : c.from_le_bytes.result ≡ word t l.i = omega (arith, low, high) in
     (omega arith, every-next (λ j. ltb (word t j) a.limit) l.i l.invariant.1 (ap (λ v. ltb v a.limit) v))
 
 pub returns : goal.returns

@@ -1,6 +1,7 @@
 -- `report::lines::line` meets its contract: two numbers and the value, one behind the other. Assumes nothing.
 use Prim.Native.Nat.{ℕ, ◌+◌, ◌<◌, ◌≤◌}
 use mathlib.Core.List.{List, ◌++◌}
+use mathlib.Core.Path.{sym}
 use native.Mathlib.Omega.{arith}
 use lib.ListN.{length}
 use Rattle.text.specs.Decimal.{ended}
@@ -54,20 +55,26 @@ module _ (out : List ℕ) (at index code : ℕ) (state : State) (value : ℕ) (f
 pub number-a-requires : goal.number-a-requires
 number-a-requires c =
     let s = c.args in
-    first_fit s.out.now s.at s.index s.code s.state s.value c.requires.0 (omega arith) (omega arith) c.requires.1
+    rw c.from.ensures (first_fit s.out.now s.at s.index s.code s.state s.value c.requires.0 (omega arith) (omega arith) c.requires.1)
 
 pub number-b-requires : goal.number-b-requires
 number-b-requires c =
     let s = c.args in
-    second_fits s.out.now s.at s.index s.code s.state s.value c.requires.0 (omega arith) (omega arith) c.requires.1 _ _ c.number-a.ensures
+    let few : c.from.result < 10000 = omega (arith, c.from.ensures, c.requires.0) in
+    let byte : c.from-2.result < 256 = omega (arith, c.from-2.ensures) in
+    second_fits s.out.now s.at c.from.result c.from-2.result s.state s.value few byte (omega arith) c.requires.1 _ _ c.number-a.ensures
 
 pub value_text-requires : goal.value_text-requires
 value_text-requires c =
     let s = c.args in
-    third_fits s.out.now s.at s.index s.code s.state s.value c.requires.0 (omega arith) (omega arith) c.requires.1 _ _ c.number-a.ensures _ _ c.number-b.ensures
+    let few : c.from.result < 10000 = omega (arith, c.from.ensures, c.requires.0) in
+    let byte : c.from-2.result < 256 = omega (arith, c.from-2.ensures) in
+    third_fits s.out.now s.at c.from.result c.from-2.result s.state s.value few byte (omega arith) c.requires.1 _ _ c.number-a.ensures _ _ c.number-b.ensures
 
 pub returns : goal.returns
 returns c =
     let s = c.args in
-    let all = all_put s.out.now s.at s.index s.code s.state s.value c.requires.0 (omega arith) (omega arith) c.requires.1 _ _ c.number-a.ensures _ _ c.number-b.ensures _ _ c.value_text.ensures in
-    (all.0, all.1.0, all.1.1)
+    let few : c.from.result < 10000 = omega (arith, c.from.ensures, c.requires.0) in
+    let byte : c.from-2.result < 256 = omega (arith, c.from-2.ensures) in
+    let all = all_put s.out.now s.at c.from.result c.from-2.result s.state s.value few byte (omega arith) c.requires.1 _ _ c.number-a.ensures _ _ c.number-b.ensures _ _ c.value_text.ensures in
+    rw (sym c.from.ensures, sym c.from-2.ensures) (all.0, all.1.0, all.1.1)

@@ -8,7 +8,7 @@ use Rattle.text.specs.Placed.{placed}
 use Rattle.text.proofs.Places.{Put, placed-none, both-put}
 use Rattle.report.proofs.Grown.{table_none, lines_none, table_more, lines_more}
 use Rattle.dayfile.specs.Record.{step_at}
-use Rattle.table.specs.Answers.{left_read}
+use Rattle.table.specs.Told.{code_told, reading_told, left_read}
 use Rattle.report.specs.Run.{out_at, step_out}
 use Rattle.report.specs.Printed.{line as line_of, lines as lines_of}
 use Rattle.report.proofs.lines.lines.Goals as goal
@@ -19,17 +19,16 @@ loop-i-init c =
     let t = c.args.t.now in
     let f = c.args.f.now in
     let none = lines_none t f in
-    (omega arith, omega arith, refl, refl, sym (table_none t f), rw none (omega arith), rw none (sym (placed-none s.out.now s.at)), refl)
+    (omega arith, refl, refl, sym (table_none t f), rw none (omega arith), rw none (sym (placed-none s.out.now s.at)), refl)
 
-pub run-a-requires : goal.run-a-requires
-run-a-requires c =
-    c.loop-i.invariant.7 ∙ c.requires.2
+pub run-requires : goal.run-requires
+run-requires c =
+    c.loop-i.invariant.6 ∙ c.requires.2
 
-pub line-end-requires : goal.line-end-requires
-line-end-requires c =
-    let turn = c.loop-i-test.true in
+pub answer_line-end-requires : goal.answer_line-end-requires
+answer_line-end-requires c =
     let inv = c.loop-i.invariant in
-    (omega (arith, c.requires.0, turn), omega (arith, c.requires.1, inv.1, inv.3, turn))
+    (omega (arith, c.requires.0), omega (arith, c.requires.1, inv.0, inv.2))
 
 pub loop-i-preserved : goal.loop-i-preserved
 loop-i-preserved c =
@@ -38,25 +37,24 @@ loop-i-preserved c =
     let out = c.args.out.now in
     let at = c.args.at in
     let l = c.loop-i in
-    let ran = c.run-a in
-    let put = c.line-end in
-    let turn = c.loop-i-test.true in
+    let ran = c.run in
+    let put = c.answer_line-end in
     let made : left_read ran.result ran.new.t ≡ out_at t f l.i =
-    ran.ensures ∙ ap (step_out l.t) c.step_at.ensures ∙ ap (λ b. step_out b (step_at f l.i)) l.invariant.4 in
+    ran.ensures ∙ ap (step_out l.t) c.step_at.ensures ∙ ap (λ b. step_out b (step_at f l.i)) l.invariant.3 in
     let done = lines_of t f l.i in
-    let line = line_of l.i ran.result.code ran.result.state ran.result.value in
+    let a = ran.result in
+    let line = line_of l.i (code_told a) (reading_told a).state (reading_told a).value in
     let grown = lines_more t f l.i ran.result ran.new.t made in
-    let fits : at + length (done ++ line) ≤ length out = omega (arith, length-append done line, put.ensures.0, put.ensures.1, l.invariant.1, l.invariant.5, c.requires.1, turn) in
-    let both = both-put out done line at fits l.out l.end (l.invariant.5, l.invariant.6) put.result put.new.out (put.ensures.1, put.ensures.2) in
+    let fits : at + length (done ++ line) ≤ length out = omega (arith, length-append done line, put.ensures.0, put.ensures.1, l.invariant.0, l.invariant.4, c.requires.1) in
+    let both = both-put out done line at fits l.out l.end (l.invariant.4, l.invariant.5) put.result put.new.out (put.ensures.1, put.ensures.2) in
     let both' = subst (λ x. Put out at x put.result put.new.out) grown both in (
-      omega (arith, turn),
-      omega (arith, put.ensures.0, l.invariant.1),
-      omega (arith, ran.auto.t, l.invariant.2),
-      omega (arith, put.auto.out, l.invariant.3),
+      omega (arith, put.ensures.0, l.invariant.0),
+      omega (arith, ran.auto.t, l.invariant.1),
+      omega (arith, put.auto.out, l.invariant.2),
       table_more t f l.i ran.result ran.new.t made,
       both'.0,
       both'.1,
-      ran.auto.board ∙ l.invariant.7,
+      ran.auto.board ∙ l.invariant.6,
     )
 
 pub returns : goal.returns
@@ -65,4 +63,4 @@ returns c =
     let l = c.loop-i in
     let e : l.i ≡ s.n = omega arith in
     let text = lines_of s.t.now s.f.now in
-    subst (λ n. (l.end ≤ s.at + 20 * n) × (l.end ≡ s.at + length (text n)) × (l.out ≡ placed s.out.now s.at (text n))) e (l.invariant.1, l.invariant.5, l.invariant.6)
+    subst (λ n. (l.end ≤ s.at + 20 * n) × (l.end ≡ s.at + length (text n)) × (l.out ≡ placed s.out.now s.at (text n))) e (l.invariant.0, l.invariant.4, l.invariant.5)

@@ -25,11 +25,13 @@ head_fits : (out : List ℕ) (n : ℕ) → n ≤ 5460 → room ≤ length out �
 head_fits out n h r = omega (arith, length-append (ascii "steps ") (ended n line_feed), short n h)
 
 pub number-b-requires : goal.number-b-requires
-number-b-requires c = omega (arith, c.put-a.ensures.0, c.put-a.auto.out, short c.args.n c.requires.0, c.requires.1)
+number-b-requires c = rw c.from.ensures (omega (arith, c.put-a.ensures.0, c.put-a.auto.out, short c.args.n c.requires.0, c.requires.1))
 
 pub lines-requires : goal.lines-requires
 lines-requires c =
-    (c.requires.0, omega (arith, c.number-b.ensures.0, c.put-a.ensures.0, c.number-b.auto.out, c.put-a.auto.out, short c.args.n c.requires.0), search rules)
+    let b = c.number-b.ensures.0 in
+    let e = rw c.from.ensures at b in
+    (c.requires.0, omega (arith, e, c.put-a.ensures.0, c.number-b.auto.out, c.put-a.auto.out, short c.args.n c.requires.0), search rules)
 
 pub returns : goal.returns
 unfolding day
@@ -40,8 +42,10 @@ returns c =
     let body = lines fresh_table f n in
     let end = c.lines.new.out in
     let fresh : c.fresh.new.t ≡ fresh_table = ap (λ (o : Out). o.lent) c.fresh.ensures.0 ∙ fresh-table c.large_buffer-t.result _ (sym c.large_buffer-t.ensures) (search rules) in
+    let number = c.number-b.ensures in
+    let told = rw c.from.ensures at number in
     let two = both-put out (ascii "steps ") (ended n line_feed) 0 (head_fits out n c.requires.0 c.requires.1) c.put-a.new.out c.put-a.result c.put-a.ensures
-    c.number-b.result c.number-b.new.out c.number-b.ensures in
+    c.number-b.result c.number-b.new.out told in
     let put : Put c.number-b.new.out c.number-b.result body c.lines.result end =
     subst (λ t. Put c.number-b.new.out c.number-b.result (lines t f n) c.lines.result end) fresh (c.lines.ensures.1, c.lines.ensures.2) in
     let fits : 0 + length (head n ++ body) ≤ length out =

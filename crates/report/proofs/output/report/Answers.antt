@@ -24,10 +24,10 @@ returns-in_default c =
 pub put_day-requires : goal.put_day-requires
 put_day-requires c =
     let s = c.args in
-    (count-bound s.f.now c.in-Good.n (sym c.check_file.ensures ∙ c.in-Good.is), c.if-out-lt-BYTES.false)
+    (count-bound s.f.now c.in-Some.n (sym c.check_file.ensures ∙ c.in-Some.is), c.if-out-lt-BYTES.false)
 
 pub returns : goal.returns
 returns c =
     let s = c.args in
-    let e = sym (shown-good s.f.now s.out.now c.if-out-lt-BYTES.false c.in-Good.n (sym c.check_file.ensures ∙ c.in-Good.is)) in
+    let e = sym (shown-good s.f.now s.out.now c.if-out-lt-BYTES.false c.in-Some.n (sym c.check_file.ensures ∙ c.in-Some.is)) in
     (c.put_day.ensures.0 ∙ ap (length {A = ℕ}) e, c.put_day.ensures.1 ∙ ap (placed s.out.now 0) e)

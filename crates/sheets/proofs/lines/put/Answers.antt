@@ -10,4 +10,4 @@ pub returns : goal.returns
 unfolding line
 returns c =
     let s = c.args in
-    lent-replaced s.s.now _ (line (entry_at s.t.now s.n) s.n) (12 * s.i) 12 (c.write.ensures ∙ rw (c.number.ensures, c.read-e.ensures))
+    lent-replaced s.s.now _ (line (entry_at s.t.now s.n) s.n) (12 * s.i) 12 (c.write.ensures ∙ rw (c.from.ensures, c.read-e.ensures, c.from-2.ensures))

@@ -6,7 +6,7 @@ use borrow.Rule.Slice.PartMut.{mid_of}
 use Rattle.lists.specs.Lists.{rest_of}
 use Rattle.cells.specs.Parts.{offset, queue_part, size}
 use Rattle.cells.proofs.Parts.{part-lent}
-use Rattle.places.proofs.PlaceLoops.{first_closed}
+use Rattle.places.proofs.Moved.{first_closed}
 use Rattle.stores.proofs.write.unqueued.Goals as goal
 
 pub returns : goal.returns

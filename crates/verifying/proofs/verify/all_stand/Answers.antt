@@ -27,12 +27,6 @@ returns-then-not-stands c =
     let k = cells_of s.t.now in
     one_found revisions (is_out k) (order k) (place_at s.places.now) c.loop-n.n _ c.stands.ensures (omega arith) c.if-not-stands.true
 
-pub overflow_add-n : goal.overflow_add-n
-overflow_add-n c = omega arith
-
-pub loop-n-smaller : goal.loop-n-smaller
-loop-n-smaller c = omega arith
-
 pub loop-n-preserved : goal.loop-n-preserved
 loop-n-preserved c =
     let s = c.args in

@@ -1,5 +1,5 @@
 -- `verifying::verify::all_stand` meets its contract: no number passed is out of order. Assumes nothing.
-use Prim.Native.Nat.{◌≤◌, ◌-◌}
+use Prim.Native.Nat.{◌≤◌}
 use mathlib.Core.Bool.{false}
 use mathlib.Core.Path.{◌≡◌}
 use lib.ListN.{length}
@@ -14,6 +14,3 @@ use Rattle.verifying.proofs.verify.all_stand.Given as goal
 
 abbrev pub invariant-loop-n : goal.invariant-loop-n
 invariant-loop-n l = (l.n ≤ revisions) × (length l.list ≡ updates) × (any_below l.n (wrong (is_out (cells_of l.t)) (order (cells_of l.t)) (place_at l.places)) ≡ false)
-
-abbrev pub decreases-loop-n : goal.decreases-loop-n
-decreases-loop-n l = revisions - l.n

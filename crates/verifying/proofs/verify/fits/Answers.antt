@@ -13,7 +13,3 @@ returns-then-count-taken c =
     let s = c.args in
     let k = cells_of s.t.now in
     another_count _ revisions (is_out k) (order k) (numbers_of s.numbers.now) (λ e. c.if-count-taken.true (c.count.ensures ∙ e ∙ sym c.taken-taken.ensures.0))
-
-pub fits_as_many-requires : goal.fits_as_many-requires
-fits_as_many-requires c =
-    (c.requires.0, c.requires.1, sym c.count.ensures ∙ c.if-count-taken.false, c.taken-taken.ensures.0)

@@ -5,7 +5,7 @@ use Rattle.verifying.proofs.Calls.{no_verify}
 use Rattle.verifying.proofs.verify.verify.Goals as goal
 
 pub returns-in_default : goal.returns-in_default
-returns-in_default c = c.answer.ensures ∙ no_verify _ (no_table _ (sym c.check_table.ensures ∙ c.in_default.is)) _
+returns-in_default c = no_verify _ (no_table _ (sym c.check_table.ensures ∙ c.in_default.is)) _
 
 pub verify_sound-requires : goal.verify_sound-requires
 verify_sound-requires c = is-table _ (sym c.check_table.ensures ∙ c.in-Sound.is)

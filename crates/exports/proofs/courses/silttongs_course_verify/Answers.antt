@@ -1,8 +1,0 @@
--- `exports::courses::silttongs_course_verify` meets its contract: it returns the answer of the call on four tables. Assumes nothing.
-use mathlib.Core.Path.{◌∙◌, ap}
-use Rattle.packing.specs.Packed.{packed_reply}
-use Rattle.exports.proofs.courses.silttongs_course_verify.Goals as goal
-
-pub returns : goal.returns
-returns c =
-    c.pack_reply.ensures ∙ ap packed_reply c.looks.ensures

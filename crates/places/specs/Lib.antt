@@ -1,2 +1,0 @@
--- The layout of the places: words of the code.
-pub mod Place

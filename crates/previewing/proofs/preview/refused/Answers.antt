@@ -1,6 +1,0 @@
--- `previewing::preview::refused` meets its contract: it is made so. Assumes nothing.
-use mathlib.Core.Path.{refl}
-use Rattle.previewing.proofs.preview.refused.Goals as goal
-
-pub returns : goal.returns
-returns c = refl

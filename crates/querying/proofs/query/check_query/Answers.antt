@@ -1,8 +1,0 @@
--- `querying::query::check_query` meets its contract: the lower half is lent to the checks. Assumes nothing.
-use borrow.Author.Rules.{rules}
-use Rattle.table.specs.Halves.{low}
-use Rattle.querying.proofs.query.check_query.Goals as goal
-
-pub returns : goal.returns
-unfolding low
-returns c = search rules
