@@ -1,2 +1,3 @@
--- Laws of a number and its bytes.
+-- Laws of a number and its bytes, and of bytes copied.
 pub mod Widths
+pub mod Copied

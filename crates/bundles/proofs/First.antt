@@ -14,7 +14,7 @@ use Rattle.bundles.specs.declared.entry.Entry.{Entry}
 use Rattle.bundles.specs.Records.{entries_from, entries_in, entry_at, is_wrong}
 use Rattle.bundles.specs.Packed.{held, rows}
 
-some_of : (b : List ℕ) (n : ℕ) → (n ≡ 0 → ⊥) → (es : List Entry) × (entries_from b 0 n ≡ entry_at b 0 ∷ es)
+pub some_of : (b : List ℕ) (n : ℕ) → (n ≡ 0 → ⊥) → (es : List Entry) × (entries_from b 0 n ≡ entry_at b 0 ∷ es)
 unfolding entries_from
 some_of b zero h = absurd (h refl)
 some_of b (suc n) h = (entries_from b 1 n, refl)
@@ -38,7 +38,7 @@ pub rows-entries : (b : List ℕ) → held (rows b) ≡ entries_in b
 unfolding entries_in
 rows-entries b = from_rows (length b / 12) 0 b
 
-so_many : (k : ℕ) (b : List ℕ) → length (first_chunks 12 k b) ≡ k
+pub so_many : (k : ℕ) (b : List ℕ) → length (first_chunks 12 k b) ≡ k
 so_many zero b = refl
 so_many (suc k) b = ap suc (so_many k (drop 12 b))
 

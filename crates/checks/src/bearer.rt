@@ -17,7 +17,7 @@ fn bears(d: &[u8], name: &[u8], r: Revision) -> bool
     requires { (length d.now ≡ lower_bytes) × (r.0 < revisions) }
     ensures { result ≡ bears (cells d.now) name.now r.0 }
 {
-    read::state(d, r) == Table::STATE_MARKED && read::is_named(d, r, name)
+    (read::state(d, r) == Table::STATE_MARKED) & read::is_named(d, r, name)
 }
 
 // Names are sought from the highest number down to 1: the main revision is no mark.

@@ -43,8 +43,8 @@ pub fn check_name(d: &[u8], name: &[u8]) -> NameCheck
     if !is_four_letters(name) {
         return NameCheck::Bad;
     }
-    if check_bearer(d, name).is_some() {
+    let None = check_bearer(d, name) else {
         return NameCheck::Bad;
-    }
+    };
     NameCheck::Fit
 }

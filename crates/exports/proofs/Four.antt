@@ -1,9 +1,7 @@
 -- An export of a call on four tables gives back what the call answers and leaves.
 use Prim.Native.Nat.{ℕ}
 use mathlib.Core.List.{List, []}
-use mathlib.Core.Path.{◌≡◌, ◌∙◌, ap, subst}
-use lib.ListN.{length}
-use Rattle.std.proofs.lemmas.List.{nil_from_length}
+use mathlib.Core.Path.{◌≡◌, ◌∙◌, ap}
 use Rattle.desk.specs.Calls.{Answer}
 use Rattle.card.specs.Courses.{Ask, Tables}
 use Rattle.federation.specs.Out.{FourOut, course_out, four_left}
@@ -17,12 +15,6 @@ pub gives-four : (ts : Tables) (i : ℕ) (ask : Ask) {r : ℕ} {a : Reply} {t0 t
 unfolding course_exported
 gives-four ts i ask {t0 = t0} {t1} {t2} {t3} {board} p q =
     ap (λ n. four_returned n t0 t1 t2 t3 board) p ∙ ap (λ (o : FourOut). record { result = packed_reply o.reply; tables = o.tables; board = o.board }) q
-
--- of a call that takes no board, and that was lent an empty one
-pub gives-four_none : (ts : Tables) (i : ℕ) (ask : Ask) {r : ℕ} {a : Reply} {t0 t1 t2 t3 board : List ℕ}
-    → r ≡ packed_reply (replied a []) → length board ≡ 0 → four_left a [] t0 t1 t2 t3 board ≡ course_out ts i ask → four_returned r t0 t1 t2 t3 [] ≡ course_exported ts i ask
-gives-four_none ts i ask {a = a} {t0} {t1} {t2} {t3} {board} p l q =
-    gives-four ts i ask p (subst (λ b. four_left a [] t0 t1 t2 t3 b ≡ course_out ts i ask) (nil_from_length board l) q)
 
 pub gives-sheet : {r : ℕ} {a : Reply} {sheet : List ℕ} {q : Answer (List ℕ)} → r ≡ packed_reply (replied a []) → replied a sheet ≡ q → returned r sheet ≡ exported_reply q
 unfolding packed_reply exported_reply

@@ -6,10 +6,7 @@ ghost use Rattle.desk.specs.Calls.{Bill, Bundle, Drop, Fill, Fork, Join, Looks, 
 ghost use Rattle.packing.specs.Packed.{packed_reply, returned};
 ghost use Rattle.exports.specs.Four.{course_exported, exported_reply, four_returned};
 
-use beside::reply::Reply;
 use federation::fresh::fresh;
-use federation::looks::looks;
-use federation::on_table::on_table;
 use packing::pack::pack_reply;
 
 #[unsafe(no_mangle)]
@@ -42,9 +39,7 @@ pub extern "C" fn silttongs_course_update(
 ) -> u64
     ensures { four_returned result t0.new t1.new t2.new t3.new [] ≡ course_exported (four t0.old t1.old t2.old t3.old) course (Plain (Update client revision kind bib v)) }
 {
-    pack_reply(on_table(t0, t1, t2, t3, course, &mut [], move |t, most, _| {
-        Reply::from(updating::update::update_within(t, most, client, revision, kind, bib, v))
-    }))
+    pack_reply(federation::writing::update(t0, t1, t2, t3, course, client, revision, kind, bib, v))
 }
 
 #[unsafe(no_mangle)]
@@ -61,9 +56,9 @@ pub extern "C" fn silttongs_course_bundle(
 ) -> u64
     ensures { four_returned result t0.new t1.new t2.new t3.new board.new ≡ course_exported (four t0.old t1.old t2.old t3.old) course (Plain (Bundle client revision (Records records.now) board.old)) }
 {
-    pack_reply(on_table(t0, t1, t2, t3, course, board, move |t, most, board| {
-        Reply::from(announcing::bundle::bundle_within(t, board, most, client, revision, records))
-    }))
+    pack_reply(federation::writing::bundle(
+        t0, t1, t2, t3, course, board, client, revision, records,
+    ))
 }
 
 #[unsafe(no_mangle)]
@@ -79,9 +74,7 @@ pub extern "C" fn silttongs_course_query(
 ) -> u64
     ensures { four_returned result t0.new t1.new t2.new t3.new [] ≡ course_exported (four t0.old t1.old t2.old t3.old) course (Plain (Query client revision bib)) }
 {
-    pack_reply(on_table(t0, t1, t2, t3, course, &mut [], move |t, _, _| {
-        Reply::from(querying::query::query(t, client, revision, bib))
-    }))
+    pack_reply(federation::writing::query(t0, t1, t2, t3, course, client, revision, bib))
 }
 
 #[unsafe(no_mangle)]
@@ -96,9 +89,7 @@ pub extern "C" fn silttongs_course_yield(
 ) -> u64
     ensures { four_returned result t0.new t1.new t2.new t3.new board.new ≡ course_exported (four t0.old t1.old t2.old t3.old) course (Plain (Yield client board.old)) }
 {
-    pack_reply(on_table(t0, t1, t2, t3, course, board, move |t, _, board| {
-        Reply::from(announcing::yields::yields(t, board, client))
-    }))
+    pack_reply(federation::writing::yields(t0, t1, t2, t3, course, board, client))
 }
 
 #[unsafe(no_mangle)]
@@ -112,9 +103,7 @@ pub extern "C" fn silttongs_course_fork(
 ) -> u64
     ensures { four_returned result t0.new t1.new t2.new t3.new [] ≡ course_exported (four t0.old t1.old t2.old t3.old) course (Plain (Fork revision)) }
 {
-    pack_reply(on_table(t0, t1, t2, t3, course, &mut [], move |t, _, _| {
-        Reply::from(forking::fork::fork(t, revision))
-    }))
+    pack_reply(federation::writing::fork(t0, t1, t2, t3, course, revision))
 }
 
 #[unsafe(no_mangle)]
@@ -130,9 +119,7 @@ pub extern "C" fn silttongs_course_join(
 ) -> u64
     ensures { four_returned result t0.new t1.new t2.new t3.new board.new ≡ course_exported (four t0.old t1.old t2.old t3.old) course (Plain (Join joiner joinee board.old)) }
 {
-    pack_reply(on_table(t0, t1, t2, t3, course, board, move |t, _, board| {
-        Reply::from(announcing::join::join(t, board, joiner, joinee))
-    }))
+    pack_reply(federation::writing::join(t0, t1, t2, t3, course, board, joiner, joinee))
 }
 
 #[unsafe(no_mangle)]
@@ -147,9 +134,7 @@ pub extern "C" fn silttongs_course_sync(
 ) -> u64
     ensures { four_returned result t0.new t1.new t2.new t3.new board.new ≡ course_exported (four t0.old t1.old t2.old t3.old) course (Plain (Sync joinee board.old)) }
 {
-    pack_reply(on_table(t0, t1, t2, t3, course, board, move |t, _, board| {
-        Reply::from(announcing::sync::sync(t, board, joinee))
-    }))
+    pack_reply(federation::writing::sync(t0, t1, t2, t3, course, board, joinee))
 }
 
 #[unsafe(no_mangle)]
@@ -164,9 +149,7 @@ pub extern "C" fn silttongs_course_mark(
 ) -> u64
     ensures { four_returned result t0.new t1.new t2.new t3.new [] ≡ course_exported (four t0.old t1.old t2.old t3.old) course (Plain (Mark revision name.now)) }
 {
-    pack_reply(on_table(t0, t1, t2, t3, course, &mut [], move |t, _, _| {
-        Reply::from(marking::mark::mark(t, revision, name))
-    }))
+    pack_reply(federation::writing::mark(t0, t1, t2, t3, course, revision, name))
 }
 
 #[unsafe(no_mangle)]
@@ -180,9 +163,7 @@ pub extern "C" fn silttongs_course_drop(
 ) -> u64
     ensures { four_returned result t0.new t1.new t2.new t3.new [] ≡ course_exported (four t0.old t1.old t2.old t3.old) course (Plain (Drop name.now)) }
 {
-    pack_reply(on_table(t0, t1, t2, t3, course, &mut [], move |t, _, _| {
-        Reply::from(marking::drop::drop(t, name))
-    }))
+    pack_reply(federation::writing::drop(t0, t1, t2, t3, course, name))
 }
 
 #[unsafe(no_mangle)]
@@ -197,9 +178,7 @@ pub extern "C" fn silttongs_course_list(
 ) -> u64
     ensures { returned result sheet.new ≡ exported_reply (course_served (four t0.now t1.now t2.now t3.now) course (Plain (Looks (Show revision sheet.old)))).reply }
 {
-    pack_reply(looks(t0, t1, t2, t3, course, sheet, move |t, sheet| {
-        Reply::from(listing::list::list(t, revision, sheet))
-    }))
+    pack_reply(federation::looking::list(t0, t1, t2, t3, course, revision, sheet))
 }
 
 #[unsafe(no_mangle)]
@@ -213,9 +192,7 @@ pub extern "C" fn silttongs_course_fill(
 ) -> u64
     ensures { result ≡ packed_reply (course_served (four t0.now t1.now t2.now t3.now) course (Plain (Looks (Fill revision)))).reply }
 {
-    pack_reply(looks(t0, t1, t2, t3, course, &mut [], move |t, _| {
-        Reply::from(listing::fill::fill(t, revision))
-    }))
+    pack_reply(federation::looking::fill(t0, t1, t2, t3, course, revision))
 }
 
 #[unsafe(no_mangle)]
@@ -231,9 +208,7 @@ pub extern "C" fn silttongs_course_preview(
 ) -> u64
     ensures { result ≡ packed_reply (course_served (four t0.now t1.now t2.now t3.now) course (Plain (Looks (Preview joiner joinee bib)))).reply }
 {
-    pack_reply(looks(t0, t1, t2, t3, course, &mut [], move |t, _| {
-        Reply::from(previewing::preview::preview(t, joiner, joinee, bib))
-    }))
+    pack_reply(federation::looking::preview(t0, t1, t2, t3, course, joiner, joinee, bib))
 }
 
 #[unsafe(no_mangle)]
@@ -247,9 +222,7 @@ pub extern "C" fn silttongs_course_verify(
 ) -> u64
     ensures { result ≡ packed_reply (course_served (four t0.now t1.now t2.now t3.now) course (Plain (Looks (Verify order.now)))).reply }
 {
-    pack_reply(looks(t0, t1, t2, t3, course, &mut [], move |t, _| {
-        Reply::from(verifying::verify::verify(t, order))
-    }))
+    pack_reply(federation::looking::verify(t0, t1, t2, t3, course, order))
 }
 
 #[unsafe(no_mangle)]
@@ -263,7 +236,5 @@ pub extern "C" fn silttongs_course_bill(
 ) -> u64
     ensures { result ≡ packed_reply (course_served (four t0.now t1.now t2.now t3.now) course (Plain (Looks (Bill (not (eqb member 0)))))).reply }
 {
-    pack_reply(looks(t0, t1, t2, t3, course, &mut [], move |t, _| {
-        Reply::from(billing::bill::bill(t, member != 0))
-    }))
+    pack_reply(federation::looking::bill(t0, t1, t2, t3, course, member != 0))
 }

@@ -2,7 +2,7 @@
 use std::fmt;
 use table::refusal::Refusal;
 
-#[derive(Debug, Default, Drop)]
+#[derive(Clone, Copy, Debug, Default)]
 pub struct Tally {
     sum: u64,
     forks: u32,

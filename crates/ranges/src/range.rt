@@ -48,7 +48,12 @@ fn is_signed(d: &[u8]) -> bool
     requires { length d.now ≡ lower_bytes }
     ensures { result ≡ signed (split d.now signature_part) }
 {
-    &d[SIGNATURE..SIGNATURE + 8] == Table::signature().as_slice()
+    let s = Table::signature();
+    let mut ok = true;
+    for i in 0..8 {
+        ok &= d[SIGNATURE + i] == s[i];
+    }
+    ok
 }
 
 // Updates taken 0 to 4,096, revisions out 1 to 64, numbers given out 1 to 64.

@@ -1,7 +1,7 @@
 -- `exports::courses::silttongs_course_fork` meets its contract: it returns the answer of the call on four tables. Assumes nothing.
-use Rattle.exports.proofs.Four.{gives-four_none}
+use Rattle.exports.proofs.Four.{gives-four}
 use Rattle.exports.proofs.courses.silttongs_course_fork.Goals as goal
 
 pub returns : goal.returns
 returns c =
-    gives-four_none _ _ _ c.pack_reply.ensures c.on_table.auto.board c.on_table.ensures
+    gives-four _ _ _ c.pack_reply.ensures c.fork.ensures

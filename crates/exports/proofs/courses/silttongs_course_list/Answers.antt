@@ -4,4 +4,4 @@ use Rattle.exports.proofs.courses.silttongs_course_list.Goals as goal
 
 pub returns : goal.returns
 returns c =
-    gives-sheet c.pack_reply.ensures c.looks.ensures
+    gives-sheet c.pack_reply.ensures c.list.ensures

@@ -4,4 +4,4 @@ use Rattle.exports.proofs.courses.silttongs_course_yield.Goals as goal
 
 pub returns : goal.returns
 returns c =
-    gives-four _ _ _ c.pack_reply.ensures c.on_table.ensures
+    gives-four _ _ _ c.pack_reply.ensures c.yields.ensures

@@ -1,6 +1,0 @@
--- The call that `exports::courses::silttongs_course_join` passes on. Assumes nothing.
-use Rattle.desk.specs.Calls.{Join}
-use Rattle.exports.proofs.courses.silttongs_course_join.Given as goal
-
-abbrev pub ghost-on_table : goal.ghost-on_table
-ghost-on_table a = Join a.step.0 a.step.1 a.board.now

@@ -1,6 +1,0 @@
--- The call that `exports::courses::silttongs_course_mark` passes on. Assumes nothing.
-use Rattle.desk.specs.Calls.{Mark}
-use Rattle.exports.proofs.courses.silttongs_course_mark.Given as goal
-
-abbrev pub ghost-on_table : goal.ghost-on_table
-ghost-on_table a = Mark a.step.0 a.step.1.now

@@ -1,6 +1,0 @@
--- The look that `exports::courses::silttongs_course_preview` passes on. Assumes nothing.
-use Rattle.desk.specs.Calls.{Preview}
-use Rattle.exports.proofs.courses.silttongs_course_preview.Given as goal
-
-abbrev pub ghost-looks : goal.ghost-looks
-ghost-looks a = Preview a.step.0 a.step.1 a.step.2
